@@ -1,0 +1,21 @@
+-- Laws of the definitions, by subject. A reader of the paper need not believe them: they are proved.
+pub mod Words
+pub mod Trips
+pub mod Vehicle
+pub mod Integers
+pub mod Range
+pub mod Power
+pub mod Sizes
+pub mod Strongest
+pub mod Choice
+pub mod Held
+pub mod Limits
+pub mod Checks
+pub mod Cards
+pub mod Want
+pub mod Edits
+pub mod Quick
+pub mod Span
+pub mod Reading
+pub mod Groups
+pub mod Refusals

@@ -1,0 +1,157 @@
+-- Checks in a row: what it says that none refuses, and when the checks of a window find what those of the whole find.
+-- Assumes nothing.
+use Prim.Native.Nat.{ℕ, zero, suc, _+_, _-_, _≤_, _<_}
+use native.Mathlib.Nat.{sub-zero, not-suc-le-zero, le-of-suc-le-suc}
+use native.Mathlib.Omega.{arith}
+use mathlib.Core.Path.{_≡_, refl, sym, _∙_}
+use mathlib.Core.Logic.{_⊎_, inl, inr}
+use mathlib.Core.Bool.{Bool, true, false}
+use mathlib.Core.Option.{Option, none, some}
+use mathlib.Core.List.{List, [], _∷_, _++_}
+use lib.Dec.{lit<}
+use borrow.Author.Tests.{lt-ltb, le-ltb, eqb-true, not-false}
+use lib.ListN.{length, getD}
+use Rattle.rules.specs.declared.Vehicle.{Vehicle}
+use Rattle.rules.specs.Words.{if_then_else_, _and_, _or_, first}
+use Rattle.rules.specs.Refusals.{Fault, refuse-at, _orelse_, when, trace-fault, room-fault, vehicle-fault, Check, speed, step, ends, over-ng, at-rest, over-rev, no-gear, check-number, checks, bad, fault-of, span-fault}
+use Rattle.rules.specs.Units.{bad-field, longest}
+use Rattle.rules.specs.Laws.Vehicle.{InBounds, in-bounds, within-lo, within-hi}
+use Rattle.rules.specs.Laws.Words.{by-test, by-eq, and-left, and-right, none-first, first-ext, first-window}
+
+-- ---- a row of checks
+
+-- where neither of two refuses
+pub orelse-none : (a b : Option Fault) → a orelse b ≡ none → (a ≡ none) × (b ≡ none)
+unfolding _orelse_
+orelse-none none b e = (refl, e)
+orelse-none (some f) b e = let z : _≡_ {A = ℕ} 0 1 = cc in absurd (omega arith)
+
+pub none-orelse : (a b : Option Fault) → a ≡ none → a orelse b ≡ b
+unfolding _orelse_
+none-orelse none b e = refl
+none-orelse (some f) b e = let z : _≡_ {A = ℕ} 0 1 = cc in absurd (omega arith)
+
+pub refuse-none : (n : ℕ) (o : Option ℕ) → refuse-at n o ≡ none → o ≡ none
+unfolding refuse-at
+refuse-none n none e = refl
+refuse-none n (some i) e = let z : _≡_ {A = ℕ} 0 1 = cc in absurd (omega arith)
+
+pub none-refuse : (n : ℕ) (o : Option ℕ) → o ≡ none → refuse-at n o ≡ none
+unfolding refuse-at
+none-refuse n none e = refl
+none-refuse n (some i) e = let z : _≡_ {A = ℕ} 0 1 = cc in absurd (omega arith)
+
+-- where a test does not refuse, it fails
+pub when-none : (n : ℕ) (t : Bool) (i : ℕ) → refuse-at n (when t i) ≡ none → t ≡ false
+unfolding when
+when-none n t i e = by-test t (λ x. let y : when t i ≡ none = refuse-none n (when t i) e in let z : _≡_ {A = Option ℕ} (some i) none = rw x at y in let w : _≡_ {A = ℕ} 0 1 = cc in absurd (omega arith)) (λ x. x)
+
+pub none-when : (n : ℕ) (t : Bool) (i : ℕ) → t ≡ false → refuse-at n (when t i) ≡ none
+unfolding when refuse-at
+none-when n t i e = rw e
+
+pub orelse-nothing : (a : Option Fault) → a orelse none ≡ a
+unfolding _orelse_
+orelse-nothing none = refl
+orelse-nothing (some f) = refl
+
+pub orelse-assoc : (a b c : Option Fault) → (a orelse b) orelse c ≡ a orelse (b orelse c)
+unfolding _orelse_
+orelse-assoc none b c = refl
+orelse-assoc (some f) b c = refl
+
+-- the checks of two lists, one after the other
+pub fault-append : (car : Vehicle) (vs hs : List ℕ) (lo hi : ℕ) (cs ds : List Check)
+    → fault-of car vs hs lo hi (cs ++ ds) ≡ fault-of car vs hs lo hi cs orelse fault-of car vs hs lo hi ds
+unfolding fault-of
+fault-append car vs hs lo hi [] ds = sym (none-orelse none (fault-of car vs hs lo hi ds) refl)
+fault-append car vs hs lo hi (c ∷ cs) ds = rw (fault-append car vs hs lo hi cs ds) (sym (orelse-assoc _ _ _))
+
+-- where the trace and the rooms are not refused
+pub trace-in : (vs : List ℕ) → trace-fault vs ≡ none → (1 ≤ length vs) × (length vs ≤ longest)
+unfolding trace-fault
+trace-in vs e = let t = not-false _ (when-none 1 _ 0 e) in (within-lo 1 longest (length vs) t, within-hi 1 longest (length vs) t)
+
+pub rooms-in : (vs hs old : List ℕ) → room-fault vs hs old ≡ none → (length hs ≡ length vs) × (length old ≡ length vs)
+unfolding room-fault
+rooms-in vs hs old e = let t = not-false _ (when-none 2 _ 0 e) in (eqb-true _ _ (and-left _ _ t), eqb-true _ _ (and-right _ _ t))
+
+-- where the vehicle is not refused, it is in bounds
+pub vehicle-in : (car : Vehicle) → vehicle-fault car ≡ none → InBounds car
+unfolding vehicle-fault
+vehicle-in car e = in-bounds car (refuse-none 3 (bad-field car) e)
+
+-- ---- where a span passes, each check passes at each of its seconds
+
+module _ (car : Vehicle) (vs hs : List ℕ) (lo hi : ℕ) where
+  none-at : (cs : List Check) → fault-of car vs hs lo hi cs ≡ none → (k : ℕ) → k < length cs → first (bad (getD cs k speed) car vs hs lo) lo (hi - lo) ≡ none
+  unfolding fault-of
+  none-at [] e k h = absurd (not-suc-le-zero h)
+  none-at (c ∷ cs) e zero h = refuse-none _ _ (orelse-none _ _ e .0)
+  none-at (c ∷ cs) e (suc k) h = none-at cs (orelse-none _ _ e .1) k (le-of-suc-le-suc h)
+
+  pub passed : span-fault car vs hs lo hi ≡ none → (c : Check) (i : ℕ) → lo ≤ i → i < hi → bad c car vs hs lo i ≡ false
+  unfolding span-fault checks
+  passed e c i a b = none-first (bad c car vs hs lo) (hi - lo) lo (which c) i a (omega arith)
+    where
+      which : (c : Check) → first (bad c car vs hs lo) lo (hi - lo) ≡ none
+      which speed = none-at _ e 0 (lit< tt)
+      which step = none-at _ e 1 (lit< tt)
+      which ends = none-at _ e 2 (lit< tt)
+      which over-ng = none-at _ e 3 (lit< tt)
+      which at-rest = none-at _ e 4 (lit< tt)
+      which over-rev = none-at _ e 5 (lit< tt)
+      which no-gear = none-at _ e 6 (lit< tt)
+
+-- the step into a span's first second is not checked
+pub step-first : (car : Vehicle) (vs hs : List ℕ) (lo : ℕ) → bad step car vs hs lo lo ≡ false
+unfolding bad _and_
+step-first car vs hs lo = rw (le-ltb lo lo (omega arith))
+
+-- ---- a window. Where the checks passed for vs, hs, and those for ws, ks say the same outside lo to hi, the checks of the window find what
+-- those of the whole find
+
+module _ (car : Vehicle) (vs hs ws ks : List ℕ) (n : length ws ≡ length vs) (lo hi : ℕ) (a : lo ≤ hi) (b : hi ≤ length ws)
+    (same : (c : Check) (i : ℕ) → i < length vs → (i < lo) ⊎ (hi ≤ i) → bad c car ws ks 0 i ≡ bad c car vs hs 0 i)
+    (step-in : bad step car ws ks 0 lo ≡ bad step car vs hs 0 lo) where
+  -- in the window a check says what it says of the whole; the step into its first second passed before
+  bad-inside : (c : Check) → ((i : ℕ) → i < length vs → bad c car vs hs 0 i ≡ false) → (i : ℕ) → lo ≤ i → i < length vs → bad c car ws ks 0 i ≡ bad c car ws ks lo i
+  unfolding bad _and_
+  bad-inside speed ok i x y = refl
+  bad-inside step ok i x y =
+      by-eq x
+      (λ e. rw (← e) (step-in ∙ ok lo (omega arith) ∙ sym (step-first car ws ks lo)))
+      (λ m. rw (lt-ltb 0 i (omega arith), lt-ltb lo i m))
+  bad-inside ends ok i x y = refl
+  bad-inside over-ng ok i x y = refl
+  bad-inside at-rest ok i x y = refl
+  bad-inside over-rev ok i x y = refl
+  bad-inside no-gear ok i x y = refl
+
+  first-inside : (c : Check) → first (bad c car vs hs 0) 0 (length vs) ≡ none
+      → first (bad c car ws ks 0) 0 (length ws) ≡ first (bad c car ws ks lo) lo (hi - lo)
+  first-inside c e =
+      let ok : (i : ℕ) → i < length vs → bad c car vs hs 0 i ≡ false = λ i h. none-first (bad c car vs hs 0) (length vs) 0 e i (omega arith) (omega arith) in
+      first-window (bad c car ws ks 0) (bad c car ws ks lo) (length ws) lo hi a b
+      (λ i h o. same c i (omega arith) o ∙ ok i (omega arith)) (λ i x y. bad-inside c ok i x (omega arith))
+
+  fault-inside : (cs : List Check) → fault-of car vs hs 0 (length vs) cs ≡ none → fault-of car ws ks 0 (length ws) cs ≡ fault-of car ws ks lo hi cs
+  unfolding fault-of
+  fault-inside [] e = refl
+  fault-inside (c ∷ cs) e =
+      let o = orelse-none (refuse-at (check-number c) (first (bad c car vs hs 0) 0 (length vs - 0))) (fault-of car vs hs 0 (length vs) cs) e in
+      rw (fault-inside cs (o .1), sub-zero, first-inside c (rw sub-zero at (refuse-none (check-number c) (first (bad c car vs hs 0) 0 (length vs - 0)) (o .0))))
+
+  pub fault-window : span-fault car vs hs 0 (length vs) ≡ none → span-fault car ws ks 0 (length ws) ≡ span-fault car ws ks lo hi
+  unfolding span-fault
+  fault-window e = fault-inside checks e
+
+-- ---- two spans of which each check says the same
+
+pub fault-ext : (car : Vehicle) (vs hs ws ks : List ℕ) (lo hi : ℕ)
+    → ((c : Check) (i : ℕ) → lo ≤ i → i < hi → bad c car vs hs lo i ≡ bad c car ws ks lo i) → (cs : List Check)
+    → fault-of car vs hs lo hi cs ≡ fault-of car ws ks lo hi cs
+unfolding fault-of
+fault-ext car vs hs ws ks lo hi same [] = refl
+fault-ext car vs hs ws ks lo hi same (c ∷ cs) =
+    rw (fault-ext car vs hs ws ks lo hi same cs, first-ext (bad c car vs hs lo) (bad c car ws ks lo) (hi - lo) lo (λ i x y. same c i x (omega arith)))
