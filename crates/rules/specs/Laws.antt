@@ -1,5 +1,6 @@
 -- Laws of the definitions, by subject. A reader of the paper need not believe them: they are proved.
 pub mod Words
+pub mod Walk
 pub mod Trips
 pub mod Vehicle
 pub mod Integers
@@ -16,6 +17,7 @@ pub mod Want
 pub mod Edits
 pub mod Quick
 pub mod Span
+pub mod Work
 pub mod Reading
 pub mod Groups
 pub mod Refusals

@@ -18,7 +18,7 @@ use Rattle.rules.specs.Corrections.{peak, rising, slowing, gear-at, card
 use Rattle.rules.specs.Refusals.{said, work-fault, work-card}
 use Rattle.rules.specs.Quick.{span-lo, hold-fault, quick-fault, quick-holds, quick-card}
 use Rattle.rules.specs.Laws.Words.{by-order, pass-keeps}
-use Rattle.rules.specs.Laws.Trips.{IsTrip, trip-of, trip-le, trip-start, trip-stop, start-before, stop-after, stop-in}
+use Rattle.rules.specs.Laws.Trips.{IsTrip, trip-of, trip-le, trip-start, trip-stop, start-before, stop-after, stop-in, moving-in}
 use Rattle.rules.specs.Laws.Vehicle.{in-bounds}
 use Rattle.rules.specs.Laws.Range.{_⊗_}
 use Rattle.rules.specs.Laws.Power.{OnSegment, gear-segment, same-power as shared-point}
@@ -26,7 +26,7 @@ use Rattle.rules.specs.Laws.Sizes.{Inside, required-sum, w-sum, Q-sum, m
 use Rattle.rules.specs.Laws.Choice.{FirstChoice, first-choice-plainly}
 use Rattle.rules.specs.Laws.Held.{not-free, peak-fixed, rising-fixed, slowing-fixed}
 use Rattle.rules.specs.Laws.Checks.{vehicle-in, rooms-in}
-use Rattle.rules.specs.Laws.Cards.{held-shows, byte-gear, no-over-rev}
+use Rattle.rules.specs.Laws.Cards.{fit-of, held-shows, byte-gear, no-over-rev}
 use Rattle.rules.specs.Laws.Want.{PassesOthers, Wanting, refused-for-want, lowest-wanting}
 use Rattle.rules.specs.Laws.Edits.{Out}
 use Rattle.rules.specs.Laws.Quick.{Accepted, accepted, quick-refuses, quick-right}
@@ -114,11 +114,11 @@ module _ (car : Vehicle) (vs hs old : List ℕ) (ok : work-fault car vs hs old �
   pub held-byte : at hs i ≢ 0 → card-at car vs hs i % 16 ≡ at hs i
   held-byte h =
       let n = rooms-in vs hs old (A .room) .0 in
-      byte-gear car vs hs n i m (vehicle-in car (A .vehicle)) (A .span) ∙ held-shows car vs hs n i m h
+      byte-gear car vs hs n i m (vehicle-in car (A .vehicle)) (fit-of car vs hs 0 (length vs) (A .span) i (omega arith) (moving-in vs i m)) ∙ held-shows car vs hs n i m h
 
   -- and on an accepted trace no gear turns the engine past nmax
   pub engine-in-limits : under-nmax car (at vs i) (gear-at car vs hs i) ≡ true
-  engine-in-limits = no-over-rev car vs hs (rooms-in vs hs old (A .room) .0) i m (vehicle-in car (A .vehicle)) (A .span)
+  engine-in-limits = no-over-rev car vs hs (rooms-in vs hs old (A .room) .0) i m (vehicle-in car (A .vehicle)) (fit-of car vs hs 0 (length vs) (A .span) i (omega arith) (moving-in vs i m))
 
 -- ---- 7. One hold, the quick way
 

@@ -19,7 +19,7 @@ use Rattle.rules.specs.Gears.{Place, under-nmax, choose}
 use Rattle.rules.specs.Corrections.{here, first-choice, firsts, gears, trip-speeds, trip-holds, first-at, gear-at, clutch, byte, card-at, card}
 use Rattle.rules.specs.Refusals.{over-ng, over-rev, no-gear, bad, span-fault}
 use Rattle.rules.specs.Laws.Words.{if-ind, and-fails, at-part, length-part, at-table}
-use Rattle.rules.specs.Laws.Trips.{trip-of, stop-in, moving-in}
+use Rattle.rules.specs.Laws.Trips.{trip-of, stop-in}
 use Rattle.rules.specs.Laws.Vehicle.{InBounds}
 use Rattle.rules.specs.Laws.Held.{first-is, held-gear}
 use Rattle.rules.specs.Laws.Limits.{InRange, of-under, under-of, first-in, gears-in}
@@ -31,6 +31,21 @@ unfolding card-at byte
 card-mod car vs hs i m small =
     rw m (if-ind (λ x. x % 16 ≡ gear-at car vs hs i) (clutch car vs i (gear-at car vs hs i))
     (λ t. add-mod-right (gear-at car vs hs i) 16 ∙ mod-eq-of-lt small) (λ t. mod-eq-of-lt small))
+
+-- the checks of a second on which its gear leans
+pub record Fit (car : Vehicle) (vs hs : List ℕ) (i : ℕ) : Type 0 where
+  pub hold-in-ng : bad over-ng car vs hs 0 i ≡ false
+  pub hold-in-nmax : bad over-rev car vs hs 0 i ≡ false
+  pub some-gear : bad no-gear car vs hs 0 i ≡ false
+
+-- they pass where a span that holds the second passes
+pub fit-of : (car : Vehicle) (vs hs : List ℕ) (lo hi : ℕ) → span-fault car vs hs lo hi ≡ none → (i : ℕ) → lo ≤ i → i < hi → Fit car vs hs i
+unfolding bad
+fit-of car vs hs lo hi e i a b = record {
+  hold-in-ng = passed car vs hs lo hi e over-ng i a b;
+  hold-in-nmax = passed car vs hs lo hi e over-rev i a b;
+  some-gear = passed car vs hs lo hi e no-gear i a b;
+}
 
 -- what a moving second i is in its trip
 module _ (vs hs : List ℕ) (n : length hs ≡ length vs) (i : ℕ) (m : moving (at vs i) ≡ true) where
@@ -69,22 +84,19 @@ module _ (car : Vehicle) (vs hs : List ℕ) (n : length hs ≡ length vs) (i : �
   held-shows h =
       held-gear car (trip-speeds vs i) (trip-holds vs hs i) (i - start vs i) (in-trip vs hs n i m) (rw (hold-in vs hs n i m) h) ∙ hold-in vs hs n i m
 
-  module _ (C : InBounds car) (ok : span-fault car vs hs 0 (length vs) ≡ none) where
+  module _ (C : InBounds car) (F : Fit car vs hs i) where
     hold-in-range : at hs i ≢ 0 → InRange car C (at vs i) (at hs i)
     unfolding bad low
     hold-in-range h =
-        let l = moving-in vs i m in
         let held : not (eqb (at hs i) 0) ≡ true = rw (ne-eqb (at hs i) 0 h) in
-        of-under car C (at vs i) (at hs i) (omega arith)
-        (ltb-false _ _ (passed car vs hs 0 (length vs) ok over-ng i (omega arith) l))
-        (not-false _ (and-fails (not (eqb (at hs i) 0)) _ held (passed car vs hs 0 (length vs) ok over-rev i (omega arith) l)))
+        of-under car C (at vs i) (at hs i) (omega arith) (ltb-false _ _ (F .hold-in-ng)) (not-false _ (and-fails (not (eqb (at hs i) 0)) _ held (F .hold-in-nmax)))
 
     first-in-range : InRange car C (at vs i) (first-at car vs hs i)
     unfolding first-at bad
     first-in-range =
         let us = trip-speeds vs i in
         let ks = trip-holds vs hs i in
-        let z : first-at car vs hs i ≢ 0 = eqb-false _ _ (and-fails (moving (at vs i)) _ m (passed car vs hs 0 (length vs) ok no-gear i (omega arith) (moving-in vs i m))) in
+        let z : first-at car vs hs i ≢ 0 = eqb-false _ _ (and-fails (moving (at vs i)) _ m (F .some-gear)) in
         let f = first-is car us ks (i - start vs i) (in-trip vs hs n i m) in
         rw (f, ← speed-in vs hs n i m)
         (first-in car C us ks (i - start vs i) _ (rw (hold-in vs hs n i m, speed-in vs hs n i m) hold-in-range) (rw f at z))

@@ -1,0 +1,87 @@
+-- Each public function's contract allows one outcome. `Reads` is the contract's own reading, which the check makes of the clauses.
+-- Assumes nothing.
+use mathlib.Core.Path.{refl, sym, _∙_}
+use mathlib.Core.List.{[]}
+use Rattle.rules.specs.Laws.Refusals.{said-once}
+use Rattle.once.specs.Determined.{Determined}
+use Rattle.gears.proofs.second.engine.Kinds as engine-kinds
+use Rattle.gears.proofs.second.engine.Reads as engine-reads
+use Rattle.gears.proofs.second.minimum.Kinds as minimum-kinds
+use Rattle.gears.proofs.second.minimum.Reads as minimum-reads
+use Rattle.gears.proofs.second.fits.Kinds as fits-kinds
+use Rattle.gears.proofs.second.fits.Reads as fits-reads
+use Rattle.gears.proofs.second.some_fits.Kinds as some-fits-kinds
+use Rattle.gears.proofs.second.some_fits.Reads as some-fits-reads
+use Rattle.gears.proofs.second.floor.Kinds as floor-kinds
+use Rattle.gears.proofs.second.floor.Reads as floor-reads
+use Rattle.gears.proofs.second.step_of.Kinds as step-of-kinds
+use Rattle.gears.proofs.second.step_of.Reads as step-of-reads
+use Rattle.gears.proofs.second.required.Kinds as required-kinds
+use Rattle.gears.proofs.second.required.Reads as required-reads
+use Rattle.gears.proofs.bounds.check_vehicle.Kinds as check-vehicle-kinds
+use Rattle.gears.proofs.bounds.check_vehicle.Reads as check-vehicle-reads
+use Rattle.gears.proofs.numbers_of.Kinds as numbers-of-kinds
+use Rattle.gears.proofs.numbers_of.Reads as numbers-of-reads
+use Rattle.gears.proofs.curve.segment.Kinds as segment-kinds
+use Rattle.gears.proofs.curve.segment.Reads as segment-reads
+use Rattle.gears.proofs.curve.power_at.Kinds as power-at-kinds
+use Rattle.gears.proofs.curve.power_at.Reads as power-at-reads
+use Rattle.gears.proofs.choice.enough.Kinds as enough-kinds
+use Rattle.gears.proofs.choice.enough.Reads as enough-reads
+use Rattle.gears.proofs.choice.more.Kinds as more-kinds
+use Rattle.gears.proofs.choice.more.Reads as more-reads
+use Rattle.gears.proofs.choice.strongest.Kinds as strongest-kinds
+use Rattle.gears.proofs.choice.strongest.Reads as strongest-reads
+use Rattle.gears.proofs.choice.choose.Kinds as choose-kinds
+use Rattle.gears.proofs.choice.choose.Reads as choose-reads
+use Rattle.gears.proofs.choice.first_choice.Kinds as first-choice-kinds
+use Rattle.gears.proofs.choice.first_choice.Reads as first-choice-reads
+
+pub engine : Determined engine-kinds.ps engine-kinds.r engine-reads.Asked engine-reads.Learnt
+engine κs a asked z z′ ws ws′ p q = (p ∙ sym q, refl)
+
+pub minimum : Determined minimum-kinds.ps minimum-kinds.r minimum-reads.Asked minimum-reads.Learnt
+minimum κs a asked z z′ ws ws′ p q = (p .0 [] [] [] ∙ sym (q .0 [] [] []), refl)
+
+pub fits : Determined fits-kinds.ps fits-kinds.r fits-reads.Asked fits-reads.Learnt
+fits κs a asked z z′ ws ws′ p q = (p [] [] ∙ sym (q [] []), refl)
+
+pub some-fits : Determined some-fits-kinds.ps some-fits-kinds.r some-fits-reads.Asked some-fits-reads.Learnt
+some-fits κs a asked z z′ ws ws′ p q = (p [] [] ∙ sym (q [] []), refl)
+
+pub floor : Determined floor-kinds.ps floor-kinds.r floor-reads.Asked floor-reads.Learnt
+floor κs a asked z z′ ws ws′ p q = (p [] [] ∙ sym (q [] []), refl)
+
+pub step-of : Determined step-of-kinds.ps step-of-kinds.r step-of-reads.Asked step-of-reads.Learnt
+step-of κs a asked z z′ ws ws′ p q = (p ∙ sym q, refl)
+
+pub required : Determined required-kinds.ps required-kinds.r required-reads.Asked required-reads.Learnt
+required κs a asked z z′ ws ws′ p q = (p [] [] [] ∙ sym (q [] [] []), refl)
+
+pub check-vehicle : Determined check-vehicle-kinds.ps check-vehicle-kinds.r check-vehicle-reads.Asked check-vehicle-reads.Learnt
+check-vehicle κs a asked z z′ ws ws′ p q = (said-once z z′ (p ∙ sym q), refl)
+
+pub numbers-of : Determined numbers-of-kinds.ps numbers-of-kinds.r numbers-of-reads.Asked numbers-of-reads.Learnt
+numbers-of κs a asked z z′ ws ws′ p q = (p ∙ sym q, refl)
+
+pub segment : Determined segment-kinds.ps segment-kinds.r segment-reads.Asked segment-reads.Learnt
+segment κs a asked z z′ ws ws′ p q = (p ∙ sym q, refl)
+
+-- a power is known by its Q and w
+pub power-at : Determined power-at-kinds.ps power-at-kinds.r power-at-reads.Asked power-at-reads.Learnt
+power-at κs a asked z z′ ws ws′ p q = (λ i. record { q = (p ∙ sym q) i .Q; w = (p ∙ sym q) i .w }, refl)
+
+pub enough : Determined enough-kinds.ps enough-kinds.r enough-reads.Asked enough-reads.Learnt
+enough κs a asked z z′ ws ws′ p q = (p ∙ sym q, refl)
+
+pub more : Determined more-kinds.ps more-kinds.r more-reads.Asked more-reads.Learnt
+more κs a asked z z′ ws ws′ p q = (p ∙ sym q, refl)
+
+pub strongest : Determined strongest-kinds.ps strongest-kinds.r strongest-reads.Asked strongest-reads.Learnt
+strongest κs a asked z z′ ws ws′ p q = (p ∙ sym q, refl)
+
+pub choose : Determined choose-kinds.ps choose-kinds.r choose-reads.Asked choose-reads.Learnt
+choose κs a asked z z′ ws ws′ p q = (p ∙ sym q, refl)
+
+pub first-choice : Determined first-choice-kinds.ps first-choice-kinds.r first-choice-reads.Asked first-choice-reads.Learnt
+first-choice κs a asked z z′ ws ws′ p q = (p ∙ sym q, refl)

@@ -1,0 +1,43 @@
+-- `highest`, as a loop that counts down meets it: what is left, from here down, is what was asked.
+-- Assumes nothing.
+use Prim.Native.Nat.{ℕ, zero, suc, _-_, _≤_, _<_}
+use native.Mathlib.Nat.{not-suc-le-zero, le-refl}
+use native.Mathlib.Omega.{arith}
+use mathlib.Core.Path.{_≡_, refl, _∙_}
+use mathlib.Core.Bool.{Bool, true, false}
+use Rattle.rules.specs.Words.{highest}
+
+-- the places above g have been passed, and none of them holds
+pub record Down (p : ℕ → Bool) (top g : ℕ) : Type 0 where
+  pub under : g ≤ top
+  pub same : highest p top ≡ highest p g
+
+-- all places, to begin with
+pub start : {p : ℕ → Bool} {top : ℕ} → Down p top top
+start = record { under = le-refl _; same = refl }
+
+-- a place that passes is the highest up to it
+highest-stops : (p : ℕ → Bool) (g : ℕ) → 0 < g → p g ≡ true → highest p g ≡ g
+unfolding highest
+highest-stops p zero h t = absurd (not-suc-le-zero h)
+highest-stops p (suc g) h t = rw t
+
+-- one that does not leaves the search to those below
+highest-again : (p : ℕ → Bool) (g : ℕ) → 0 < g → p g ≡ false → highest p g ≡ highest p (g - 1)
+unfolding highest
+highest-again p zero h t = absurd (not-suc-le-zero h)
+highest-again p (suc g) h t = let e : suc g - 1 ≡ g = omega arith in rw (e, t)
+
+module _ {p : ℕ → Bool} {top g : ℕ} (inv : Down p top g) where
+  -- the place passes: it is the one asked for
+  pub stops : 0 < g → p g ≡ true → highest p top ≡ g
+  stops h t = inv .same ∙ highest-stops p g h t
+
+  -- it does not: the next one down
+  pub again : 0 < g → p g ≡ false → Down p top (g - 1)
+  again h t = record { under = omega (arith, inv .under); same = inv .same ∙ highest-again p g h t }
+
+  -- no place is left
+  pub ends : g ≡ 0 → highest p top ≡ 0
+  unfolding highest
+  ends e = inv .same ∙ rw e

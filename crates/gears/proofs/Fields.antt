@@ -1,0 +1,76 @@
+-- The bounds of a vehicle, as a chain of tests meets them: the first k hold, so the first that fails is one of the others.
+-- Assumes nothing.
+use Prim.Native.Nat.{ℕ, suc, _+_, _-_, _≤_, _<_}
+use native.Mathlib.Omega.{arith}
+use mathlib.Core.Path.{_≡_, refl, _∙_}
+use mathlib.Core.Bool.{Bool, true, false}
+use mathlib.Core.Option.{none, some}
+use mathlib.Core.List.{List}
+use lib.ListN.{length, getD, drop}
+use lib.Dec.{leb}
+use lib.Seq.{drop-cons}
+use lib.IntN.{ℤ, pos, negsuc}
+use lib.Signed.{leZ}
+use mir.Syntax.{w32}
+use mir.Val.{SFits, toZ, ofZ}
+use mir.Facts.{toZ-ofZ}
+use borrow.Author.Tests.{leb-true, leb-false, le-leb, lt-leb}
+use Rattle.rules.specs.declared.Vehicle.{Vehicle}
+use Rattle.rules.specs.declared.Refusal.the-variants.{VehicleField}
+use Rattle.rules.specs.declared.Answer.the-variants.{Done, Refused}
+use Rattle.rules.specs.Words.{if_then_else_, _and_, within}
+use Rattle.rules.specs.Units.{bounds, first-failed, bad-field}
+use Rattle.rules.specs.Refusals.{said, refuse-at, vehicle-fault}
+use Rattle.rules.specs.Laws.Words.{by-test}
+
+-- ---- the chain
+
+pub record Passed (car : Vehicle) (k : ℕ) : Type 0 where
+  pub same : bad-field car ≡ first-failed (suc k) (drop k (bounds car))
+
+pub passed-none : {car : Vehicle} → Passed car 0
+unfolding bad-field
+passed-none = record { same = refl }
+
+-- the next test
+next-test : (ts : List Bool) (k : ℕ) → k < length ts → first-failed (suc k) (drop k ts) ≡ if getD ts k true then first-failed (suc (suc k)) (drop (suc k) ts) else some (suc k)
+unfolding first-failed
+next-test ts k h = rw (drop-cons ts k true)
+
+-- holds
+pub passed-more : {car : Vehicle} {k : ℕ} → Passed car k → k < length (bounds car) → getD (bounds car) k true ≡ true → Passed car (suc k)
+passed-more {car} {k} inv h t = record { same = inv .same ∙ next-test (bounds car) k h ∙ rw t }
+
+-- fails
+pub refused-here : {car : Vehicle} {k : ℕ} → Passed car k → k < length (bounds car) → getD (bounds car) k true ≡ false → said (Refused (VehicleField (suc k))) ≡ vehicle-fault car
+unfolding said vehicle-fault refuse-at
+refused-here {car} {k} inv h t = let e : bad-field car ≡ some (suc k) = inv .same ∙ next-test (bounds car) k h ∙ rw t in rw e
+
+-- all hold
+pub passed-all : {car : Vehicle} → Passed car 13 → said Done ≡ vehicle-fault car
+unfolding said vehicle-fault refuse-at first-failed bounds
+passed-all {car} inv = let e : bad-field car ≡ none = inv .same in rw e
+
+-- ---- a rise by 1 to 1,000
+
+pub rise-none : (x b : ℕ) → x ≤ b → false ≡ within (b + 1) (b + 1000) x
+unfolding within _and_
+rise-none x b h = rw (lt-leb (b + 1) x (omega arith))
+
+pub rise-within : (x b : ℕ) → b < x → leb (x - b) 1000 ≡ within (b + 1) (b + 1000) x
+unfolding within _and_
+rise-within x b h =
+    rw (le-leb (b + 1) x (omega arith))
+    (by-test (leb x (b + 1000))
+    (λ t. let l : x ≤ b + 1000 = leb-true _ _ t in rw (t, le-leb (x - b) 1000 (omega arith)))
+    (λ t. let l : b + 1000 < x = leb-false _ _ t in rw (t, lt-leb (x - b) 1000 (omega arith))))
+
+-- ---- an i32 from -5,000 to 5,000
+
+pub size-within : {z : ℤ} → SFits w32 z → leZ (negsuc 4999) (toZ w32 (ofZ w32 z)) ≡ true → leZ (toZ w32 (ofZ w32 z)) (pos 5000) ≡ leZ (negsuc 4999) z and leZ z (pos 5000)
+unfolding _and_
+size-within f t = let u = rw (toZ-ofZ f) at t in rw (toZ-ofZ f, u)
+
+pub size-below : {z : ℤ} → SFits w32 z → leZ (negsuc 4999) (toZ w32 (ofZ w32 z)) ≡ false → false ≡ leZ (negsuc 4999) z and leZ z (pos 5000)
+unfolding _and_
+size-below f t = let u = rw (toZ-ofZ f) at t in rw u

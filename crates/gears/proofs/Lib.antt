@@ -1,0 +1,9 @@
+-- What belongs to no one function: laws of the definitions as the code meets them, and that each contract allows one outcome.
+pub mod Speeds
+pub mod Fields
+pub mod Requires
+pub mod Determined
+pub mod Halving
+pub mod Powers
+pub mod Choices
+pub mod Down

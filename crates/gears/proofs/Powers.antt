@@ -1,0 +1,71 @@
+-- The power at a gear, from the parts that the code works it out of.
+-- Assumes nothing.
+use Prim.Native.Nat.{ℕ, suc, _-_, _*_, _≤_, max}
+use native.Mathlib.Nat.{le-trans, mul-le-mul-left, max-le, le-max-right}
+use native.Mathlib.Omega.{arith}
+use mathlib.Core.Path.{_≡_, sym, ap, _∙_, subst}
+use mathlib.Core.Bool.{true}
+use lib.IntN.{natAbs}
+use borrow.Author.Tests.{leb-true}
+use Rattle.rules.specs.declared.Vehicle.{Vehicle}
+use Rattle.rules.specs.Words.{at}
+use Rattle.rules.specs.Units.{ratio-of}
+use Rattle.rules.specs.Gears.{Place, Power, engine, under-nmax, fits, between, on-segment, segment, power-speed, power}
+use Rattle.rules.specs.Laws.Words.{and-right}
+use Rattle.rules.specs.Laws.Power.{OnSegment, segment-holds}
+use Rattle.rules.specs.Laws.Sizes.{Q-size, w-size}
+use Rattle.gears.specs.Choosing.{segment-in, segment-parts, Curve, Segment, power-of, Turning, Sized, Driven}
+use Rattle.gears.specs.declared.Power as code
+
+module _ (car : Vehicle) (v g : ℕ) where
+  -- the engine speed at which power is read
+  pub speed-is : {x y : ℕ} → x ≡ max y (1000 * car .idle) → y ≡ at (car .ratio) (g - 1) * v → x ≡ power-speed car v g
+  unfolding power-speed engine ratio-of
+  speed-is e f = e ∙ ap (λ y. max y (1000 * car .idle)) f
+
+  -- the power on the segment found is the gear's
+  pub power-is : {x s : ℕ} → x ≡ power-speed car v g → s ≡ segment-in (car .n) (car .points) x
+      → between (at (car .n) s) (at (car .p) s) (at (car .n) (suc s)) (at (car .p) (suc s)) x ≡ power car v g
+  unfolding power on-segment
+  power-is e f = rw (f, e, segment-parts car (power-speed car v g))
+
+  module _ (t : Turning car v g) where
+    -- that speed is at most nmax
+    speed-to : power-speed car v g ≤ 1000 * car .nmax
+    unfolding power-speed
+    speed-to = max-le (t .under) (omega (arith, t .bounds .rated-from, t .bounds .nmax-from))
+
+    -- it lies on the segment found
+    pub turning-on : OnSegment car (power-speed car v g) (segment car (power-speed car v g))
+    unfolding power-speed
+    turning-on = segment-holds car (t .bounds) (power-speed car v g) (le-max-right (engine car g v) (1000 * car .idle)) speed-to
+
+    -- the search can be made
+    pub turning-curve : {x : ℕ} → x ≡ power-speed car v g → Curve (car .n) (car .points) x
+    turning-curve e = record {
+      from = t .bounds .points-from;
+      to = t .bounds .points-to;
+      rises = t .bounds .n-rises;
+      below = rw e (le-trans speed-to (mul-le-mul-left 1000 (t .bounds .last-point)));
+    }
+
+    -- and so can the reading of what it finds
+    pub turning-segment : {x s : ℕ} → x ≡ power-speed car v g → s ≡ segment-in (car .n) (car .points) x → Segment x s
+    turning-segment e f =
+        let on = rw (segment-parts car (power-speed car v g)) at turning-on in
+        rw (f, e) (record { next = omega (arith, on .next-point, t .bounds .points-to); small = omega (arith, speed-to, t .bounds .nmax-to) })
+
+    -- a power that is the gear's is within its bounds
+    pub sized-of : (a : code.Power) → power-of a ≡ power car v g → Sized a
+    unfolding power
+    sized-of a e =
+        let x = power-speed car v g in
+        record {
+          q-in = subst (λ (z : Power). natAbs (z .Q) ≤ 10000000000) (sym e) (Q-size car (t .bounds) x (segment car x) turning-on);
+          w-in = subst (λ (z : Power). natAbs (z .w) ≤ 1000) (sym e) (w-size car (t .bounds) x (segment car x) turning-on);
+        }
+
+-- a gear that fits turns the engine no faster than nmax
+pub turning-of : (car : Vehicle) (here : Place) (v g : ℕ) → Driven car g → fits car here v g ≡ true → Turning car v g
+unfolding fits under-nmax
+turning-of car here v g b t = record { bounds = b .bounds; from = b .from; to = b .to; under = leb-true _ _ (and-right _ _ (and-right _ _ t)) }

@@ -1,0 +1,54 @@
+-- `gears::bounds::points_good` meets its contract: what is left to test, from point k on, is what was asked.
+-- Assumes nothing.
+use Prim.Native.Nat.{_-_, _≤_}
+use native.Mathlib.Omega.{arith}
+use mathlib.Core.Path.{_≡_, sym, _∙_}
+use borrow.Author.Needs.{needs}
+use borrow.Author.Tests.{not-true, not-false}
+use Rattle.rules.specs.declared.Vehicle.{Vehicle}
+use Rattle.rules.specs.Words.{every}
+use Rattle.rules.specs.Units.{point-good}
+use Rattle.rules.specs.Laws.Walk.{Every, all-start, all-stops, all-again, all-ends}
+use Rattle.gears.proofs.bounds.points_good.Statement.{statement}
+use Rattle.gears.proofs.bounds.points_good.Tie as tie
+
+abbrev Inv-loop : tie.InvT-loop
+Inv-loop n p points end k₀ k = (k ≤ end) × ((car : Vehicle) → car .n ≡ n → car .p ≡ p → Every (point-good car) k end (every (point-good car) 0 points))
+
+abbrev μ-loop : tie.MeasureT-loop
+μ-loop n p points end k₀ k = end - k
+
+loop-holds : tie.Need-loop-holds Inv-loop μ-loop
+loop-holds c = (omega arith, λ car en ep. all-start (omega arith))
+
+point-good-requires : tie.Need-point-good-requires Inv-loop μ-loop
+point-good-requires c κs = search needs
+
+returns : tie.Need-returns Inv-loop μ-loop
+returns c = λ car en ep. all-stops (c .before .before .before .loop .inv .1 car en ep) (omega arith) (sym (c .before .point-good .ensures car en ep) ∙ not-true (c .before .point-good .result) (c .if1 .taken))
+
+add-k : tie.Need-add-k Inv-loop μ-loop
+add-k c = search needs
+
+loop-less : tie.Need-loop-less Inv-loop μ-loop
+loop-less c = search needs
+
+loop-again : tie.Need-loop-again Inv-loop μ-loop
+loop-again c = (omega arith, λ car en ep. all-again (c .before .before .before .loop .inv .1 car en ep) (omega arith) (sym (c .before .point-good .ensures car en ep) ∙ not-false (c .before .point-good .result) (c .if1 .left)))
+
+returns-2 : tie.Need-returns-2 Inv-loop μ-loop
+returns-2 c = λ car en ep. all-ends (c .before .loop .inv .1 car en ep) (omega arith)
+
+pub points-good-spec : {M : Type 1} → statement M
+points-good-spec =
+    tie.close
+    (tie.spec
+    Inv-loop
+    μ-loop
+    loop-holds
+    point-good-requires
+    returns
+    add-k
+    loop-less
+    loop-again
+    returns-2)

@@ -1,0 +1,61 @@
+-- `gears::bounds::ratio_good` meets its contract: the tests of `ratio-good`, one after the other.
+-- Assumes nothing.
+use Prim.Native.Nat.{_-_}
+use native.Mathlib.Omega.{arith}
+use mathlib.Core.Path.{_≡_}
+use borrow.Author.Tests.{eq-eqb, ne-eqb, not-true, not-false}
+use Rattle.rules.specs.Words.{_and_, _or_}
+use Rattle.rules.specs.Units.{ratio-good, ratio-of}
+use borrow.Author.Needs.{needs}
+use Rattle.gears.proofs.bounds.ratio_good.Statement.{statement}
+use Rattle.gears.proofs.bounds.ratio_good.Tie as tie
+
+sub-x : tie.Need-sub-x
+sub-x c = search needs
+
+mul-x : tie.Need-mul-x
+mul-x c = search needs
+
+element-copy-out-x : tie.Need-element-copy-out-x
+element-copy-out-x c = search needs
+
+within-requires : tie.Need-within-requires
+within-requires c κs = search needs
+
+returns : tie.Need-returns
+unfolding ratio-good ratio-of _and_
+returns c = λ car e. rw (e, ← c .before .within .ensures, not-true (c .before .within .result) (c .if1 .taken))
+
+returns-2 : tie.Need-returns-2
+unfolding ratio-good ratio-of _and_ _or_
+returns-2 c = λ car e. rw (e, ← c .before .before .within .ensures, not-false (c .before .before .within .result) (c .before .if1 .left), eq-eqb _ _ (c .if2 .taken))
+
+sub-result : tie.Need-sub-result
+sub-result c = search needs
+
+mul-result : tie.Need-mul-result
+mul-result c = search needs
+
+element-copy-out-result : tie.Need-element-copy-out-result
+element-copy-out-result c = search needs
+
+returns-3 : tie.Need-returns-3
+unfolding ratio-good ratio-of _and_ _or_
+returns-3 c = λ car e.
+    let z : c .before .before .before .before .before .args .g - 1 - 1 ≡ c .before .before .before .before .before .args .g - 2 = omega arith in
+    rw (e, ← c .before .before .before .within .ensures, not-false (c .before .before .before .within .result) (c .before .before .if1 .left), ne-eqb _ _ (c .before .if2 .left), z)
+
+pub ratio-good-spec : {M : Type 1} → statement M
+ratio-good-spec =
+    tie.close
+    (tie.spec
+    sub-x
+    mul-x
+    element-copy-out-x
+    within-requires
+    returns
+    returns-2
+    sub-result
+    mul-result
+    element-copy-out-result
+    returns-3)

@@ -1,0 +1,54 @@
+-- `gears::bounds::ratios_good` meets its contract: what is left to test, from gear g on, is what was asked.
+-- Assumes nothing.
+use Prim.Native.Nat.{suc, _-_, _≤_}
+use native.Mathlib.Omega.{arith}
+use mathlib.Core.Path.{_≡_, sym, _∙_}
+use borrow.Author.Needs.{needs}
+use borrow.Author.Tests.{not-true, not-false}
+use Rattle.rules.specs.declared.Vehicle.{Vehicle}
+use Rattle.rules.specs.Words.{every}
+use Rattle.rules.specs.Units.{ratio-good}
+use Rattle.rules.specs.Laws.Walk.{Every, all-start, all-stops, all-again, all-ends}
+use Rattle.gears.proofs.bounds.ratios_good.Statement.{statement}
+use Rattle.gears.proofs.bounds.ratios_good.Tie as tie
+
+abbrev Inv-loop : tie.InvT-loop
+Inv-loop ratio ng top g₀ g = (1 ≤ g) × (g ≤ suc top) × ((car : Vehicle) → car .ratio ≡ ratio → Every (ratio-good car) g (suc top) (every (ratio-good car) 1 ng))
+
+abbrev μ-loop : tie.MeasureT-loop
+μ-loop ratio ng top g₀ g = suc top - g
+
+loop-holds : tie.Need-loop-holds Inv-loop μ-loop
+loop-holds c = (omega arith, omega arith, λ car e. all-start (omega arith))
+
+ratio-good-requires : tie.Need-ratio-good-requires Inv-loop μ-loop
+ratio-good-requires c κs = search needs
+
+returns : tie.Need-returns Inv-loop μ-loop
+returns c = λ car e. all-stops (c .before .before .before .loop .inv .2 car e) (omega arith) (sym (c .before .ratio-good .ensures car e) ∙ not-true (c .before .ratio-good .result) (c .if1 .taken))
+
+add-g : tie.Need-add-g Inv-loop μ-loop
+add-g c = search needs
+
+loop-less : tie.Need-loop-less Inv-loop μ-loop
+loop-less c = search needs
+
+loop-again : tie.Need-loop-again Inv-loop μ-loop
+loop-again c = (omega arith, omega arith, λ car e. all-again (c .before .before .before .loop .inv .2 car e) (omega arith) (sym (c .before .ratio-good .ensures car e) ∙ not-false (c .before .ratio-good .result) (c .if1 .left)))
+
+returns-2 : tie.Need-returns-2 Inv-loop μ-loop
+returns-2 c = λ car e. all-ends (c .before .loop .inv .2 car e) (omega arith)
+
+pub ratios-good-spec : {M : Type 1} → statement M
+ratios-good-spec =
+    tie.close
+    (tie.spec
+    Inv-loop
+    μ-loop
+    loop-holds
+    ratio-good-requires
+    returns
+    add-g
+    loop-less
+    loop-again
+    returns-2)

@@ -1,0 +1,43 @@
+-- `gears::choice::first_choice` meets its contract. The choice is at most ng, so that it fits a byte.
+-- Assumes nothing.
+use native.Mathlib.Omega.{arith}
+use mathlib.Core.Path.{_≡_, _∙_}
+use borrow.Author.Tests.{eq-eqb, ne-eqb}
+use borrow.Author.Needs.{needs}
+use mir.Facts.{toZ-ofZ}
+use Rattle.rules.specs.Laws.Choice.{choose-to}
+use Rattle.rules.specs.Gears.{Place, choose}
+use Rattle.rules.specs.declared.Vehicle.{Vehicle}
+use Rattle.gears.specs.Choosing.{first-of}
+use Rattle.gears.specs.Parts.{vehicle-of}
+use Rattle.gears.proofs.choice.first_choice.Statement.{statement}
+use Rattle.gears.proofs.choice.first_choice.Tie as tie
+
+abbrev car : tie.Start → Vehicle
+car c = vehicle-of (c .args .k) (c .args .ratio .now) (c .args .n .now) (c .args .p .now)
+
+abbrev here : tie.Start → Place
+here c = record { first-second = c .args .first-second }
+
+-- what was returned is the rules' choice
+is : (c : tie.After-choose) → let s = c .before .before in c .choose .result ≡ choose (car s) (here s) (s .args .v) (s .args .d)
+is c = let s = c .before .before in rw (toZ-ofZ (s .fits .d)) at (c .choose .ensures)
+
+choose-requires : tie.Need-choose-requires
+choose-requires c κs = search needs
+
+cast-result : tie.Need-cast-result
+cast-result c =
+    let s = c .before .before in
+    omega (arith, is c, choose-to (car s) (here s) (s .args .v) (s .args .d), s .pre .bounds .ng-to)
+
+returns : tie.Need-returns
+unfolding first-of
+returns c = is c ∙ rw (eq-eqb _ 0 (c .before .if1 .taken))
+
+returns-2 : tie.Need-returns-2
+unfolding first-of
+returns-2 c = rw (ne-eqb _ 0 (c .if1 .left))
+
+pub first-choice-spec : {M : Type 1} → statement M
+first-choice-spec = tie.close (tie.spec choose-requires cast-result returns returns-2)

@@ -1,0 +1,59 @@
+-- `gears::second::floor` meets its contract: what is left of the search, from gear g on, is what was asked.
+-- Assumes nothing.
+use Prim.Native.Nat.{suc, _-_, _≤_}
+use native.Mathlib.Omega.{arith}
+use borrow.Author.Needs.{needs}
+use borrow.Author.Tests.{lt-leb}
+use Rattle.rules.specs.Laws.Walk.{start, again}
+use Rattle.gears.proofs.Speeds.{LeftFrom, floor-here, floor-none}
+use Rattle.gears.proofs.second.floor.Statement.{statement}
+use Rattle.gears.proofs.second.floor.Tie as tie
+
+abbrev Inv-loop : tie.InvT-loop
+Inv-loop ratio v ng most g₀ g = (1 ≤ g) × (g ≤ suc ng) × LeftFrom ratio v most ng g
+
+abbrev μ-loop : tie.MeasureT-loop
+μ-loop ratio v ng most g₀ g = suc ng - g
+
+cast-ng : tie.Need-cast-ng Inv-loop μ-loop
+cast-ng c = search needs
+
+top-requires : tie.Need-top-requires Inv-loop μ-loop
+top-requires c κs = search needs
+
+loop-holds : tie.Need-loop-holds Inv-loop μ-loop
+loop-holds c = (omega arith, omega arith, start (omega arith))
+
+engine-requires : tie.Need-engine-requires Inv-loop μ-loop
+engine-requires c κs = search needs
+
+returns : tie.Need-returns Inv-loop μ-loop
+returns c = λ n p. floor-here _ _ n p _ (c .before .before .before .before .top .ensures) (c .before .before .before .loop .g) (c .before .before .before .loop .inv .2) (c .before .before .loop-test .taken) (rw (c .before .engine .ensures) at (c .if1 .taken))
+
+add-g : tie.Need-add-g Inv-loop μ-loop
+add-g c = search needs
+
+loop-less : tie.Need-loop-less Inv-loop μ-loop
+loop-less c = search needs
+
+loop-again : tie.Need-loop-again Inv-loop μ-loop
+loop-again c = (omega arith, omega arith, again (c .before .before .before .loop .inv .2) (omega arith) (lt-leb _ _ (rw (c .before .engine .ensures) at (c .if1 .left))))
+
+returns-2 : tie.Need-returns-2 Inv-loop μ-loop
+returns-2 c = λ n p. floor-none _ _ n p _ (c .before .before .top .ensures) (c .before .loop .g) (c .before .loop .inv .2) (omega arith)
+
+pub floor-spec : {M : Type 1} → statement M
+floor-spec =
+    tie.close
+    (tie.spec
+    Inv-loop
+    μ-loop
+    cast-ng
+    top-requires
+    loop-holds
+    engine-requires
+    returns
+    add-g
+    loop-less
+    loop-again
+    returns-2)

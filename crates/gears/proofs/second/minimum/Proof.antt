@@ -1,0 +1,56 @@
+-- `gears::second::minimum` meets its contract: each arm of the match is a clause of `minimum-of`.
+-- Assumes nothing.
+use mathlib.Core.Path.{sym}
+use Rattle.rules.specs.Units.{low}
+use Rattle.rules.specs.Gears.{minimum, minimum-of}
+use Rattle.gears.proofs.Speeds.{minimum-above}
+use borrow.Author.Needs.{needs}
+use Rattle.gears.proofs.second.minimum.Statement.{statement}
+use Rattle.gears.proofs.second.minimum.Tie as tie
+
+wide-requires : tie.Need-wide-requires
+wide-requires c κs = search needs
+
+wide-requires-2 : tie.Need-wide-requires-2
+wide-requires-2 c κs = search needs
+
+mul-result : tie.Need-mul-result
+mul-result c = search needs
+
+add-result : tie.Need-add-result
+add-result c = search needs
+
+sub-result : tie.Need-sub-result
+sub-result c = search needs
+
+add-result-2 : tie.Need-add-result-2
+add-result-2 c = search needs
+
+add-result-3 : tie.Need-add-result-3
+add-result-3 c = search needs
+
+returns : tie.Need-returns
+unfolding minimum minimum-of low
+returns c = (λ ratio n p. rw (c .match .keys1) (c .before .before .wide .ensures .0), search needs)
+
+returns-2 : tie.Need-returns-2
+unfolding minimum minimum-of low
+returns-2 c = (λ ratio n p. rw (c .match .keys2, c .before .before .wide .ensures .0), search needs)
+
+returns-3 : tie.Need-returns-3
+returns-3 c = (λ ratio n p. rw (c .before .before .wide .ensures .0, c .before .wide2 .ensures .0) (sym (minimum-above _ _ (c .before .before .before .pre .from) (c .match .rest .0 .1) (c .match .rest .1))), search needs)
+
+pub minimum-spec : {M : Type 1} → statement M
+minimum-spec =
+    tie.close
+    (tie.spec
+    wide-requires
+    wide-requires-2
+    mul-result
+    add-result
+    sub-result
+    add-result-2
+    add-result-3
+    returns
+    returns-2
+    returns-3)

@@ -1,0 +1,110 @@
+-- The rules of a choice over the parts that the functions are lent, and what those functions ask of them.
+-- Assumes nothing.
+use Prim.Native.Nat.{ℕ, suc, _-_, _*_, _≤_, _<_}
+use mathlib.Core.Path.{_≡_, refl}
+use mathlib.Core.Logic.{_≢_}
+use mathlib.Core.Bool.{Bool}
+use mathlib.Core.List.{List}
+use mathlib.Core.Option.{Option·getD}
+use lib.Dec.{leb, eqb}
+use lib.IntN.{ℤ, pos, natAbs, _-ℤ_, _*ℤ_}
+use lib.Signed.{leZ}
+use Rattle.rules.specs.declared.Vehicle.{Vehicle}
+use Rattle.rules.specs.Words.{if_then_else_, _and_, at, first}
+use Rattle.rules.specs.Gears.{Place, Power, engine, fits, power, strongest, choose, reaches, segment}
+use Rattle.rules.specs.Units.{rise}
+use Rattle.rules.specs.Corrections.{here, first-choice}
+use Rattle.rules.specs.Laws.Vehicle.{InBounds}
+use Rattle.gears.specs.declared.Power as code
+use Rattle.gears.specs.declared.Best.{Best}
+
+-- ---- the curve
+
+-- r is the whole number x, of 16 bits, with a sign
+pub record Signed (x : ℕ) (r : ℤ) : Type 0 where
+  pub same : r ≡ pos x
+  pub most : x ≤ 65535
+
+-- the segment of x, from the curve's engine speeds and the number of its points
+unfoldable pub segment-in : List ℕ → ℕ → ℕ → ℕ
+segment-in n points x = Option·getD (first (λ k. leb x (1000 * at n (suc k))) 0 (points - 1)) 0
+
+-- it is the rules' segment
+pub segment-parts : (car : Vehicle) (x : ℕ) → segment car x ≡ segment-in (car .n) (car .points) x
+unfolding segment reaches segment-in
+segment-parts car x = refl
+
+-- a curve that rises from point to point, and an engine speed no higher than its last
+pub record Curve (n : List ℕ) (points x : ℕ) : Type 0 where
+  pub from : 2 ≤ points
+  pub to : points ≤ 64
+  pub rises : (k : ℕ) → suc k < points → at n k < at n (suc k)
+  pub below : x ≤ 1000 * at n (points - 1)
+
+-- a segment and an engine speed that the arrays and the products have room for
+pub record Segment (x s : ℕ) : Type 0 where
+  pub next : s < 63
+  pub small : x ≤ 65535000
+
+-- the code's power, as the rules have it
+abbrev pub power-of : code.Power → Power
+power-of r = record { Q = r .q; w = r .w }
+
+-- a gear of a vehicle in bounds that turns the engine no faster than nmax
+pub record Turning (car : Vehicle) (v g : ℕ) : Type 0 where
+  pub bounds : InBounds car
+  pub from : 1 ≤ g
+  pub to : g ≤ car .ng
+  pub under : engine car g v ≤ 1000 * car .nmax
+
+-- ---- the choice
+
+-- a power within its bounds
+pub record Sized (r : code.Power) : Type 0 where
+  pub q-in : natAbs (r .q) ≤ 10000000000
+  pub w-in : natAbs (r .w) ≤ 1000
+
+-- the largest E of a vehicle in bounds
+abbrev pub most-E : ℕ
+most-E = 4890000000000000
+
+-- a margin, a power and an E within their bounds
+pub record Weighed (margin : ℕ) (a : code.Power) (e : ℤ) : Type 0 where
+  pub margin-to : margin ≤ 50
+  pub sized : Sized a
+  pub e-in : natAbs e ≤ most-E
+
+-- a power is enough for E
+unfoldable pub enough-for : ℕ → Power → ℤ → Bool
+enough-for margin a e = leZ (e *ℤ a .w) ((pos 100 -ℤ pos margin) *ℤ a .Q *ℤ pos 3240000)
+
+-- a gear fits and has enough power for E
+unfoldable pub suits-for : Vehicle → Place → ℕ → ℤ → ℕ → Bool
+suits-for car here v e g = fits car here v g and enough-for (car .margin) (power car v g) e
+
+-- a gear of a vehicle in bounds
+pub record Driven (car : Vehicle) (g : ℕ) : Type 0 where
+  pub bounds : InBounds car
+  pub from : 1 ≤ g
+  pub to : g ≤ car .ng
+
+-- of the gears up to j the strongest, with its power where there is one
+pub record Strongest (car : Vehicle) (here : Place) (v j : ℕ) (b : Best) : Type 0 where
+  pub is : b .gear ≡ strongest car here v j
+  pub its-power : b .gear ≢ 0 → power-of (b .power) ≡ power car v (b .gear)
+
+-- a vehicle in bounds, a speed and a step in bounds
+pub record Driving (car : Vehicle) (v : ℕ) (d : ℤ) : Type 0 where
+  pub bounds : InBounds car
+  pub v-to : v ≤ 2000
+  pub d-in : natAbs d ≤ 150
+
+-- the first choice: the held gear if there is one, otherwise the rules' choice; 0 where no gear fits
+unfoldable pub first-of : Vehicle → Place → ℕ → ℤ → ℕ → ℕ
+first-of car here v d hold = if eqb hold 0 then choose car here v d else hold
+
+-- it is the first choice of second j of a trip
+pub first-parts : (car : Vehicle) (us hs : List ℕ) (j : ℕ) (gs : List ℕ)
+    → first-choice car us hs j gs ≡ first-of car (here car us hs j gs) (at us j) (rise us j) (at hs j)
+unfolding first-choice first-of
+first-parts car us hs j gs = refl

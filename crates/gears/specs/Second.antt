@@ -1,0 +1,40 @@
+-- What the functions of one second ask of their arguments.
+-- Assumes nothing.
+use Prim.Native.Nat.{ℕ, _≤_}
+use lib.IntN.{ℤ, natAbs}
+use Rattle.gears.specs.declared.Numbers.{Numbers}
+
+-- a gear that the array of ratios has a place for
+pub record Gear (g : ℕ) : Type 0 where
+  pub from : 1 ≤ g
+  pub to : g ≤ 10
+
+-- gear 1 or above, of a vehicle whose rated speed is not below idle
+pub record Lowest (k : Numbers) (g : ℕ) : Type 0 where
+  pub from : 1 ≤ g
+  pub rated-from : k .idle ≤ k .rated
+
+-- a gear, of a vehicle whose rated speed is not below idle
+pub record GearOf (k : Numbers) (g : ℕ) : Type 0 where
+  pub from : 1 ≤ g
+  pub to : g ≤ 10
+  pub rated-from : k .idle ≤ k .rated
+
+-- a vehicle whose gears all have a place, and whose rated speed is not below idle
+pub record Geared (k : Numbers) : Type 0 where
+  pub ng-to : k .ng ≤ 10
+  pub rated-from : k .idle ≤ k .rated
+
+-- a number of points that the curve's arrays have places for, and at least one
+pub record Points (count : ℕ) : Type 0 where
+  pub from : 1 ≤ count
+  pub to : count ≤ 64
+
+-- a vehicle's road load, a speed and a step in bounds
+pub record Load (k : Numbers) (v : ℕ) (d : ℤ) : Type 0 where
+  pub f0-to : k .f0 ≤ 10000
+  pub f1-in : natAbs (k .f1) ≤ 5000
+  pub f2-to : k .f2 ≤ 20000
+  pub tm-to : k .tm ≤ 4000
+  pub v-to : v ≤ 2000
+  pub d-in : natAbs d ≤ 150

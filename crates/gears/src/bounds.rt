@@ -1,0 +1,179 @@
+// The vehicle's bounds: the first field out of bounds is refused.
+ghost use mathlib.Core.Path.{_≡_};
+ghost use Prim.Native.Nat.{_+_, _-_, _≤_, _<_};
+ghost use lib.IntN.{pos, negℤ};
+ghost use lib.Signed.{leZ};
+ghost use lib.Dec.{leb, ltb, eqb};
+ghost use Rattle.rules.specs.Words.{_and_, _or_, within, at, every};
+ghost use Rattle.rules.specs.Units.{ratio-good, point-good};
+ghost use Rattle.rules.specs.Refusals.{said, vehicle-fault};
+ghost use Rattle.rules.specs.declared.Vehicle.{Vehicle};
+ghost use Rattle.gears.specs.Second.{Gear, Points};
+use rules::Answer;
+use rules::Refusal;
+use rules::Vehicle;
+
+// From lo to hi, both included.
+fn within(lo: u16, hi: u16, x: u16) -> bool
+    ensures { λ r. ⌜ r ≡ within lo hi x ⌝ }
+{
+    if x < lo {
+        return false;
+    }
+    x <= hi
+}
+
+// A gear's ratio is 1 to 50,000, and below that of the gear before.
+fn ratio_good(ratio: &[u16; 10], g: usize) -> bool
+    requires { ⌜ Gear g ⌝ }
+    ensures { λ r. ⌜ ((car : Vehicle) → car .ratio ≡ now (ratio .entry) → r ≡ ratio-good car g) ⌝ }
+{
+    let x = ratio[g - 1];
+    if !within(1, 50000, x) {
+        return false;
+    }
+    if g == 1 {
+        return true;
+    }
+    x < ratio[g - 2]
+}
+
+// So are the ratios of the gears 1 to ng.
+fn ratios_good(ratio: &[u16; 10], ng: u16) -> bool
+    requires { ⌜ ng ≤ 10 ⌝ }
+    ensures { λ r. ⌜ ((car : Vehicle) → car .ratio ≡ now (ratio .entry) → r ≡ every (ratio-good car) 1 ng) ⌝ }
+{
+    let top = ng as usize;
+    let mut g: usize = 1;
+    while g <= top {
+        if !ratio_good(ratio, g) {
+            return false;
+        }
+        g += 1;
+    }
+    true
+}
+
+// A point's n is 1 to 1,000 above that of the point before.
+fn point_rises(n: &[u16; 64], k: usize) -> bool
+    requires { ⌜ k < 64 ⌝ }
+    ensures { λ r. ⌜ r ≡ (eqb k 0 or within (at (now (n .entry)) (k - 1) + 1) (at (now (n .entry)) (k - 1) + 1000) (at (now (n .entry)) k)) ⌝ }
+{
+    if k == 0 {
+        return true;
+    }
+    let x = n[k];
+    let lower = n[k - 1];
+    if x <= lower {
+        return false;
+    }
+    x - lower <= 1000
+}
+
+// A point's n is 1 to 16,000 and rises, and its p is at most 5,000.
+fn point_good<'a>(n: &'a [u16; 64], p: &'a [u16; 64], k: usize) -> bool
+    requires { ⌜ k < 64 ⌝ }
+    ensures { λ r. ⌜ ((car : Vehicle) → car .n ≡ now (n .entry) → car .p ≡ now (p .entry) → r ≡ point-good car k) ⌝ }
+{
+    if !within(1, 16000, n[k]) {
+        return false;
+    }
+    if !point_rises(n, k) {
+        return false;
+    }
+    p[k] <= 5000
+}
+
+// So are the points 0 to points - 1.
+fn points_good<'a>(n: &'a [u16; 64], p: &'a [u16; 64], points: u16) -> bool
+    requires { ⌜ points ≤ 64 ⌝ }
+    ensures { λ r. ⌜ ((car : Vehicle) → car .n ≡ now (n .entry) → car .p ≡ now (p .entry) → r ≡ every (point-good car) 0 points) ⌝ }
+{
+    let end = points as usize;
+    let mut k: usize = 0;
+    while k < end {
+        if !point_good(n, p, k) {
+            return false;
+        }
+        k += 1;
+    }
+    true
+}
+
+// Above lo, and at most hi.
+fn above(lo: u16, hi: u16, x: u16) -> bool
+    ensures { λ r. ⌜ r ≡ (ltb lo x and leb x hi) ⌝ }
+{
+    if x <= lo {
+        return false;
+    }
+    x <= hi
+}
+
+// F1 is from -5,000 to 5,000.
+fn f1_good(f1: i32) -> bool
+    ensures { λ r. ⌜ r ≡ (leZ (negℤ (pos 5000)) f1 and leZ f1 (pos 5000)) ⌝ }
+{
+    if -5000 <= f1 {
+        return f1 <= 5000;
+    }
+    false
+}
+
+// The first point's n is at most idle, the last point's at least nmax.
+fn ends_good(n: &[u16; 64], points: u16, idle: u16, nmax: u16) -> bool
+    requires { ⌜ Points points ⌝ }
+    ensures { λ r. ⌜ r ≡ (leb (at (now (n .entry)) 0) idle and leb nmax (at (now (n .entry)) (points - 1))) ⌝ }
+{
+    if n[0] > idle {
+        return false;
+    }
+    let last = points as usize - 1;
+    nmax <= n[last]
+}
+
+// The first field out of bounds is refused.
+pub fn check_vehicle(car: Vehicle) -> Answer
+    ensures { λ r. ⌜ said r ≡ vehicle-fault car ⌝ }
+{
+    if !within(2, 10, car.ng) {
+        return Answer::Refused(Refusal::VehicleField(1));
+    }
+    if !ratios_good(&car.ratio, car.ng) {
+        return Answer::Refused(Refusal::VehicleField(2));
+    }
+    if !within(300, 3000, car.idle) {
+        return Answer::Refused(Refusal::VehicleField(3));
+    }
+    if !above(car.idle, 12000, car.rated) {
+        return Answer::Refused(Refusal::VehicleField(4));
+    }
+    if !within(car.rated, 15000, car.nmax) {
+        return Answer::Refused(Refusal::VehicleField(5));
+    }
+    if car.f0 > 10000 {
+        return Answer::Refused(Refusal::VehicleField(6));
+    }
+    if !f1_good(car.f1) {
+        return Answer::Refused(Refusal::VehicleField(7));
+    }
+    if car.f2 > 20000 {
+        return Answer::Refused(Refusal::VehicleField(8));
+    }
+    if !within(400, 4000, car.tm) {
+        return Answer::Refused(Refusal::VehicleField(9));
+    }
+    if car.margin > 50 {
+        return Answer::Refused(Refusal::VehicleField(10));
+    }
+    if !within(2, 64, car.points) {
+        return Answer::Refused(Refusal::VehicleField(11));
+    }
+    if !points_good(&car.n, &car.p, car.points) {
+        return Answer::Refused(Refusal::VehicleField(12));
+    }
+    if !ends_good(&car.n, car.points, car.idle, car.nmax) {
+        return Answer::Refused(Refusal::VehicleField(13));
+    }
+    Answer::Done
+}

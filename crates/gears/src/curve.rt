@@ -1,0 +1,79 @@
+// The full-load power curve: the segment of an engine speed, and the power there.
+ghost use mathlib.Core.Path.{_≡_};
+ghost use Prim.Native.Nat.{suc, _*_, _≤_, max};
+ghost use Rattle.rules.specs.Words.{at};
+ghost use Rattle.rules.specs.Gears.{between, power};
+ghost use Rattle.gears.specs.Parts.{vehicle-of};
+ghost use Rattle.gears.specs.Choosing.{Signed, segment-in, Curve, Segment, power-of, Turning};
+use crate::Numbers;
+use crate::Power;
+use crate::second::engine;
+
+// A speed in min^-1 in thousandths, as X is.
+fn thousandths(x: u16) -> u64
+    ensures { λ r. ⌜ r ≡ 1000 * x ⌝ }
+{
+    1000 * (x as u64)
+}
+
+// A number of the record with a sign.
+fn signed(x: u16) -> i64
+    ensures { λ r. ⌜ Signed x r ⌝ }
+{
+    x as i64
+}
+
+// The segment of x, found by halving: the segment is from lo up to hi.
+pub fn segment(n: &[u16; 64], points: u16, x: u64) -> usize
+    requires { ⌜ Curve (now n) points x ⌝ }
+    ensures { λ r. ⌜ r ≡ segment-in (now (n .entry)) points x ⌝ }
+{
+    let mut lo: usize = 0;
+    let mut hi: usize = points as usize - 2;
+    while lo < hi {
+        let mid = (lo + hi) / 2;
+        if x <= thousandths(n[mid + 1]) {
+            hi = mid;
+        } else {
+            lo = mid + 1;
+        }
+    }
+    lo
+}
+
+// The power at x on a segment.
+fn on_segment<'a>(n: &'a [u16; 64], p: &'a [u16; 64], x: u64, s: usize) -> Power
+    requires { ⌜ Segment x s ⌝ }
+    ensures { λ r. ⌜ power-of r ≡ between (at (now (n .entry)) s) (at (now (p .entry)) s) (at (now (n .entry)) (suc s)) (at (now (p .entry)) (suc s)) x ⌝ }
+{
+    let n1 = signed(n[s]);
+    let p1 = signed(p[s]);
+    let w = signed(n[s + 1]) - n1;
+    let q = 1000 * p1 * w + (signed(p[s + 1]) - p1) * (x as i64 - 1000 * n1);
+    Power { q: q, w: w }
+}
+
+// The engine speed at which power is read: the larger of X and 1000 x idle.
+fn power_speed(idle: u16, x: u64) -> u64
+    ensures { λ r. ⌜ r ≡ max x (1000 * idle) ⌝ }
+{
+    let least = thousandths(idle);
+    if x < least { least } else { x }
+}
+
+// The power at a gear.
+pub fn power_at<'a>(
+    k: Numbers,
+    ratio: &'a [u16; 10],
+    n: &'a [u16; 64],
+    p: &'a [u16; 64],
+    v: u16,
+    g: usize,
+) -> Power
+    requires { ⌜ Turning (vehicle-of k (now ratio) (now n) (now p)) v g ⌝ }
+    ensures { λ r. ⌜ power-of r ≡ power (vehicle-of k (now (ratio .entry)) (now (n .entry)) (now (p .entry))) v g ⌝ }
+{
+    let x = power_speed(k.idle, engine(ratio, g, v));
+    let s = segment(n, k.points, x);
+    on_segment(n, p, x, s)
+}

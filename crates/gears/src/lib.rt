@@ -1,0 +1,61 @@
+// One second of document 01's rules, as code. The vehicle's arrays are lent and its numbers passed in a small struct, so that nothing
+// hot copies the record.
+ghost use mathlib.Core.Path.{_≡_};
+ghost use Rattle.gears.specs.Parts.{numbers-of};
+
+mod bounds;
+mod choice;
+mod curve;
+mod second;
+
+pub use bounds::check_vehicle;
+pub use choice::first_choice;
+use rules::Vehicle;
+pub use second::engine;
+pub use second::floor;
+pub use second::some_fits;
+pub use second::step_of;
+
+// The vehicle's numbers, without its arrays.
+pub struct Numbers {
+    pub ng: u16,
+    pub idle: u16,
+    pub rated: u16,
+    pub nmax: u16,
+    pub f0: u16,
+    pub f1: i32,
+    pub f2: u16,
+    pub tm: u16,
+    pub margin: u16,
+    pub points: u16,
+}
+
+// The power at a gear: Q/(1000 w) tenths of kW.
+pub struct Power {
+    pub q: i64,
+    pub w: i64,
+}
+
+// A gear and its power; gear 0 where none has been met.
+pub struct Best {
+    pub gear: usize,
+    pub power: Power,
+}
+
+// The numbers of a vehicle.
+pub fn numbers_of(car: Vehicle) -> Numbers
+    ensures { λ r. ⌜ r ≡ numbers-of car ⌝ }
+{
+    Numbers {
+        ng: car.ng,
+        idle: car.idle,
+        rated: car.rated,
+        nmax: car.nmax,
+        f0: car.f0,
+        f1: car.f1,
+        f2: car.f2,
+        tm: car.tm,
+        margin: car.margin,
+        points: car.points,
+    }
+}

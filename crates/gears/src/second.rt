@@ -1,0 +1,120 @@
+// One second of a trip: engine speed, minimum speed, which gears fit, the floor, the step D and the required power E.
+ghost use mathlib.Core.Path.{_≡_};
+ghost use mathlib.Core.Bool.{not};
+ghost use mathlib.Core.List.{List};
+ghost use Prim.Native.Nat.{ℕ, _+_, _-_, _*_, _≤_};
+ghost use lib.Dec.{eqb};
+ghost use lib.IntN.{pos, _-ℤ_};
+ghost use Rattle.rules.specs.Words.{at, highest};
+ghost use Rattle.rules.specs.Gears.{minimum, fits, required};
+ghost use Rattle.rules.specs.Corrections.{floor};
+ghost use Rattle.gears.specs.Parts.{vehicle-of};
+ghost use Rattle.gears.specs.Second.{Gear, Lowest, GearOf, Geared, Load};
+use crate::Numbers;
+
+// A number of the record, wide enough for a product with another.
+fn wide(x: u16) -> u64
+    ensures { λ r. ⌜ (r ≡ x) × (r ≤ 65535) ⌝ }
+{
+    x as u64
+}
+
+// Engine speed X = G x V.
+pub fn engine(ratio: &[u16; 10], g: usize, v: u16) -> u64
+    requires { ⌜ Gear g ⌝ }
+    ensures { λ r. ⌜ r ≡ at (now (ratio .entry)) (g - 1) * v ⌝ }
+{
+    wide(ratio[g - 1]) * wide(v)
+}
+
+// The minimum speed of a gear, rounded to the nearest whole, halves up.
+pub fn minimum(k: Numbers, g: usize) -> u64
+    requires { ⌜ Lowest k g ⌝ }
+    ensures speed { λ r. ⌜ ((ratio n p : List ℕ) → r ≡ minimum (vehicle-of k ratio n p) g) ⌝ }
+    ensures small { λ r. ⌜ r ≤ 131070 ⌝ }
+{
+    let idle = wide(k.idle);
+    let rated = wide(k.rated);
+    match g {
+        1 => idle,
+        2 => (9 * idle + 5) / 10,
+        _ => idle + (rated - idle + 4) / 8,
+    }
+}
+
+// The engine speed X of nmax, which no gear may pass.
+fn top(k: Numbers) -> u64
+    ensures { λ r. ⌜ r ≡ 1000 * k .nmax ⌝ }
+{
+    1000 * wide(k.nmax)
+}
+
+// Whether a gear fits.
+pub fn fits(k: Numbers, ratio: &[u16; 10], first: bool, v: u16, g: usize) -> bool
+    requires { ⌜ GearOf k g ⌝ }
+    ensures { λ r. ⌜ ((n p : List ℕ) → r ≡ fits (vehicle-of k (now (ratio .entry)) n p) (record { first-second = first }) v g) ⌝ }
+{
+    let x = engine(ratio, g, v);
+    if top(k) < x {
+        return false;
+    }
+    if g == 1 {
+        return true;
+    }
+    if first {
+        return false;
+    }
+    1000 * minimum(k, g) <= x
+}
+
+// Whether some gear fits, by engine speed alone.
+pub fn some_fits(k: Numbers, ratio: &[u16; 10], first: bool, v: u16) -> bool
+    requires { ⌜ Geared k ⌝ }
+    ensures { λ r. ⌜ ((n p : List ℕ) → r ≡ not (eqb (highest (fits (vehicle-of k (now (ratio .entry)) n p) (record { first-second = first }) v) (k .ng)) 0)) ⌝ }
+{
+    let ng = k.ng as usize;
+    let mut g: usize = 1;
+    while g <= ng {
+        if fits(k, ratio, first, v, g) {
+            return true;
+        }
+        g += 1;
+    }
+    false
+}
+
+// The floor: the lowest gear whose X is at most 1000 x nmax; ng + 1 where there is none.
+pub fn floor(k: Numbers, ratio: &[u16; 10], v: u16) -> usize
+    requires { ⌜ k .ng ≤ 10 ⌝ }
+    ensures { λ r. ⌜ ((n p : List ℕ) → r ≡ floor (vehicle-of k (now (ratio .entry)) n p) v) ⌝ }
+{
+    let ng = k.ng as usize;
+    let most = top(k);
+    let mut g: usize = 1;
+    while g <= ng {
+        if engine(ratio, g, v) <= most {
+            return g;
+        }
+        g += 1;
+    }
+    g
+}
+
+// D: the next V less this V.
+pub fn step_of(this: u16, next: u16) -> i64
+    ensures { λ r. ⌜ r ≡ pos next -ℤ pos this ⌝ }
+{
+    next as i64 - this as i64
+}
+
+// Required power E, negative while braking.
+pub fn required(k: Numbers, v: u16, d: i64) -> i64
+    requires { ⌜ Load k v d ⌝ }
+    ensures { λ r. ⌜ ((ratio n p : List ℕ) → r ≡ required (vehicle-of k ratio n p) v d) ⌝ }
+{
+    let v = v as i64;
+    9_000_000 * (k.f0 as i64) * v
+        + 9_000 * (k.f1 as i64) * v * v
+        + 9 * (k.f2 as i64) * v * v * v
+        + 2_575_000 * d * v * (k.tm as i64)
+}
