@@ -9,9 +9,14 @@ pub mod Power
 pub mod Sizes
 pub mod Strongest
 pub mod Choice
+pub mod Passes
+pub mod Seconds
+pub mod Closing
+pub mod Clutch
 pub mod Held
 pub mod Limits
 pub mod Checks
+pub mod OnePass
 pub mod Cards
 pub mod Want
 pub mod Edits

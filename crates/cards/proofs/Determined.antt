@@ -1,0 +1,12 @@
+-- Each public function's contract allows one outcome. `Reads` is the contract's own reading, which the check makes of the clauses.
+-- Assumes nothing.
+use mathlib.Core.Path.{_≡_, sym, _∙_, ap}
+use mathlib.Core.List.{List}
+use Prim.Native.Nat.{ℕ}
+use Rattle.rules.specs.Laws.Refusals.{said-once}
+use Rattle.once.specs.Determined.{Determined}
+use Rattle.cards.proofs.whole.work.Kinds as work-kinds
+use Rattle.cards.proofs.whole.work.Reads as work-reads
+
+pub work : Determined work-kinds.ps work-kinds.r work-reads.Asked work-reads.Learnt
+work κs a asked z z′ ws ws′ p q = (said-once z z′ (p .0 ∙ sym (q .0)), ap (λ (x : List ℕ). (tt, (tt, (tt, (x, tt))))) (p .1 ∙ sym (q .1)))

@@ -1,0 +1,115 @@
+use Prim.Native.Nat.{ℕ, _+_, _-_, _%_}
+use native.Mathlib.Omega.{arith}
+use mathlib.Core.Path.{_≡_, ap, _∙_}
+use mathlib.Core.List.{List, _++_}
+use lib.ListN.{set, take, drop}
+use borrow.Author.Needs.{needs}
+use borrow.Rule.Slice.PartMut.{postOf, post-is}
+use Rattle.rules.specs.Words.{at}
+use Rattle.cards.proofs.Reworking.{ready, worked}
+use Rattle.cards.proofs.rework.rework.Statement.{statement}
+use Rattle.cards.proofs.rework.rework.Tie as tie
+use Rattle.cards.proofs.rework.rework.Reads as reads
+use Rattle.cards.proofs.rework.rework.Lts as lts
+
+-- src/rework.rt:28:17
+add-after : tie.Need-add-after
+add-after c = search needs
+
+-- src/rework.rt:34:9
+mul-work-trip : tie.Need-mul-work-trip
+mul-work-trip c = search needs
+
+-- src/rework.rt:34:9
+sub-work-trip : tie.Need-sub-work-trip
+sub-work-trip c = search needs
+
+-- src/rework.rt:34:9
+part-work-trip-start : tie.Need-part-work-trip-start
+part-work-trip-start c = search needs
+
+-- src/rework.rt:34:9
+part-work-trip-end : tie.Need-part-work-trip-end
+part-work-trip-end c = search needs
+
+-- src/rework.rt:35:9
+sub-work-trip-2 : tie.Need-sub-work-trip-2
+sub-work-trip-2 c = search needs
+
+-- src/rework.rt:35:9
+part-work-trip-start-2 : tie.Need-part-work-trip-start-2
+part-work-trip-start-2 c = search needs
+
+-- src/rework.rt:35:9
+part-work-trip-end-2 : tie.Need-part-work-trip-end-2
+part-work-trip-end-2 c = search needs
+
+-- src/rework.rt:36:9
+sub-work-trip-3 : tie.Need-sub-work-trip-3
+sub-work-trip-3 c = search needs
+
+-- src/rework.rt:36:9
+part-work-trip-start-3 : tie.Need-part-work-trip-start-3
+part-work-trip-start-3 c = search needs
+
+-- src/rework.rt:36:9
+part-work-trip-end-3 : tie.Need-part-work-trip-end-3
+part-work-trip-end-3 c = search needs
+
+-- src/rework.rt:29:5
+work-trip-requires : tie.Need-work-trip-requires
+work-trip-requires c κs = ready (c .before .before .before .before .before .before .pre)
+
+-- src/rework.rt:38:17
+slice-read-first : tie.Need-slice-read-first
+slice-read-first c = search needs
+
+-- src/rework.rt:39:19
+add-card : tie.Need-add-card
+add-card c = search needs
+
+-- src/rework.rt:39:10
+sub-card : tie.Need-sub-card
+sub-card c = search needs
+
+-- src/rework.rt:39:5
+slice-write-card : tie.Need-slice-write-card
+slice-write-card c = search needs
+
+-- src/rework.rt:14:1
+same-length : tie.Need-same-length
+same-length c = search needs
+
+-- src/rework.rt:14:1
+returns : tie.Need-returns
+returns c =
+    let s = c .before .before .before .before .before .before .before .before .before .before in
+    let a = s .args .a in
+    let b = s .args .b in
+    let old : List ℕ = s .args .card .now in
+    let z : List ℕ = c .before .before .before .work-trip .last .1 .1 .1 .1 .1 .1 .0 in
+    let m : take a old ++ (z ++ postOf a (b - a) old) ≡ take a old ++ (z ++ drop b old) = ap (λ (r : List ℕ). take a old ++ (z ++ r)) (post-is a b old (omega (arith, s .pre .trip .some-second))) in
+    ap (λ (r : List ℕ). set r (a - 1) (16 + at r a % 16)) m ∙ worked (s .pre) z (c .before .before .before .work-trip .ensures)
+
+pub rework-spec : {M : Type 1} → statement M
+rework-spec =
+    tie.close
+    (tie.spec
+    add-after
+    mul-work-trip
+    sub-work-trip
+    part-work-trip-start
+    part-work-trip-end
+    sub-work-trip-2
+    part-work-trip-start-2
+    part-work-trip-end-2
+    sub-work-trip-3
+    part-work-trip-start-3
+    part-work-trip-end-3
+    work-trip-requires
+    slice-read-first
+    add-card
+    sub-card
+    slice-write-card
+    same-length
+    returns)

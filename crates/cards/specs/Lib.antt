@@ -1,0 +1,2 @@
+pub mod Rework
+pub mod Checks

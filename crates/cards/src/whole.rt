@@ -1,0 +1,36 @@
+// The whole working.
+ghost use mathlib.Core.Path.{_≡_};
+ghost use Rattle.rules.specs.Refusals.{said, work-fault, work-card};
+use crate::checks::check_span;
+use crate::opening::check_opening;
+use crate::rework::sweep;
+use gears::numbers_of;
+use rules::Answer;
+use rules::Vehicle;
+
+// The card of a trace, or the first refusal of the table; nothing is written before every check has passed.
+pub fn work<'a>(vehicle: Vehicle, speeds: &'a [u16], holds: &'a [u8], card: &mut [u8]) -> Answer
+    ensures answer { λ r. ⌜ said r ≡ work-fault vehicle (now (speeds .entry)) (now (holds .entry)) (now (card .entry)) ⌝ }
+    ensures card { λ r. ⌜ now (card .exit) ≡ work-card vehicle (now (speeds .entry)) (now (holds .entry)) (now (card .entry)) ⌝ }
+{
+    let seconds = speeds.len();
+    let opening = check_opening(vehicle, seconds, holds.len(), card.len());
+    let Answer::Done = opening else {
+        return opening;
+    };
+    let k = numbers_of(vehicle);
+    let span = check_span(k, &vehicle.ratio, speeds, holds, seconds, 0, 0, seconds);
+    let Answer::Done = span else {
+        return span;
+    };
+    sweep(
+        k,
+        &vehicle.ratio,
+        &vehicle.n,
+        &vehicle.p,
+        speeds,
+        holds,
+        card,
+    );
+    Answer::Done
+}

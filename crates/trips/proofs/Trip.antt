@@ -1,0 +1,54 @@
+-- What the calls of one trip's work come to, one after the other.
+-- Assumes nothing.
+use Prim.Native.Nat.{ℕ, suc, _≤_, _<_}
+use native.Mathlib.Omega.{arith}
+use mathlib.Core.Path.{_≡_, sym, ap, _∙_}
+use mathlib.Core.List.{List}
+use lib.Dec.{eqb}
+use lib.IntN.{ℤ}
+use lib.ListN.{length}
+use Rattle.rules.specs.declared.Vehicle.{Vehicle}
+use Rattle.rules.specs.Words.{at, pass, table}
+use Rattle.rules.specs.Units.{rise}
+use Rattle.rules.specs.Corrections.{here, first-choice, peak, rising, slowing, firsts, after-A, after-B, gears, byte}
+use Rattle.rules.specs.Laws.Closing.{Moving}
+use Rattle.rules.specs.Laws.Held.{length-gears}
+use Rattle.rules.specs.Laws.Passes.{gears-to}
+use Rattle.gears.specs.Choosing.{first-of, first-parts}
+use Rattle.rules.specs.Laws.Work.{trip-bytes}
+use Rattle.trips.specs.Ready.{HasRoom, Ready}
+
+module _ (car : Vehicle) (us hs : List ℕ) where
+  -- the choice for D is the first choice of second j, whatever gears stand in the trip
+  pub chosen : (j v : ℕ) (d : ℤ) → d ≡ rise us j → v ≡ first-of car (record { first-second = eqb j 0 }) (at us j) d (at hs j)
+      → (gs : List ℕ) → v ≡ first-choice car us hs j gs
+  unfolding here
+  chosen j v d e h gs = rw (h, e) (sym (first-parts car us hs j gs))
+
+  -- first choices, then the three passes: the trip's gears
+  pub gears-is : {f a b g : List ℕ} → f ≡ firsts car us hs → a ≡ pass (peak car us hs) (length hs) f → b ≡ pass (rising car us hs) (length hs) a
+      → g ≡ pass (slowing car us hs) (length hs) b → g ≡ gears car us hs
+  unfolding gears after-B after-A
+  gears-is p q r s = rw (s, r, q, p)
+
+  -- then the bytes
+  pub bytes-is : {g t : List ℕ} → g ≡ gears car us hs → t ≡ table (λ j. byte car us j (at g j)) 0 (length g) → t ≡ trip-bytes car us hs
+  unfolding trip-bytes
+  bytes-is p q = rw (q, p, length-gears car us hs)
+
+  module _ {gs : List ℕ} (R : Ready car us hs gs) where
+    -- every second of a trip that is ready is moving
+    pub moves-on : Moving us
+    moves-on = record { second = λ i h. R .moves i (omega (arith, R .lists .speeds)) }
+
+    -- the trip's gears leave room for the clutch
+    pub gears-small : {g : List ℕ} → g ≡ gears car us hs → HasRoom us g
+    gears-small {g} e =
+        let n : length g ≡ length hs = ap length e ∙ length-gears car us hs in
+        record {
+          speeds = omega (arith, R .lists .speeds);
+          small = λ j h.
+              let l : j < length hs = omega arith in
+              let b : at (gears car us hs) j ≤ suc (car .ng) = gears-to car (R .pace .vehicle) us hs j l (R .hold j l) in
+              rw e (omega (arith, R .pace .vehicle .ng-to));
+        }

@@ -1,0 +1,65 @@
+-- `trips::byte::byte_at` meets its contract, by one law of the byte for each return.
+-- Assumes nothing.
+use native.Mathlib.Omega.{arith}
+use Rattle.rules.specs.Units.{ratio-of}
+use Rattle.rules.specs.Gears.{engine}
+use Rattle.rules.specs.Laws.Clutch.{byte-rising, byte-up, byte-down}
+use Rattle.gears.specs.Parts.{vehicle-of}
+use borrow.Author.Needs.{needs}
+use Rattle.trips.proofs.byte.byte_at.Statement.{statement}
+use Rattle.trips.proofs.byte.byte_at.Tie as tie
+use Rattle.trips.proofs.byte.byte_at.Reads as reads
+use Rattle.trips.proofs.byte.byte_at.Lts as lts
+use Rattle.trips.proofs.byte.bottom.Reads as bottom-reads
+use Rattle.trips.proofs.byte.turning.Reads as turning-reads
+
+mul-v : tie.Need-mul-v
+mul-v c = search needs
+
+shared-slice-read-v : tie.Need-shared-slice-read-v
+shared-slice-read-v c = search needs
+
+add-next : tie.Need-add-next
+add-next c = search needs
+
+mul-next : tie.Need-mul-next
+mul-next c = search needs
+
+shared-slice-read-next : tie.Need-shared-slice-read-next
+shared-slice-read-next c = search needs
+
+returns : tie.Need-returns
+returns c = let a = c .before .before .before .before .args in λ n p. let car = vehicle-of (a .k) (a .ratio .now) n p in byte-rising car (a .us .now) (a .j) (a .g) (omega arith) (omega arith)
+
+bottom-requires : tie.Need-bottom-requires
+bottom-requires c κs = search needs
+
+turning-requires : tie.Need-turning-requires
+turning-requires c κs = search needs
+
+returns-2 : tie.Need-returns-2
+unfolding engine ratio-of
+returns-2 c = let a = c .before .before .before .before .before .before .before .before .args in λ n p. let car = vehicle-of (a .k) (a .ratio .now) n p in byte-up car (a .us .now) (a .j) (a .g) (omega (arith, c .if2 .taken))
+
+add-result : tie.Need-add-result
+add-result c = search needs
+
+returns-3 : tie.Need-returns-3
+unfolding engine ratio-of
+returns-3 c = let a = c .before .before .before .before .before .before .before .before .args in λ n p. let car = vehicle-of (a .k) (a .ratio .now) n p in byte-down car (a .us .now) (a .j) (a .g) (omega arith) (omega arith) (omega (arith, c .if2 .left))
+
+pub byte-at-spec : {M : Type 1} → statement M
+byte-at-spec =
+    tie.close
+    (tie.spec
+    mul-v
+    shared-slice-read-v
+    add-next
+    mul-next
+    shared-slice-read-next
+    returns
+    bottom-requires
+    turning-requires
+    returns-2
+    add-result
+    returns-3)

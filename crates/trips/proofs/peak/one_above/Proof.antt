@@ -1,0 +1,26 @@
+-- `trips::peak::one_above` meets its contract.
+-- Assumes nothing.
+use native.Mathlib.Omega.{arith}
+use mathlib.Core.Path.{_∙_}
+use Rattle.rules.specs.Laws.Seconds.{above-right, above-left}
+use borrow.Author.Needs.{needs}
+use Rattle.trips.proofs.peak.one_above.Statement.{statement}
+use Rattle.trips.proofs.peak.one_above.Tie as tie
+use Rattle.trips.proofs.peak.one_above.Reads as reads
+use Rattle.trips.proofs.peak.one_above.Lts as lts
+use Rattle.trips.proofs.peak.over.Reads as over-reads
+
+over-requires : tie.Need-over-requires
+over-requires c κs = search needs
+
+returns : tie.Need-returns
+returns c = c .over .ensures ∙ above-right (c .before .before .args .p) (c .before .before .args .g) (c .before .before .args .q) (omega arith)
+
+over-requires-2 : tie.Need-over-requires-2
+over-requires-2 c κs = search needs
+
+returns-2 : tie.Need-returns-2
+returns-2 c = c .over2 .ensures ∙ above-left (c .before .before .args .p) (c .before .before .args .g) (c .before .before .args .q) (omega arith)
+
+pub one-above-spec : {M : Type 1} → statement M
+one-above-spec = tie.close (tie.spec over-requires returns over-requires-2 returns-2)

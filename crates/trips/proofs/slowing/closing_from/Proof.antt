@@ -1,0 +1,78 @@
+-- `trips::slowing::closing_from` meets its contract. The loop's invariant: every second from j on is in the closing run.
+-- Assumes nothing.
+use native.Mathlib.Omega.{arith}
+use borrow.Author.Needs.{needs}
+use Rattle.rules.specs.Laws.Closing.{Closing, run-start, run-never, run-more, run-stops, run-whole}
+use Rattle.trips.proofs.slowing.closing_from.Statement.{statement}
+use Rattle.trips.proofs.slowing.closing_from.Tie as tie
+use Rattle.trips.proofs.slowing.closing_from.Reads as reads
+use Rattle.trips.proofs.slowing.closing_from.Lts as lts
+
+abbrev Inv-loop : tie.InvT-loop
+Inv-loop us j₀ j = Closing us j
+
+abbrev μ-loop : tie.MeasureT-loop
+μ-loop us j₀ j = j
+
+sub-j : tie.Need-sub-j Inv-loop μ-loop
+sub-j c = search needs
+
+mul-if1 : tie.Need-mul-if1 Inv-loop μ-loop
+mul-if1 c = search needs
+
+shared-slice-read-if1 : tie.Need-shared-slice-read-if1 Inv-loop μ-loop
+shared-slice-read-if1 c = search needs
+
+returns : tie.Need-returns Inv-loop μ-loop
+returns c = run-never (c .before .before .args .us .now) (c .before .before .pre .0) _ (omega arith) (omega arith)
+
+loop-holds : tie.Need-loop-holds Inv-loop μ-loop
+loop-holds c = run-start (c .before .before .args .us .now) _ (omega arith) (omega arith)
+
+sub-i : tie.Need-sub-i Inv-loop μ-loop
+sub-i c = search needs
+
+mul-if2 : tie.Need-mul-if2 Inv-loop μ-loop
+mul-if2 c = search needs
+
+shared-slice-read-if2 : tie.Need-shared-slice-read-if2 Inv-loop μ-loop
+shared-slice-read-if2 c = search needs
+
+mul-if2-2 : tie.Need-mul-if2-2 Inv-loop μ-loop
+mul-if2-2 c = search needs
+
+shared-slice-read-if2-2 : tie.Need-shared-slice-read-if2-2 Inv-loop μ-loop
+shared-slice-read-if2-2 c = search needs
+
+returns-2 : tie.Need-returns-2 Inv-loop μ-loop
+returns-2 c = run-stops (c .before .before .before .before .before .before .before .args .us .now) (c .before .before .before .before .loop .inv) (c .before .before .before .before .before .before .before .pre .0) (omega arith) (omega arith)
+
+loop-less : tie.Need-loop-less Inv-loop μ-loop
+loop-less c = search needs
+
+loop-again : tie.Need-loop-again Inv-loop μ-loop
+loop-again c = run-more (c .before .before .before .before .before .before .before .args .us .now) (c .before .before .before .before .loop .inv) (omega arith) (omega arith)
+
+returns-3 : tie.Need-returns-3 Inv-loop μ-loop
+returns-3 c = run-whole (c .before .before .before .before .args .us .now) (c .before .loop .inv) (omega arith)
+
+pub closing-from-spec : {M : Type 1} → statement M
+closing-from-spec =
+    tie.close
+    (tie.spec
+    Inv-loop
+    μ-loop
+    sub-j
+    mul-if1
+    shared-slice-read-if1
+    returns
+    loop-holds
+    sub-i
+    mul-if2
+    shared-slice-read-if2
+    mul-if2-2
+    shared-slice-read-if2-2
+    returns-2
+    loop-less
+    loop-again
+    returns-3)

@@ -1,0 +1,32 @@
+-- `trips::slowing::slowing_at` meets its contract, by one law of pass C for each return.
+-- Assumes nothing.
+use native.Mathlib.Omega.{arith}
+use Rattle.rules.specs.Laws.Seconds.{free-held, free-first, free-later, slowing-still, slowing-up, slowing-other}
+use borrow.Author.Needs.{needs}
+use Rattle.trips.proofs.slowing.slowing_at.Statement.{statement}
+use Rattle.trips.proofs.slowing.slowing_at.Tie as tie
+use Rattle.trips.proofs.slowing.slowing_at.Reads as reads
+use Rattle.trips.proofs.slowing.slowing_at.Lts as lts
+
+shared-slice-read-g : tie.Need-shared-slice-read-g
+shared-slice-read-g c = search needs
+
+shared-slice-read-if1 : tie.Need-shared-slice-read-if1
+shared-slice-read-if1 c = search needs
+
+returns : tie.Need-returns
+returns c = let a = c .before .before .before .args in λ car us e. slowing-still car us (a .hs .now) (a .j) (a .gs .now) (free-held car us (a .hs .now) (a .j) (λ z. omega arith))
+
+returns-2 : tie.Need-returns-2
+returns-2 c = let a = c .before .before .before .before .args in λ car us e. slowing-still car us (a .hs .now) (a .j) (a .gs .now) (free-first car us (a .hs .now) (a .j) (omega arith))
+
+returns-3 : tie.Need-returns-3
+returns-3 c = let a = c .before .before .before .before .before .args in λ car us e. slowing-up car us (a .hs .now) (a .j) (a .gs .now) (free-later car us (a .hs .now) (a .j) (omega arith) (omega arith)) e (omega arith)
+
+returns-4 : tie.Need-returns-4
+returns-4 c = let a = c .before .before .before .before .before .args in λ car us e. slowing-other car us (a .hs .now) (a .j) (a .gs .now) (λ z. omega arith)
+
+pub slowing-at-spec : {M : Type 1} → statement M
+slowing-at-spec =
+    tie.close
+    (tie.spec shared-slice-read-g shared-slice-read-if1 returns returns-2 returns-3 returns-4)

@@ -1,0 +1,75 @@
+-- `trips::work::first_choices` meets its contract. The loop's invariant: the slice holds the first choices up to second j.
+-- Assumes nothing.
+use Prim.Native.Nat.{ℕ, _≤_, _-_}
+use mathlib.Core.Path.{_≡_, refl, ap, _∙_}
+use native.Mathlib.Omega.{arith}
+use lib.ListN.{length, length-set}
+use Rattle.rules.specs.Words.{pass}
+use Rattle.rules.specs.Corrections.{first-choice}
+use Rattle.rules.specs.Laws.Passes.{pass-start, pass-more, firsts-fresh}
+use Rattle.gears.specs.Parts.{vehicle-of}
+use Rattle.trips.proofs.work.first_choices.Statement.{statement}
+use Rattle.trips.proofs.work.first_choices.Tie as tie
+use Rattle.trips.proofs.work.first_choices.Reads as reads
+use Rattle.trips.proofs.work.first_choices.Lts as lts
+use Rattle.trips.proofs.work.choice_at.Reads as choice-at-reads
+
+abbrev Inv-loop : tie.InvT-loop
+Inv-loop k ratio n p us hs gs₀ j₀ gs j = (j ≤ length gs) × (length gs ≡ length gs₀) × (gs ≡ pass (first-choice (vehicle-of k ratio n p) us hs) j gs₀)
+
+abbrev μ-loop : tie.MeasureT-loop
+μ-loop k ratio n p us hs gs₀ j₀ gs j = length gs - j
+
+loop-holds : tie.Need-loop-holds Inv-loop μ-loop
+loop-holds c = (omega arith, refl, pass-start _ _)
+
+choice-at-requires : tie.Need-choice-at-requires Inv-loop μ-loop
+choice-at-requires c κs =
+    let s = c .before .before .before .before .before in
+    let l = c .before .loop in
+    (s .pre .0, record { speeds = s .pre .1 .speeds; inside = omega (arith, l .inv, s .pre .1) })
+
+slice-write-gs : tie.Need-slice-write-gs Inv-loop μ-loop
+slice-write-gs c = omega arith
+
+add-j : tie.Need-add-j Inv-loop μ-loop
+add-j c = omega arith
+
+loop-less : tie.Need-loop-less Inv-loop μ-loop
+loop-less c = simp length-set (omega arith)
+
+loop-again : tie.Need-loop-again Inv-loop μ-loop
+loop-again c =
+    let s = c .before .before .before .before .before .before in
+    let a = s .args in
+    let l = c .before .before .loop in (
+      simp length-set (omega arith),
+      simp length-set (l .inv .1),
+      pass-more (first-choice (vehicle-of (a .k) (a .ratio .now) (a .n .now) (a .p .now)) (a .us .now) (a .hs .now)) (a .gs .now) (l .gs) (l .j) (c .choice-at .result) (l .inv .2) (c .choice-at .ensures (l .gs)),
+    )
+
+same-length : tie.Need-same-length Inv-loop μ-loop
+same-length c = c .before .loop .inv .1
+
+returns : tie.Need-returns Inv-loop μ-loop
+returns c =
+    let s = c .before .before .before .before .before in
+    let a = s .args in
+    let l = c .before .loop in
+    let e : l .j ≡ length (a .hs .now) = omega (arith, l .inv, s .pre .1) in
+    l .inv .2 ∙ ap (λ (i : ℕ). pass (first-choice (vehicle-of (a .k) (a .ratio .now) (a .n .now) (a .p .now)) (a .us .now) (a .hs .now)) i (a .gs .now)) e ∙ firsts-fresh (vehicle-of (a .k) (a .ratio .now) (a .n .now) (a .p .now)) (a .us .now) (a .hs .now) (a .gs .now) (s .pre .1 .gears)
+
+pub first-choices-spec : {M : Type 1} → statement M
+first-choices-spec =
+    tie.close
+    (tie.spec
+    Inv-loop
+    μ-loop
+    loop-holds
+    choice-at-requires
+    slice-write-gs
+    add-j
+    loop-less
+    loop-again
+    same-length
+    returns)

@@ -1,0 +1,68 @@
+// The card's bytes of one trip.
+ghost use mathlib.Core.Path.{_≡_};
+ghost use mathlib.Core.List.{List};
+ghost use Prim.Native.Nat.{ℕ, _+_, _-_, _*_, _≤_, _<_};
+ghost use lib.ListN.{length};
+ghost use Rattle.rules.specs.Words.{at, table};
+ghost use Rattle.rules.specs.Corrections.{byte};
+ghost use Rattle.gears.specs.Parts.{vehicle-of};
+ghost use Rattle.trips.specs.Ready.{HasRoom};
+use gears::Numbers;
+
+// Where a gear's ratio stands. A gear that is none, 0, has gear 1's.
+fn place(g: u8) -> usize
+    ensures { λ r. ⌜ r ≡ g - 1 ⌝ }
+{
+    if g < 1 {
+        return 0;
+    }
+    g as usize - 1
+}
+
+// Engine speed X = G x V of any gear. Past the last ratio there is none, and X is 0.
+fn turning(ratio: &[u16], g: u8, v: u16) -> u64
+    ensures { λ r. ⌜ r ≡ at (now (ratio .entry)) (g - 1) * v ⌝ }
+{
+    let i = place(g);
+    if ratio.len() <= i {
+        return 0;
+    }
+    ratio[i] as u64 * (v as u64)
+}
+
+// The engine speed X of idle.
+fn bottom(k: Numbers) -> u64
+    ensures { λ r. ⌜ r ≡ 1000 * k .idle ⌝ }
+{
+    1000 * (k.idle as u64)
+}
+
+// The byte of second j, whose gear is g: plus 16 with the clutch down.
+pub fn byte_at(k: Numbers, ratio: &[u16; 10], us: &[u16], j: usize, g: u8) -> u8
+    requires { ⌜ (j + 1 < length (now us)) × (g ≤ 239) ⌝ }
+    ensures { λ r. ⌜ ((n p : List ℕ) → r ≡ byte (vehicle-of k (now (ratio .entry)) n p) (now (us .entry)) j g) ⌝ }
+{
+    let v = us[j];
+    let next = us[j + 1];
+    if v < next {
+        return g;
+    }
+    if bottom(k) <= turning(ratio, g, v) {
+        return g;
+    }
+    g + 16
+}
+
+// A trip's gears become its bytes.
+pub fn bytes(k: Numbers, ratio: &[u16; 10], us: &[u16], gs: &mut [u8])
+    requires { ⌜ HasRoom (now us) (now gs) ⌝ }
+    ensures { λ r. ⌜ ((n p : List ℕ) → now (gs .exit) ≡ table (λ j. byte (vehicle-of k (now (ratio .entry)) n p) (now (us .entry)) j (at (now (gs .entry)) j)) 0 (length (now (gs .entry)))) ⌝ }
+{
+    let mut j = 0;
+    while j < gs.len() {
+        let g = gs[j];
+        let b = byte_at(k, ratio, us, j, g);
+        gs[j] = b;
+        j += 1;
+    }
+}

@@ -1,0 +1,9 @@
+// The work on one trip, from its own speeds with the one that follows, its holds, and its part of the card, in place.
+mod byte;
+mod peak;
+mod rising;
+mod slowing;
+mod work;
+
+pub use work::first_choices;
+pub use work::work_trip;

@@ -1,0 +1,76 @@
+// Pass A: one-second peaks.
+ghost use mathlib.Core.Path.{_≡_};
+ghost use mathlib.Core.List.{List};
+ghost use Prim.Native.Nat.{ℕ, _+_, _≤_, _<_};
+ghost use lib.Dec.{eqb};
+ghost use lib.ListN.{length};
+ghost use Rattle.rules.specs.Words.{_and_, _or_, pass};
+ghost use Rattle.rules.specs.Corrections.{peak};
+ghost use Rattle.rules.specs.Laws.Seconds.{one-above};
+ghost use Rattle.gears.specs.Parts.{vehicle-of};
+ghost use Rattle.trips.specs.Ready.{Aligned};
+use gears::Numbers;
+use gears::floor;
+
+// Whether g is one above high, and one or two above low.
+fn over(low: u8, g: u8, high: u8) -> bool
+    requires { ⌜ low ≤ high ⌝ }
+    ensures { λ r. ⌜ r ≡ (eqb g (high + 1) and (eqb g (low + 1) or eqb g (low + 2))) ⌝ }
+{
+    let g = g as u16;
+    if g != high as u16 + 1 {
+        return false;
+    }
+    g <= low as u16 + 2
+}
+
+// Whether g is one above the larger of p and q, and one or two above the smaller.
+fn one_above(p: u8, g: u8, q: u8) -> bool
+    ensures { λ r. ⌜ r ≡ one-above p g q ⌝ }
+{
+    if p < q {
+        return over(p, g, q);
+    }
+    over(q, g, p)
+}
+
+// What pass A makes of second j.
+pub fn peak_at(k: Numbers, ratio: &[u16; 10], us: &[u16], hs: &[u8], gs: &[u8], j: usize) -> u8
+    requires { ⌜ (k .ng ≤ 10) × Aligned (now us) (now hs) (now gs) × (j < length (now hs)) ⌝ }
+    ensures { λ r. ⌜ ((n p : List ℕ) → r ≡ peak (vehicle-of k (now (ratio .entry)) n p) (now (us .entry)) (now (hs .entry)) j (now (gs .entry))) ⌝ }
+{
+    let g = gs[j];
+    if hs[j] != 0 {
+        return g;
+    }
+    if j < 1 {
+        return g;
+    }
+    if gs.len() <= j + 1 {
+        return g;
+    }
+    let p = gs[j - 1];
+    let q = gs[j + 1];
+    if one_above(p, g, q) {
+        let down = g - 1;
+        let least = floor(k, ratio, us[j]);
+        if least <= down as usize {
+            return down;
+        }
+        return g;
+    }
+    g
+}
+
+// Pass A, one-second peaks.
+pub fn pass_a(k: Numbers, ratio: &[u16; 10], us: &[u16], hs: &[u8], gs: &mut [u8])
+    requires { ⌜ (k .ng ≤ 10) × Aligned (now us) (now hs) (now gs) ⌝ }
+    ensures { λ r. ⌜ ((n p : List ℕ) → now (gs .exit) ≡ pass (peak (vehicle-of k (now (ratio .entry)) n p) (now (us .entry)) (now (hs .entry))) (length (now (hs .entry))) (now (gs .entry))) ⌝ }
+{
+    let mut j = 0;
+    while j < gs.len() {
+        let g = peak_at(k, ratio, us, hs, gs, j);
+        gs[j] = g;
+        j += 1;
+    }
+}

@@ -1,0 +1,61 @@
+// Pass C: the closing run.
+ghost use mathlib.Core.Path.{_≡_};
+ghost use mathlib.Core.Bool.{true};
+ghost use mathlib.Core.List.{List};
+ghost use Prim.Native.Nat.{ℕ, _≤_, _<_};
+ghost use lib.ListN.{length, drop};
+ghost use Rattle.rules.specs.declared.Vehicle.{Vehicle};
+ghost use Rattle.rules.specs.Words.{pass};
+ghost use Rattle.rules.specs.Corrections.{closing, slowing};
+ghost use Rattle.rules.specs.Laws.Closing.{Moving, RunFrom};
+ghost use Rattle.trips.specs.Ready.{Aligned};
+
+// The first second of the closing run, found by one scan back from the trip's end; the trip's length where there is none.
+pub fn closing_from(us: &[u16]) -> usize
+    requires { ⌜ Moving (now us) × (1 ≤ length (now us)) ⌝ }
+    ensures { λ r. ⌜ RunFrom (now (us .entry)) r ⌝ }
+{
+    let mut j = us.len() - 1;
+    if 10 <= us[j] {
+        return j;
+    }
+    while 0 < j {
+        let i = j - 1;
+        if us[i] <= us[j] {
+            return j;
+        }
+        j = i;
+    }
+    j
+}
+
+// What pass C makes of second j of the closing run.
+fn slowing_at(hs: &[u8], gs: &[u8], j: usize) -> u8
+    requires { ⌜ (j < length (now hs)) × (j < length (now gs)) ⌝ }
+    ensures { λ r. ⌜ ((car : Vehicle) (us : List ℕ) → closing (drop j us) ≡ true → r ≡ slowing car us (now (hs .entry)) j (now (gs .entry))) ⌝ }
+{
+    let g = gs[j];
+    if hs[j] != 0 {
+        return g;
+    }
+    if j < 1 {
+        return g;
+    }
+    if g == 1 {
+        return 2;
+    }
+    g
+}
+
+// Pass C, closing run. Seconds before the run stay as they are, so the pass begins where the run does.
+pub fn pass_c(us: &[u16], hs: &[u8], gs: &mut [u8])
+    requires { ⌜ Aligned (now us) (now hs) (now gs) × Moving (now us) ⌝ }
+    ensures { λ r. ⌜ ((car : Vehicle) → now (gs .exit) ≡ pass (slowing car (now (us .entry)) (now (hs .entry))) (length (now (hs .entry))) (now (gs .entry))) ⌝ }
+{
+    let mut j = closing_from(us);
+    while j < gs.len() {
+        let g = slowing_at(hs, gs, j);
+        gs[j] = g;
+        j += 1;
+    }
+}

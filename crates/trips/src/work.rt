@@ -1,0 +1,76 @@
+// The work on one trip: first choices, the three passes, the bytes.
+ghost use mathlib.Core.Path.{_≡_};
+ghost use mathlib.Core.List.{List};
+ghost use Prim.Native.Nat.{ℕ};
+ghost use Rattle.rules.specs.Corrections.{first-choice, firsts};
+ghost use Rattle.gears.specs.Parts.{vehicle-of};
+ghost use Rattle.rules.specs.Laws.Work.{trip-bytes};
+ghost use Rattle.trips.specs.Ready.{Aligned, Second, Paced, Ready};
+use crate::byte::bytes;
+use crate::peak::pass_a;
+use crate::rising::pass_b;
+use crate::slowing::pass_c;
+use gears::Numbers;
+use gears::first_choice;
+use gears::step_of;
+
+// The first choice of second j. It looks at no gear of the trip.
+fn choice_at<'a>(
+    k: Numbers,
+    ratio: &'a [u16; 10],
+    n: &'a [u16; 64],
+    p: &'a [u16; 64],
+    us: &[u16],
+    hs: &[u8],
+    j: usize,
+) -> u8
+    requires { ⌜ Paced (vehicle-of k (now ratio) (now n) (now p)) (now us) (now hs) × Second (now us) (now hs) j ⌝ }
+    ensures { λ r. ⌜ ((gs : List ℕ) → r ≡ first-choice (vehicle-of k (now (ratio .entry)) (now (n .entry)) (now (p .entry))) (now (us .entry)) (now (hs .entry)) j gs) ⌝ }
+{
+    let v = us[j];
+    let next = us[j + 1];
+    let d = step_of(v, next);
+    let hold = hs[j];
+    first_choice(k, ratio, n, p, j == 0, v, d, hold)
+}
+
+// The trip's first choices, whatever its part of the card held before.
+pub fn first_choices<'a>(
+    k: Numbers,
+    ratio: &'a [u16; 10],
+    n: &'a [u16; 64],
+    p: &'a [u16; 64],
+    us: &[u16],
+    hs: &[u8],
+    gs: &mut [u8],
+)
+    requires { ⌜ Paced (vehicle-of k (now ratio) (now n) (now p)) (now us) (now hs) × Aligned (now us) (now hs) (now gs) ⌝ }
+    ensures { λ r. ⌜ now (gs .exit) ≡ firsts (vehicle-of k (now (ratio .entry)) (now (n .entry)) (now (p .entry))) (now (us .entry)) (now (hs .entry)) ⌝ }
+{
+    let mut j = 0;
+    while j < gs.len() {
+        let g = choice_at(k, ratio, n, p, us, hs, j);
+        gs[j] = g;
+        j += 1;
+    }
+}
+
+// The trip's bytes, worked out in its part of the card, which is lent on to each pass.
+pub fn work_trip<'a>(
+    k: Numbers,
+    ratio: &'a [u16; 10],
+    n: &'a [u16; 64],
+    p: &'a [u16; 64],
+    us: &[u16],
+    hs: &[u8],
+    gs: &mut [u8],
+)
+    requires { ⌜ Ready (vehicle-of k (now ratio) (now n) (now p)) (now us) (now hs) (now gs) ⌝ }
+    ensures { λ r. ⌜ now (gs .exit) ≡ trip-bytes (vehicle-of k (now (ratio .entry)) (now (n .entry)) (now (p .entry))) (now (us .entry)) (now (hs .entry)) ⌝ }
+{
+    first_choices(k, ratio, n, p, us, hs, gs);
+    pass_a(k, ratio, us, hs, gs);
+    pass_b(k, ratio, us, hs, gs);
+    pass_c(us, hs, gs);
+    bytes(k, ratio, us, gs);
+}
