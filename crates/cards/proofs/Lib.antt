@@ -3,5 +3,6 @@ pub mod Scans
 pub mod Tests
 pub mod Reworking
 pub mod Working
+pub mod Holding
 pub mod Demands
 pub mod Determined

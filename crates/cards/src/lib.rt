@@ -1,8 +1,10 @@
-// The checks and the whole working of document 01.
+// The checks and the whole working of document 01, and one hold, the quick way.
 mod checks;
 mod opening;
+mod quick;
 mod rework;
 mod trips_in;
 mod whole;
 
+pub use quick::hold;
 pub use whole::work;

@@ -1,0 +1,94 @@
+// One hold, the quick way.
+ghost use mathlib.Core.Path.{_≡_};
+ghost use Prim.Native.Nat.{_+_, _-_, min};
+ghost use Rattle.rules.specs.Refusals.{said};
+ghost use Rattle.rules.specs.Quick.{standing-fault, quick-fault, quick-holds, quick-card};
+use crate::checks::check_span;
+use crate::opening::check_opening;
+use crate::rework::rework;
+use crate::trips_in::trip_start;
+use crate::trips_in::trip_stop;
+use gears::numbers_of;
+use rules::Answer;
+use rules::Refusal;
+use rules::Vehicle;
+
+// At a standing second: 0 is accepted; a gear is refused, by 7 if above ng, else by 8.
+fn check_standing(vehicle: Vehicle, second: usize, gear: u8) -> Answer
+    ensures { λ r. ⌜ said r ≡ standing-fault vehicle second gear ⌝ }
+{
+    if vehicle.ng < gear as u16 {
+        return Answer::Refused(Refusal::HoldOverNg(second));
+    }
+    if gear != 0 {
+        return Answer::Refused(Refusal::HoldStanding(second));
+    }
+    Answer::Done
+}
+
+// One second held in a gear, 0 to clear: its trip and the standing second before it are re-worked. It looks at its span and at nothing else, and
+// nothing, the hold byte included, is written before every check has passed.
+pub fn hold(
+    vehicle: Vehicle,
+    speeds: &[u16],
+    holds: &mut [u8],
+    card: &mut [u8],
+    second: usize,
+    gear: u8,
+) -> Answer
+    ensures answer { λ r. ⌜ said r ≡ quick-fault vehicle (now (speeds .entry)) (now (holds .entry)) (now (card .entry)) second gear ⌝ }
+    ensures holds { λ r. ⌜ now (holds .exit) ≡ quick-holds vehicle (now (speeds .entry)) (now (holds .entry)) (now (card .entry)) second gear ⌝ }
+    ensures card { λ r. ⌜ now (card .exit) ≡ quick-card vehicle (now (speeds .entry)) (now (holds .entry)) (now (card .entry)) second gear ⌝ }
+{
+    let opening = check_opening(vehicle, speeds.len(), holds.len(), card.len());
+    let Answer::Done = opening else {
+        return opening;
+    };
+    if speeds.len() <= second {
+        return Answer::Refused(Refusal::OutsideTrace(second));
+    }
+    if speeds[second] < 10 {
+        let standing = check_standing(vehicle, second, gear);
+        let Answer::Done = standing else {
+            return standing;
+        };
+        holds[second] = gear;
+        return Answer::Done;
+    }
+    let a = trip_start(speeds, second);
+    let b = trip_stop(speeds, second);
+    let lo = span_from(a);
+    let hi = span_to(b, speeds.len());
+    let k = numbers_of(vehicle);
+    let span = check_span(k, &vehicle.ratio, speeds, holds, second, gear, lo, hi);
+    let Answer::Done = span else {
+        return span;
+    };
+    holds[second] = gear;
+    rework(
+        k,
+        &vehicle.ratio,
+        &vehicle.n,
+        &vehicle.p,
+        speeds,
+        holds,
+        card,
+        a,
+        b,
+    );
+    Answer::Done
+}
+
+// The second before, where there is one.
+fn span_from(a: usize) -> usize
+    ensures { λ r. ⌜ r ≡ a - 1 ⌝ }
+{
+    if a == 0 { 0 } else { a - 1 }
+}
+
+// Past the second b, where there is one.
+fn span_to(b: usize, seconds: usize) -> usize
+    ensures { λ r. ⌜ r ≡ min (b + 1) seconds ⌝ }
+{
+    if b < seconds { b + 1 } else { seconds }
+}
