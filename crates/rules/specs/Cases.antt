@@ -55,6 +55,10 @@ up = 100 ∷ 110 ∷ 120 ∷ 130 ∷ 140 ∷ 150 ∷ 160 ∷ 170 ∷ []
 trace : List ℕ
 trace = 0 ∷ 50 ∷ 150 ∷ 100 ∷ 0 ∷ []
 
+-- a short trip, then a longer one whose first choices are corrected
+two-trips : List ℕ
+two-trips = 0 ∷ 50 ∷ 0 ∷ 150 ∷ 300 ∷ 450 ∷ 600 ∷ 450 ∷ 300 ∷ 150 ∷ 0 ∷ []
+
 -- car Z and these speeds, without holds, as a job
 job-Z : List ℕ
 job-Z =
@@ -119,6 +123,9 @@ rows =
     ∷ row (choice 500 (negℤ (pos 36))) (numbers (5 ∷ []))
     ∷ row (numbers (choose (car-Z 927) inside 1139 (pos 34) ∷ [])) (numbers (4 ∷ []))
     ∷ row (numbers (choose (car-Z 928) inside 1309 (pos 29) ∷ [])) (numbers (3 ∷ []))
+    -- later trips are corrected too: at second 6 the first choice is 5, the gear 2
+    ∷ row (numbers (first-at Z two-trips (replicate 11 0) 6 ∷ [])) (numbers (5 ∷ []))
+    ∷ row (numbers (card Z two-trips (replicate 11 0))) (numbers (17 ∷ 17 ∷ 17 ∷ 1 ∷ 1 ∷ 1 ∷ 2 ∷ 4 ∷ 2 ∷ 2 ∷ 0 ∷ []))
     -- what the card program prints of car Z's job
     ∷ row (numbers (printed job-Z)) (numbers (
     115 ∷ 101 ∷ 99 ∷ 111 ∷ 110 ∷ 100 ∷ 32 ∷ 115 ∷ 112 ∷ 101 ∷ 101 ∷ 100 ∷ 32 ∷ 103 ∷ 101 ∷ 97 ∷ 114 ∷ 32 ∷ 99 ∷ 108 ∷ 117 ∷ 116 ∷ 99 ∷ 104 ∷ 10 ∷
@@ -136,5 +143,5 @@ papers [] = []
 papers (r ∷ rs) = r .paper ∷ papers rs
 
 sums-done-on-paper : sums rows ≡ papers rows
-unfolding sums papers rows row choice car-Z Z inside free-trip steady up trace job-Z _and_ _or_ within every first highest pass table ratio-of ratio-good point-good bounds first-failed bad-field low longest moving rise start run stop engine minimum-of minimum under-nmax over-minimum allowed fits required between on-segment reaches segment power-speed power enough more suits beats strongest choose floor closing ceiling here first-choice free is-peak peak too-high rising too-low slowing firsts after-A after-B gears trip-speeds trip-holds first-at gear-at clutch byte card-at card refuse-at _orelse_ when trace-fault room-fault vehicle-fault check-number checks bad fault-of span-fault work-fault hand-on demand early group-if group groups holds-read job-read digits decimal heading pedal line lines card-text refusal-text worked-text read-text printed
+unfolding sums papers rows row choice car-Z Z inside free-trip steady up trace two-trips job-Z _and_ _or_ within every first highest pass table ratio-of ratio-good point-good bounds first-failed bad-field low longest moving rise start run stop engine minimum-of minimum under-nmax over-minimum allowed fits required between on-segment reaches segment power-speed power enough more suits beats strongest choose floor closing ceiling here first-choice free is-peak peak too-high rising too-low slowing firsts after-A after-B gears trip-speeds trip-holds first-at gear-at clutch byte card-at card refuse-at _orelse_ when trace-fault room-fault vehicle-fault check-number checks bad fault-of span-fault work-fault hand-on demand early group-if group groups holds-read job-read digits decimal heading pedal line lines card-text refusal-text worked-text read-text printed
 sums-done-on-paper = refl
