@@ -25,4 +25,6 @@ pub mod Span
 pub mod Work
 pub mod Reading
 pub mod Groups
+pub mod Lines
+pub mod Long
 pub mod Refusals

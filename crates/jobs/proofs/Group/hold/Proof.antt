@@ -1,0 +1,23 @@
+-- `jobs::Group::hold` meets its contract: in each arm the case is known.
+-- Assumes nothing.
+use borrow.Author.Needs.{needs}
+use Rattle.jobs.proofs.Group.hold.Statement.{statement}
+use Rattle.jobs.proofs.Group.hold.Tie as tie
+
+enum-known-self : tie.Need-enum-known-self
+enum-known-self c = search needs
+
+cast-t6 : tie.Need-cast-t6
+cast-t6 c = search needs
+
+enum-known-self-2 : tie.Need-enum-known-self-2
+enum-known-self-2 c = search needs
+
+returns : tie.Need-returns
+returns c = rw (c .before .self .given .1)
+
+returns-2 : tie.Need-returns-2
+returns-2 c = rw (c .before .self2 .given .1)
+
+pub hold-spec : {M : Type 1} → statement M
+hold-spec = tie.close (tie.spec enum-known-self cast-t6 enum-known-self-2 returns returns-2)

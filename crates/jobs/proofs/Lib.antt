@@ -1,0 +1,6 @@
+-- What belongs to no one function.
+pub mod Ways
+pub mod Loops
+pub mod Whole
+pub mod Rooms
+pub mod Determined

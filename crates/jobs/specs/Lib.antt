@@ -1,0 +1,3 @@
+-- What the reader promises, and the stages of its code.
+pub mod Reader
+pub mod Stages

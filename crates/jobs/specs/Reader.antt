@@ -1,0 +1,33 @@
+-- What the reader's public functions answer, as document 01 has it.
+-- Assumes nothing.
+use Prim.Native.Nat.{ℕ}
+use mathlib.Core.Path.{_≡_}
+use mathlib.Core.List.{List}
+use lib.ListN.{length}
+use Rattle.rules.specs.declared.Refusal.{Refusal}
+use Rattle.rules.specs.Refusals.{Fault, number, place, said}
+use Rattle.rules.specs.Job.{Read, got, refused, Job, job-read, read-fault, job-of, filled}
+use Rattle.jobs.specs.declared.Group.{Group}
+use Rattle.jobs.specs.declared.Group.the-variants as group-is
+use Rattle.jobs.specs.declared.Reading.{Reading}
+
+-- a refusal as the paper's number and place
+abbrev pub fault : Refusal → Fault
+fault r = record { no = number r; spot = place r }
+
+-- what a group's answer says
+abbrev pub told : Group → Read ℕ
+told (group-is.Value v j) = got v j
+told (group-is.Fault f) = refused (fault f)
+
+-- what is read of a job into these rooms
+unfoldable pub reading : List ℕ → List ℕ → List ℕ → Read Job
+reading job speeds holds = job-read job (length speeds) (length holds) 0
+
+-- the answer r, and the rooms as they are left, are what is read: in a refusal a blank vehicle, no seconds, and rooms as they were
+pub record ReadAs (job speeds holds : List ℕ) (r : Reading) (speeds′ holds′ : List ℕ) : Type 0 where
+  pub answered : said (r .answer) ≡ read-fault (reading job speeds holds)
+  pub the-vehicle : r .vehicle ≡ job-of (reading job speeds holds) .vehicle
+  pub the-count : r .count ≡ length (job-of (reading job speeds holds) .speeds)
+  pub speeds-left : speeds′ ≡ filled speeds (job-of (reading job speeds holds) .speeds)
+  pub holds-left : holds′ ≡ filled holds (job-of (reading job speeds holds) .holds)

@@ -1,0 +1,427 @@
+// Runs the job reader on document 01's cases and on car Z's job, and prints what it answers, one line for each group of cases.
+// `stdout` is what the paper asks for.
+ghost use Prim.Native.Nat.{_≤_};
+use jobs::Group;
+use jobs::Reading;
+use rules::Answer;
+use rules::Refusal;
+use rules::Vehicle;
+
+fn say(text: &[u8]) {
+    io::write_all(1, text);
+}
+
+fn say_number(n: u64) {
+    say(b" ");
+    io::print_decimal(1, n);
+}
+
+fn say_place(n: usize) {
+    say_number(n as u64);
+}
+
+fn say_value(n: u16) {
+    say_number(n as u64);
+}
+
+fn say_refusal(refusal: Refusal) {
+    say(b" refused");
+    say_number(refusal.number() as u64);
+    say(b" at");
+    say_place(refusal.place());
+}
+
+// A group that stands alone: its value and the place after it.
+fn group(job: &[u8]) {
+    match jobs::group_at(job, 0) {
+        Group::Value(v, next) => {
+            say_value(v);
+            say(b" to");
+            say_place(next);
+        }
+        Group::Fault(refusal) => say_refusal(refusal),
+    }
+    say(b";");
+}
+
+// Document 01's groups, and those at the ends of each length.
+fn groups() {
+    say(b"groups:");
+    group(&[0xE0u8, 0x5D]);
+    group(&[0xFFu8, 0xFF, 0x03]);
+    group(&[0u8]);
+    group(&[0x7Fu8]);
+    group(&[0x80u8, 0x01]);
+    group(&[0xFFu8, 0x7F]);
+    group(&[0x80u8, 0x80, 0x01]);
+    say(b"\n");
+}
+
+// Not the shortest, over 65,535, a third byte that says more follow, cut short.
+fn bad_groups() {
+    say(b"bad groups:");
+    group(&[0x80u8, 0x00]);
+    group(&[0x80u8, 0x80, 0x00]);
+    group(&[0x80u8, 0x80, 0x04]);
+    group(&[0xFFu8, 0xFF, 0x83]);
+    group(&[0x80u8]);
+    group(&[0x80u8, 0x80]);
+    say(b"\n");
+}
+
+// Car Z's job, speeds 0, 50, 150, 100, 0 and no holds: 63 bytes, and zeros after them.
+fn car_z() -> [u8; 72] {
+    [
+        1,
+        5,
+        224,
+        93,
+        216,
+        54,
+        148,
+        35,
+        172,
+        27,
+        240,
+        21,
+        160,
+        6,
+        224,
+        43,
+        240,
+        46,
+        232,
+        7,
+        136,
+        39,
+        160,
+        31,
+        220,
+        11,
+        10,
+        7,
+        160,
+        6,
+        100,
+        136,
+        14,
+        172,
+        2,
+        240,
+        21,
+        244,
+        3,
+        216,
+        29,
+        188,
+        5,
+        192,
+        37,
+        210,
+        6,
+        224,
+        43,
+        132,
+        7,
+        240,
+        46,
+        240,
+        6,
+        5,
+        0,
+        50,
+        150,
+        1,
+        100,
+        0,
+        0,
+        0,
+        0,
+        0,
+        0,
+        0,
+        0,
+        0,
+        0,
+        0,
+    ]
+}
+
+// The first n bytes of a job.
+fn start(job: &[u8], n: usize) -> &[u8] {
+    if job.len() < n {
+        return job;
+    }
+    &job[..n]
+}
+
+// Whether every place still has the mark that was put there before the reading.
+fn marked(speeds: &[u16]) -> bool {
+    let mut i = 0;
+    while i < speeds.len() {
+        if speeds[i] != 7 {
+            return false;
+        }
+        i += 1;
+    }
+    true
+}
+
+fn marked_bytes(holds: &[u8]) -> bool {
+    let mut i = 0;
+    while i < holds.len() {
+        if holds[i] != 7 {
+            return false;
+        }
+        i += 1;
+    }
+    true
+}
+
+fn untouched(speeds: &[u16], holds: &[u8]) -> bool {
+    if marked(speeds) {
+        marked_bytes(holds)
+    } else {
+        false
+    }
+}
+
+// What the reader answers: the sample count, or the refusal.
+fn say_reading(r: Reading) {
+    let a = r.answer;
+    match a {
+        Answer::Done => {
+            say(b" read");
+            say_place(r.count);
+        }
+        Answer::Refused(refusal) => say_refusal(refusal),
+    }
+}
+
+// What it answers of a job with room for the longest trace. A refusal that left a mark on a room is told.
+fn answer(job: &[u8]) {
+    let mut speeds = [7u16; 2048];
+    let mut holds = [7u8; 2048];
+    let r = jobs::read(job, &mut speeds, &mut holds);
+    say_reading(r);
+    if r.count == 0 {
+        if !untouched(&speeds, &holds) {
+            say(b" after writing");
+        }
+    }
+    say(b";");
+}
+
+// The vehicle as it was read.
+fn say_vehicle(v: Vehicle) {
+    say_value(v.ng);
+    say_value(v.ratio[0]);
+    say_value(v.ratio[4]);
+    say_value(v.ratio[5]);
+    say_value(v.idle);
+    say_value(v.rated);
+    say_value(v.nmax);
+    say_value(v.f0);
+    if v.f1 == 0 {
+        say(b" level");
+    }
+    say_value(v.f2);
+    say_value(v.tm);
+    say_value(v.margin);
+    say_value(v.points);
+    say_value(v.n[0]);
+    say_value(v.p[0]);
+    say_value(v.n[6]);
+    say_value(v.p[6]);
+    say_value(v.n[7]);
+}
+
+fn say_values(values: &[u16]) {
+    let mut i = 0;
+    while i < values.len() {
+        say_value(values[i]);
+        i += 1;
+    }
+}
+
+fn say_bytes(bytes: &[u8]) {
+    let mut i = 0;
+    while i < bytes.len() {
+        say_byte(bytes[i]);
+        i += 1;
+    }
+}
+
+fn say_byte(n: u8) {
+    say_number(n as u64);
+}
+
+// Car Z with gear 3 held at second 2, into rooms of six: the sixth place of each is left as it was.
+fn whole() {
+    let mut job = car_z();
+    job[62] = 1;
+    job[63] = 2;
+    job[64] = 3;
+    let mut speeds = [7u16; 6];
+    let mut holds = [7u8; 6];
+    let r = jobs::read(start(&job, 65), &mut speeds, &mut holds);
+    say(b"car Z:");
+    say_vehicle(r.vehicle);
+    say(b"\nspeeds and holds:");
+    say_place(r.count);
+    say_values(&speeds);
+    say_bytes(&holds);
+    say(b"\n");
+}
+
+// A byte of car Z's job changed.
+fn changed(at: usize, byte: u8)
+    requires { ⌜ at ≤ 62 ⌝ }
+{
+    let mut job = car_z();
+    job[at] = byte;
+    answer(start(&job, 63));
+}
+
+// Two bytes of car Z's job changed: a group of two bytes there.
+fn changed_two(at: usize, one: u8, two: u8)
+    requires { ⌜ at ≤ 61 ⌝ }
+{
+    let mut job = car_z();
+    job[at] = one;
+    job[at + 1] = two;
+    answer(start(&job, 63));
+}
+
+// Each refusal of the reader but 12, 15 and 16, which have lines of their own.
+fn refusals() {
+    say(b"refusals:");
+    changed(0, 2);
+    changed(1, 1);
+    changed(1, 11);
+    changed(27, 1);
+    changed(27, 65);
+    changed(55, 0);
+    changed_two(55, 0x81, 0x10);
+    changed_two(12, 0x80, 0x00);
+    say(b"\n");
+}
+
+// The third byte of a group says that more follow.
+fn third() {
+    say(b"third byte:");
+    let mut job = car_z();
+    job[12] = 0xFF;
+    job[13] = 0xFF;
+    job[14] = 0x83;
+    answer(start(&job, 63));
+    say(b"\n");
+}
+
+// Car Z's job into rooms for so many.
+fn into(speeds: &mut [u16], holds: &mut [u8]) {
+    let job = car_z();
+    say_reading(jobs::read(start(&job, 63), speeds, holds));
+    say(b";");
+}
+
+// Rooms smaller than the sample count, the one and the other, and rooms just large enough.
+fn rooms() {
+    say(b"rooms:");
+    let mut four = [7u16; 4];
+    let mut five = [7u16; 5];
+    let mut four_bytes = [7u8; 4];
+    let mut five_bytes = [7u8; 5];
+    into(&mut four, &mut five_bytes);
+    into(&mut five, &mut four_bytes);
+    if !untouched(&four, &five_bytes) {
+        say(b" after writing");
+    }
+    if !untouched(&five, &four_bytes) {
+        say(b" after writing");
+    }
+    into(&mut five, &mut five_bytes);
+    say(b"\n");
+}
+
+// Whether car Z's job cut to n bytes is refused by 12 at its length, with nothing written.
+fn cut_short(n: usize) -> bool {
+    let job = car_z();
+    let mut speeds = [7u16; 5];
+    let mut holds = [7u8; 5];
+    let r = jobs::read(start(&job, n), &mut speeds, &mut holds);
+    let a = r.answer;
+    if a.number() != 12 {
+        return false;
+    }
+    if a.place() != n {
+        return false;
+    }
+    untouched(&speeds, &holds)
+}
+
+// Car Z's job cut at each byte.
+fn cut() {
+    let mut right: u64 = 0;
+    let mut n: usize = 0;
+    while n < 63 {
+        if cut_short(n) {
+            right += 1;
+        }
+        n += 1;
+    }
+    say(b"cut at each byte: refused 12 at its length");
+    say_number(right);
+    say(b" of 63\n");
+}
+
+// One byte more.
+fn longer() {
+    say(b"whole, and one byte more:");
+    let job = car_z();
+    answer(start(&job, 63));
+    answer(start(&job, 64));
+    say(b"\n");
+}
+
+// Two holds.
+fn two_holds(second: u8, gear: u8, then: u8, other: u8) {
+    let mut job = car_z();
+    job[62] = 2;
+    job[63] = second;
+    job[64] = gear;
+    job[65] = then;
+    job[66] = other;
+    answer(start(&job, 67));
+}
+
+// In order, the same second twice, out of order, past the trace, gear 0; past the trace before a gear that is not there; gear 256.
+fn holds() {
+    say(b"holds:");
+    two_holds(1, 1, 2, 2);
+    two_holds(2, 2, 2, 2);
+    two_holds(2, 2, 1, 1);
+    two_holds(1, 1, 5, 2);
+    two_holds(1, 0, 2, 2);
+    let mut job = car_z();
+    job[62] = 1;
+    job[63] = 5;
+    answer(start(&job, 64));
+    job[63] = 1;
+    job[64] = 0x80;
+    job[65] = 0x02;
+    answer(start(&job, 66));
+    say(b"\n");
+}
+
+fn main() {
+    groups();
+    bad_groups();
+    whole();
+    refusals();
+    third();
+    rooms();
+    cut();
+    longer();
+    holds();
+}

@@ -1,0 +1,97 @@
+-- A job that was read, and what the working makes of it, as the definitions' text.
+-- Assumes nothing.
+use Prim.Native.Nat.{ℕ, _≤_}
+use native.Mathlib.Omega.{arith}
+use mathlib.Core.Path.{_≡_, refl, sym, _∙_}
+use mathlib.Core.Option.{none, some}
+use mathlib.Core.List.{List}
+use lib.ListN.{length, take, length-append}
+use lib.Seq.{take-append-seam}
+use Rattle.rules.specs.declared.Vehicle.{Vehicle}
+use Rattle.rules.specs.declared.Refusal.{Refusal}
+use Rattle.rules.specs.declared.Answer.{Answer}
+use Rattle.rules.specs.declared.Answer.the-variants.{Done, Refused}
+use Rattle.rules.specs.Units.{longest}
+use Rattle.rules.specs.Refusals.{Fault, number, place, said, work-fault, left, work-card}
+use Rattle.rules.specs.Job.{Read, got, refused, Job, read-fault, job-of, filled}
+use Rattle.rules.specs.Text.{card-text, refusal-text, worked-text, read-text, printed}
+use Rattle.rules.specs.Laws.Lines.{Sized, job-sized, room-alone}
+use Rattle.jobs.specs.declared.Reading.{Reading}
+use Rattle.jobs.specs.Reader.{reading, ReadAs}
+use Rattle.texts.specs.Writing.{text-of}
+
+-- ---- what the working says, as text
+
+module _ (car : Vehicle) (vs hs old : List ℕ) (e : length old ≡ length vs) where
+  -- where the working is done, the text is that of the card that it left
+  pub done-text : {a : Answer} {new : List ℕ} → said a ≡ work-fault car vs hs old → a ≡ Done → new ≡ work-card car vs hs old → text-of car vs hs ≡ card-text vs new
+  unfolding said work-card left worked-text
+  done-text s d n =
+      let w : work-fault car vs hs old ≡ none = sym s ∙ rw d in
+      rw (← room-alone car vs hs old vs e, w, n, w)
+
+  -- where the working refuses, the text is the refusal's
+  pub stop-text : {a : Answer} {q : Refusal} → said a ≡ work-fault car vs hs old → a ≡ Refused q → text-of car vs hs ≡ refusal-text (record { no = number q; spot = place q })
+  unfolding said worked-text
+  stop-text s d = rw (← room-alone car vs hs old vs e, ← s, d)
+
+-- ---- what was read, as the code has it
+
+-- the rooms as the reader leaves them: their start is what was read
+pub record Rooms (j : Job) (n : ℕ) (speeds holds : List ℕ) : Type 0 where
+  pub few : n ≤ 2048
+  pub speeds-fit : n ≤ length speeds
+  pub holds-fit : n ≤ length holds
+  pub speeds-are : take n speeds ≡ j .speeds
+  pub holds-are : take n holds ≡ j .holds
+
+-- a room that was filled begins with what it was filled with
+filled-start : (room values : List ℕ) (n : ℕ) → n ≡ length values → (n ≤ length (filled room values)) × (take n (filled room values) ≡ values)
+unfolding filled
+filled-start room values n e = (rw length-append (omega arith), rw e (take-append-seam values _))
+
+module _ {job s₀ h₀ s h : List ℕ} {r : Reading} (a : ReadAs job s₀ h₀ r s h) where
+  -- the reader leaves the rooms so
+  pub rooms : Rooms (job-of (reading job s₀ h₀)) (r .count) s h
+  unfolding longest reading
+  rooms =
+      let z : Sized (job-of (reading job s₀ h₀)) = job-sized job (length s₀) (length h₀) 0 in
+      let v = filled-start s₀ (job-of (reading job s₀ h₀) .speeds) (r .count) (a .the-count) in
+      let w = filled-start h₀ (job-of (reading job s₀ h₀) .holds) (r .count) (a .the-count ∙ sym (z .even)) in
+      record {
+        few = rw (a .the-count) (z .few);
+        speeds-fit = rw (a .speeds-left) (v .0);
+        holds-fit = rw (a .holds-left) (w .0);
+        speeds-are = rw (a .speeds-left) (v .1);
+        holds-are = rw (a .holds-left) (w .1);
+      }
+
+-- what is printed of a reading that refuses nothing
+done-read : (x : Read Job) → none ≡ read-fault x → text-of (job-of x .vehicle) (job-of x .speeds) (job-of x .holds) ≡ read-text x
+unfolding read-fault job-of read-text
+done-read (got j end) e = refl
+done-read (refused f) e = let z : _≡_ {A = ℕ} 0 1 = cc in absurd (omega arith)
+
+-- what is printed of a reading that refuses
+stop-read : (x : Read Job) (f : Fault) → some f ≡ read-fault x → refusal-text f ≡ read-text x
+unfolding read-fault read-text
+stop-read (got j end) f e = let z : _≡_ {A = ℕ} 0 1 = cc in absurd (omega arith)
+stop-read (refused g) f e = let z : f ≡ g = cc in rw z
+
+module _ {job s₀ h₀ s h : List ℕ} {r : Reading} (a : ReadAs job s₀ h₀ r s h) (n : length s₀ ≡ 2048) (m : length h₀ ≡ 2048) where
+  -- rooms of 2,048 are those of the card program
+  read-is : read-text (reading job s₀ h₀) ≡ printed job
+  unfolding printed reading longest
+  read-is = rw (n, m)
+
+  -- of a job that was read the text is what the working says
+  pub printed-done : r .answer ≡ Done → text-of (r .vehicle) (take (r .count) s) (take (r .count) h) ≡ printed job
+  unfolding said
+  printed-done d =
+      let w = rooms a in
+      rw (w .speeds-are, w .holds-are, a .the-vehicle) (done-read (reading job s₀ h₀) (rw d at (a .answered)) ∙ read-is)
+
+  -- of one that was refused it is the refusal
+  pub printed-stop : {q : Refusal} → r .answer ≡ Refused q → refusal-text (record { no = number q; spot = place q }) ≡ printed job
+  unfolding said
+  printed-stop d = stop-read (reading job s₀ h₀) _ (rw d at (a .answered)) ∙ read-is

@@ -1,0 +1,87 @@
+-- `texts::answer` meets its contract: the rooms begin with what was read, and what is put at place 0 begins the memory.
+-- Assumes nothing.
+use mathlib.Core.Path.{_≡_, refl, sym, _∙_}
+use lib.ListN.{length, take}
+use lib.Seq.{length-take-le}
+use Rattle.texts.proofs.Pieces.{begins}
+use Rattle.texts.proofs.Jobs.{rooms, printed-done, printed-stop}
+use borrow.Author.Needs.{needs}
+use Rattle.texts.proofs.answer.Statement.{statement}
+use Rattle.texts.proofs.answer.Tie as tie
+
+slice-aggregate-read : tie.Need-slice-aggregate-read
+slice-aggregate-read c = search needs
+
+slice-aggregate-read-2 : tie.Need-slice-aggregate-read-2
+slice-aggregate-read-2 c = search needs
+
+read-requires : tie.Need-read-requires
+read-requires c κs = search needs
+
+enum-told : tie.Need-enum-told
+enum-told c = search needs
+
+array-share-prefix-speeds : tie.Need-array-share-prefix-speeds
+array-share-prefix-speeds c = let w = rooms (c .before .before .before .before .before .read .ensures) in w .speeds-fit
+
+slice-aggregate-put-worked : tie.Need-slice-aggregate-put-worked
+slice-aggregate-put-worked c = let w = rooms (c .before .before .before .before .before .before .read .ensures) in sym (length-take-le _ _ (w .speeds-fit))
+
+array-share-prefix-holds : tie.Need-array-share-prefix-holds
+array-share-prefix-holds c = let w = rooms (c .before .before .before .before .before .before .read .ensures) in w .holds-fit
+
+slice-aggregate-put-worked-2 : tie.Need-slice-aggregate-put-worked-2
+slice-aggregate-put-worked-2 c = let w = rooms (c .before .before .before .before .before .before .before .read .ensures) in sym (length-take-le _ _ (w .holds-fit))
+
+array-borrow-prefix-card : tie.Need-array-borrow-prefix-card
+array-borrow-prefix-card c = let w = rooms (c .before .before .before .before .before .before .before .read .ensures) in w .few
+
+slice-aggregate-put-worked-3 : tie.Need-slice-aggregate-put-worked-3
+slice-aggregate-put-worked-3 c = let w = rooms (c .before .before .before .before .before .before .before .before .read .ensures) in sym (length-take-le _ _ (w .few))
+
+put-worked-requires : tie.Need-put-worked-requires
+put-worked-requires c κs =
+    let q = c .before .before .before .before .before .before .before .before .before .read in
+    let w = rooms (q .ensures) in
+    let n : length (take (q .result .count) (q .last .1 .0)) ≡ q .result .count = length-take-le _ _ (w .speeds-fit) in
+    (rw n (w .few), (length-take-le _ _ (w .few) ∙ sym n, c .before .before .before .before .before .before .before .before .before .before .before .before .before .before .pre))
+
+enum-known-judged : tie.Need-enum-known-judged
+enum-known-judged c = search needs
+
+put-refusal-requires : tie.Need-put-refusal-requires
+put-refusal-requires c κs = search needs
+
+same-length : tie.Need-same-length
+same-length c = search needs
+
+returns : tie.Need-returns
+returns c = begins (rw (printed-done (c .before .before .before .before .before .before .before .before .before .before .before .before .before .read .ensures) refl refl (c .before .before .before .before .before .before .before .before .before .enum-told .given .1)) at (c .before .before .before .put-worked .ensures))
+
+same-length-2 : tie.Need-same-length-2
+same-length-2 c = search needs
+
+returns-2 : tie.Need-returns-2
+returns-2 c = begins (rw (printed-stop (c .before .before .before .before .before .before .before .before .before .read .ensures) refl refl (c .before .before .before .before .before .judged .given .1)) at (c .before .before .put-refusal .ensures))
+
+pub answer-spec : {M : Type 1} → statement M
+answer-spec =
+    tie.close
+    (tie.spec
+    slice-aggregate-read
+    slice-aggregate-read-2
+    read-requires
+    enum-told
+    array-share-prefix-speeds
+    slice-aggregate-put-worked
+    array-share-prefix-holds
+    slice-aggregate-put-worked-2
+    array-borrow-prefix-card
+    slice-aggregate-put-worked-3
+    put-worked-requires
+    enum-known-judged
+    put-refusal-requires
+    same-length
+    returns
+    same-length-2
+    returns-2)

@@ -1,0 +1,2 @@
+-- What it is to put text into lent memory.
+pub mod Writing
