@@ -7,7 +7,7 @@ use mathlib.Core.Logic.{_≢_, _↔_, _⊎_, inl, inr}
 use mathlib.Core.Bool.{true, false}
 use mathlib.Core.Option.{none, some}
 use mathlib.Core.List.{List}
-use lib.ListN.{length, set}
+use lib.ListN.{length, set, take}
 use lib.IntN.{ℤ, pos, natAbs, _-ℤ_, _*ℤ_}
 use Rattle.rules.specs.declared.Vehicle.{Vehicle}
 use Rattle.rules.specs.declared.Answer.{Answer}
@@ -16,6 +16,7 @@ use Rattle.rules.specs.Units.{bad-field, moving, start, stop}
 use Rattle.rules.specs.Gears.{Place, under-nmax, fits, required, Power, on-segment, segment, power-speed, choose}
 use Rattle.rules.specs.Corrections.{peak, rising, slowing, gear-at, card-at, card}
 use Rattle.rules.specs.Refusals.{said, work-fault, work-card}
+use Rattle.rules.specs.Text.{printed}
 use Rattle.rules.specs.Quick.{span-lo, hold-fault, quick-fault, quick-holds, quick-card}
 use Rattle.rules.specs.Laws.Words.{by-order, pass-keeps}
 use Rattle.rules.specs.Laws.Trips.{IsTrip, trip-of, trip-le, trip-start, trip-stop, start-before, stop-after, stop-in, moving-in}
@@ -32,6 +33,7 @@ use Rattle.rules.specs.Laws.Edits.{Out}
 use Rattle.rules.specs.Laws.Quick.{Accepted, accepted, quick-refuses, quick-right}
 use Rattle.rules.specs.Laws.Span.{SameSpan, looks-at-span, card-frame, card-standing, holds-frame, quick-shows}
 use Rattle.rules.specs.Laws.Groups.{OneForm, one-form}
+use Rattle.rules.specs.Laws.Long.{long-job}
 use Rattle.rules.specs.Laws.Refusals.{said-once}
 
 -- ---- 1. Trips
@@ -150,6 +152,11 @@ quick-looks-at-span = looks-at-span
 
 pub one-form-each : (n : ℕ) → n ≤ 65535 → OneForm n
 one-form-each = one-form
+
+-- ---- The card program: of an input of 18,886 bytes or more, the first 18,886 say all that is printed
+
+pub long-input : (job : List ℕ) → 18886 ≤ length job → printed (take 18886 job) ≡ printed job
+long-input = long-job
 
 -- ---- Refusals: two answers with one number and one place are one
 

@@ -5,5 +5,4 @@ mod rising;
 mod slowing;
 mod work;
 
-pub use work::first_choices;
 pub use work::work_trip;
