@@ -1,35 +1,29 @@
 -- The checks in a row: each way out of the whole working and of the quick way.
 -- Assumes nothing.
-use Prim.Native.Nat.{ℕ, zero, suc, _+_, _-_, _≤_, _<_, min}
-use native.Mathlib.Numerals.{add-one}
+use Prim.Native.Nat.{ℕ, _≤_, _<_}
 use native.Mathlib.Omega.{arith}
-use mathlib.Core.Path.{_≡_, refl, sym, ap, _∙_}
-use mathlib.Core.Bool.{Bool, true, false, not}
-use mathlib.Core.Option.{Option, none, some}
+use mathlib.Core.Path.{_≡_, sym, ap, _∙_}
+use mathlib.Core.Option.{Option, none}
 use mathlib.Core.List.{List}
-use lib.Dec.{leb, ltb, eqb}
-use lib.ListN.{length, set, length-set}
+use lib.ListN.{length, set}
 use lib.Seq.{set-out}
 use borrow.Author.Tests.{lt-ltb, le-ltb, le-leb, lt-leb, eq-eqb, ne-eqb}
 use Rattle.rules.specs.declared.Vehicle.{Vehicle}
 use Rattle.rules.specs.declared.Refusal.{Refusal}
-use Rattle.rules.specs.declared.Refusal.the-variants.{TraceLength, RoomLength, HoldOverNg, HoldStanding, OutsideTrace}
+use Rattle.rules.specs.declared.Refusal.the-variants.{TraceLength, RoomLength, HoldOverNg, HoldStanding}
 use Rattle.rules.specs.declared.Answer.{Answer}
 use Rattle.rules.specs.declared.Answer.the-variants.{Done, Refused}
-use Rattle.rules.specs.Words.{if_then_else_, _and_, within, at}
-use Rattle.rules.specs.Units.{longest, moving, start, stop}
+use Rattle.rules.specs.Words.{_and_, within}
+use Rattle.rules.specs.Units.{longest}
 use Rattle.rules.specs.Corrections.{card}
-use Rattle.rules.specs.Refusals.{Fault, said, refuse-at, _orelse_, when, trace-fault, room-fault, vehicle-fault, span-fault, work-fault, left, work-card, ends, bad}
-use Rattle.rules.specs.Quick.{span-lo, span-hi, second-fault, standing-fault, hold-fault, quick-fault, reworked, quick-holds, quick-card}
-use Rattle.rules.specs.Laws.Words.{clash, by-test, by-order, both}
+use Rattle.rules.specs.Refusals.{Fault, said, refuse-at, _orelse_, when, trace-fault, room-fault, vehicle-fault, span-fault, work-fault, left, work-card}
+use Rattle.rules.specs.Quick.{standing-fault}
 use Rattle.rules.specs.Laws.Vehicle.{InBounds}
-use Rattle.rules.specs.Laws.Trips.{IsTrip, trip-of, stop-in}
-use Rattle.rules.specs.Laws.Checks.{orelse-none, none-orelse, orelse-assoc, trace-in, rooms-in, vehicle-in, passed}
-use Rattle.cards.specs.Rework.{Between, Passed}
+use Rattle.rules.specs.Laws.Checks.{orelse-none, none-orelse, orelse-assoc, rooms-in, vehicle-in}
+use Rattle.cards.specs.Rework.{Passed}
 use Rattle.cards.specs.Checks.{Spanned}
 use Rattle.gears.specs.declared.Numbers.{Numbers}
-use Rattle.gears.specs.Parts.{vehicle-of, numbers-of}
-use Rattle.cards.proofs.Reworking.{between}
+use Rattle.gears.specs.Parts.{numbers-of}
 
 -- ---- an answer and a row of checks
 
@@ -122,29 +116,29 @@ module _ (car : Vehicle) (vs hs old : List ℕ) where
   unfolding work-fault work-card
   work-opening e h = let f = opening-first (span-fault car vs hs 0 (length vs)) e h in (f, left-old old (card car vs hs) f h)
 
-  module _ (O : Opened car vs hs old) where
-    pub work-asks : {k : Numbers} → k ≡ numbers-of car → Spanned k vs hs 0 (length vs)
-    work-asks e = rw e (record { ng-to = O .bounds .ng-to; rated-from = omega (arith, O .bounds .rated-from); order = omega arith; inside = omega arith; rooms = O .holds-long })
+module _ {car : Vehicle} {vs hs old : List ℕ} (O : Opened car vs hs old) where
+  pub work-asks : {k : Numbers} → k ≡ numbers-of car → Spanned k vs hs 0 (length vs)
+  work-asks e = rw e (record { ng-to = O .bounds .ng-to; rated-from = omega (arith, O .bounds .rated-from); order = omega arith; inside = omega arith; rooms = O .holds-long })
 
-    -- no hold is replaced
-    pub no-edit : (g : ℕ) (f : Option Fault) → f ≡ span-fault car vs (set hs (length vs) g) 0 (length vs) → f ≡ span-fault car vs hs 0 (length vs)
-    no-edit g f e = e ∙ ap (λ (ks : List ℕ). span-fault car vs ks 0 (length vs)) (set-out hs (length vs) g (omega (arith, O .holds-long)))
+  -- no hold is replaced
+  pub no-edit : (g : ℕ) (f : Option Fault) → f ≡ span-fault car vs (set hs (length vs) g) 0 (length vs) → f ≡ span-fault car vs hs 0 (length vs)
+  no-edit g f e = e ∙ ap (λ (ks : List ℕ). span-fault car vs ks 0 (length vs)) (set-out hs (length vs) g (omega (arith, O .holds-long)))
 
-    work-is : work-fault car vs hs old ≡ span-fault car vs hs 0 (length vs)
-    unfolding work-fault
-    work-is = after-opening (span-fault car vs hs 0 (length vs)) O
+  work-is : work-fault car vs hs old ≡ span-fault car vs hs 0 (length vs)
+  unfolding work-fault
+  work-is = after-opening (span-fault car vs hs 0 (length vs)) O
 
-    pub work-span : {x : Answer} {q : Refusal} → said x ≡ span-fault car vs hs 0 (length vs) → x ≡ Refused q → (said x ≡ work-fault car vs hs old) × (old ≡ work-card car vs hs old)
-    unfolding work-card
-    work-span e h = let f = e ∙ sym work-is in (f, left-old old (card car vs hs) f h)
+  pub work-span : {x : Answer} {q : Refusal} → said x ≡ span-fault car vs hs 0 (length vs) → x ≡ Refused q → (said x ≡ work-fault car vs hs old) × (old ≡ work-card car vs hs old)
+  unfolding work-card
+  work-span e h = let f = e ∙ sym work-is in (f, left-old old (card car vs hs) f h)
 
-    module _ {x : Answer} (e : said x ≡ span-fault car vs hs 0 (length vs)) (h : x ≡ Done) where
-      pub work-passed : Passed car vs hs old
-      work-passed = record { vehicle = O .bounds; holds = O .holds-long; room = O .card-long; checks = said-none e h }
+  module _ {x : Answer} (e : said x ≡ span-fault car vs hs 0 (length vs)) (h : x ≡ Done) where
+    pub work-passed : Passed car vs hs old
+    work-passed = record { vehicle = O .bounds; holds = O .holds-long; room = O .card-long; checks = said-none e h }
 
-      pub work-done : {new : List ℕ} → new ≡ card car vs hs → (said Done ≡ work-fault car vs hs old) × (new ≡ work-card car vs hs old)
-      unfolding work-card said
-      work-done c = let f = work-is ∙ said-none e h in (sym f, c ∙ left-new old (card car vs hs) f)
+    pub work-done : {new : List ℕ} → new ≡ card car vs hs → (said Done ≡ work-fault car vs hs old) × (new ≡ work-card car vs hs old)
+    unfolding work-card said
+    work-done c = let f = work-is ∙ said-none e h in (sym f, c ∙ left-new old (card car vs hs) f)
 
 -- ---- a hold at a standing second
 

@@ -14,7 +14,13 @@ pub record Second (k : Numbers) (vs : List ℕ) (i : ℕ) : Type 0 where
   pub rated-from : k .idle ≤ k .rated
   pub inside : i < length vs
 
--- a span of the trace, of such a vehicle, with a hold for each second
+-- a second of the trace, and a gear that it is held in
+pub record Held (k : Numbers) (vs : List ℕ) (i held : ℕ) : Type 0 where
+  pub ng-to : k .ng ≤ 10
+  pub inside : i < length vs
+  pub some : 1 ≤ held
+
+-- a span of the trace, of a vehicle as above, with a hold for each second
 pub record Spanned (k : Numbers) (vs hs : List ℕ) (lo hi : ℕ) : Type 0 where
   pub ng-to : k .ng ≤ 10
   pub rated-from : k .idle ≤ k .rated

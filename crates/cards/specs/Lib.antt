@@ -1,2 +1,3 @@
 pub mod Rework
 pub mod Checks
+pub mod Calm

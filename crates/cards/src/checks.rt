@@ -11,7 +11,8 @@ ghost use Rattle.rules.specs.Units.{start};
 ghost use Rattle.rules.specs.Refusals.{step, ends, checks, bad, said, span-fault};
 ghost use Rattle.rules.specs.Laws.OnePass.{fault-no, kept};
 ghost use Rattle.gears.specs.Parts.{vehicle-of};
-ghost use Rattle.cards.specs.Checks.{Second, Spanned, HeldAt, hold-checks};
+ghost use Rattle.cards.specs.Checks.{Second, Held, Spanned, HeldAt, hold-checks};
+use crate::calm::calm;
 use gears::Numbers;
 use gears::engine;
 use gears::some_fits;
@@ -19,7 +20,7 @@ use rules::Answer;
 use rules::Refusal;
 
 // The hold of second i, were `gear` the hold of `second`: the quick way asks before it writes.
-fn hold_at(holds: &[u8], second: usize, gear: u8, i: usize) -> u8
+pub fn hold_at(holds: &[u8], second: usize, gear: u8, i: usize) -> u8
     requires { ⌜ i < length (now holds) ⌝ }
     ensures { λ r. ⌜ r ≡ at (set (now (holds .entry)) second gear) i ⌝ }
 {
@@ -30,7 +31,7 @@ fn hold_at(holds: &[u8], second: usize, gear: u8, i: usize) -> u8
 }
 
 // How far apart two speeds are, either way round, so that no sum can pass the end of a u16.
-fn gap(a: u16, b: u16) -> u16
+pub fn gap(a: u16, b: u16) -> u16
     ensures { λ r. ⌜ r ≡ (a - b) + (b - a) ⌝ }
 {
     if a < b {
@@ -100,13 +101,16 @@ fn free_fault<'a>(k: Numbers, ratio: &'a [u16; 10], speeds: &'a [u16], i: usize)
 }
 
 // Checks 7, 8 and 9 of a held second, to which 10 does not apply. A gear above ng has no ratio, so 7 is asked before a ratio is read.
-fn hold_fault<'a>(k: Numbers, ratio: &'a [u16; 10], speeds: &'a [u16], held: u8, i: usize) -> u32
-    requires { ⌜ Second k (now speeds) i ⌝ }
+pub fn held_fault<'a>(
+    k: Numbers,
+    ratio: &'a [u16; 10],
+    speeds: &'a [u16],
+    held: u8,
+    i: usize,
+) -> u32
+    requires { ⌜ Held k (now speeds) i held ⌝ }
     ensures { λ r. ⌜ ((n p hs : List ℕ) (lo : ℕ) → HeldAt (now (speeds .entry)) hs i held → r ≡ fault-no (vehicle-of k (now (ratio .entry)) n p) (now (speeds .entry)) hs lo i hold-checks) ⌝ }
 {
-    if held == 0 {
-        return free_fault(k, ratio, speeds, i);
-    }
     let ng = k.ng;
     let g = held as u16;
     let v = speeds[i];
@@ -122,6 +126,17 @@ fn hold_fault<'a>(k: Numbers, ratio: &'a [u16; 10], speeds: &'a [u16], held: u8,
         return 9;
     }
     11
+}
+
+// Checks 7 to 10, those that look at a hold.
+fn hold_fault<'a>(k: Numbers, ratio: &'a [u16; 10], speeds: &'a [u16], held: u8, i: usize) -> u32
+    requires { ⌜ Second k (now speeds) i ⌝ }
+    ensures { λ r. ⌜ ((n p hs : List ℕ) (lo : ℕ) → HeldAt (now (speeds .entry)) hs i held → r ≡ fault-no (vehicle-of k (now (ratio .entry)) n p) (now (speeds .entry)) hs lo i hold-checks) ⌝ }
+{
+    if held == 0 {
+        return free_fault(k, ratio, speeds, i);
+    }
+    held_fault(k, ratio, speeds, held, i)
 }
 
 // The number of the first check, in the table's order, that second i fails; 11 where it fails none.
@@ -165,9 +180,8 @@ fn answer_of(best: u32, place: usize) -> Answer
     }
 }
 
-// Checks 4 to 10 on the seconds from lo up to hi, of the holds as they would be with `gear` at `second`: the lowest number wins, and for one
-// number the lowest second. A `second` past the trace leaves the holds as they are.
-pub fn check_span<'a>(
+// Checks 4 to 10 of each second, one after the other: the lowest number wins, and for one number the lowest second.
+fn judge_span<'a>(
     k: Numbers,
     ratio: &'a [u16; 10],
     speeds: &'a [u16],
@@ -193,4 +207,25 @@ pub fn check_span<'a>(
         i += 1;
     }
     answer_of(best, place)
+}
+
+// Checks 4 to 10 on the seconds from lo up to hi, of the holds as they would be with `gear` at `second`. A `second` past the trace leaves the
+// holds as they are. Where a cheap test finds nothing wrong, no second is judged.
+pub fn check_span<'a>(
+    k: Numbers,
+    ratio: &'a [u16; 10],
+    speeds: &'a [u16],
+    holds: &'a [u8],
+    second: usize,
+    gear: u8,
+    lo: usize,
+    hi: usize,
+) -> Answer
+    requires { ⌜ Spanned k (now speeds) (now holds) lo hi ⌝ }
+    ensures { λ r. ⌜ ((n p : List ℕ) → said r ≡ span-fault (vehicle-of k (now (ratio .entry)) n p) (now (speeds .entry)) (set (now (holds .entry)) second gear) lo hi) ⌝ }
+{
+    if calm(k, ratio, speeds, holds, second, gear, lo, hi) {
+        return Answer::Done;
+    }
+    judge_span(k, ratio, speeds, holds, second, gear, lo, hi)
 }

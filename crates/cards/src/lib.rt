@@ -1,4 +1,5 @@
 // The checks and the whole working of document 01, and one hold, the quick way.
+mod calm;
 mod checks;
 mod opening;
 mod quick;

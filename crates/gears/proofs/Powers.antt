@@ -1,21 +1,39 @@
 -- The power at a gear, from the parts that the code works it out of.
 -- Assumes nothing.
-use Prim.Native.Nat.{ℕ, suc, _-_, _*_, _≤_, max}
-use native.Mathlib.Nat.{le-trans, mul-le-mul-left, max-le, le-max-right}
+use Prim.Native.Nat.{ℕ, suc, _+_, _-_, _*_, _≤_, _<_, max}
+use native.Mathlib.Nat.{le-trans, mul-assoc, mul-left-comm, mul-le-mul-left, max-le, le-max-right}
 use native.Mathlib.Omega.{arith}
 use mathlib.Core.Path.{_≡_, sym, ap, _∙_, subst}
 use mathlib.Core.Bool.{true}
-use lib.IntN.{natAbs}
-use borrow.Author.Tests.{leb-true}
+use lib.IntN.{ℤ, pos, negℤ, natAbs, _+ℤ_, _-ℤ_, _*ℤ_, +ℤ-assoc}
+use lib.Signed.{leZ}
+use borrow.Author.Tests.{leb-true, le-leb}
 use Rattle.rules.specs.declared.Vehicle.{Vehicle}
 use Rattle.rules.specs.Words.{at}
 use Rattle.rules.specs.Units.{ratio-of}
 use Rattle.rules.specs.Gears.{Place, Power, engine, under-nmax, fits, between, on-segment, segment, power-speed, power}
 use Rattle.rules.specs.Laws.Words.{and-right}
+use Rattle.rules.specs.Laws.Integers.{+ℤ-*ℤ, neg-*ℤ, pos-sub, leZ-trans, leZ-scale}
 use Rattle.rules.specs.Laws.Power.{OnSegment, segment-holds}
 use Rattle.rules.specs.Laws.Sizes.{Q-size, w-size}
-use Rattle.gears.specs.Choosing.{segment-in, segment-parts, Curve, Segment, power-of, Turning, Sized, Driven}
+use Rattle.gears.specs.Choosing.{segment-in, segment-parts, Curve, Segment, power-of, Turning, Sized, enough-for, Driven}
 use Rattle.gears.specs.declared.Power as code
+
+-- ---- no power is too little while coasting or braking
+
+-- Q of two points with powers p1 and p2, w apart, at a speed t above the first: not negative up to the second
+Q-pos : (p1 p2 w t : ℕ) → t ≤ 1000 * w
+    → pos 1000 *ℤ pos p1 *ℤ pos w +ℤ (pos p2 -ℤ pos p1) *ℤ pos t ≡ pos (1000 * p1 * w + p2 * t - p1 * t)
+Q-pos p1 p2 w t h =
+    let a = 1000 * p1 * w in
+    let l : p1 * t ≤ a = rw (mul-assoc 1000 p1 w, ← mul-left-comm p1 1000 w) (mul-le-mul-left p1 h) in
+    ap (λ (z : ℤ). pos a +ℤ z) (+ℤ-*ℤ (pos p2) (negℤ (pos p1)) (pos t) ∙ ap (λ (z : ℤ). pos (p2 * t) +ℤ z) (neg-*ℤ (pos p1) (pos t)))
+    ∙ sym (+ℤ-assoc (pos a) (pos (p2 * t)) (negℤ (pos (p1 * t))))
+    ∙ pos-sub (a + p2 * t) (p1 * t) (omega arith)
+
+-- where w is positive and neither Q nor 100 - M is negative, an E of at most 0 is met
+enough-none : (e : ℤ) → leZ e (pos 0) ≡ true → (w m q : ℕ) → 0 < w → leZ (e *ℤ pos w) (pos m *ℤ pos q *ℤ pos 3240000) ≡ true
+enough-none e h w m q l = leZ-trans (e *ℤ pos w) (pos 0 *ℤ pos w) (pos (m * q * 3240000)) (leZ-scale e (pos 0) w l ∙ h) (le-leb (0 * w) (m * q * 3240000) (omega arith))
 
 module _ (car : Vehicle) (v g : ℕ) where
   -- the engine speed at which power is read
@@ -64,6 +82,21 @@ module _ (car : Vehicle) (v g : ℕ) where
           q-in = subst (λ (z : Power). natAbs (z .Q) ≤ 10000000000) (sym e) (Q-size car (t .bounds) x (segment car x) turning-on);
           w-in = subst (λ (z : Power). natAbs (z .w) ≤ 1000) (sym e) (w-size car (t .bounds) x (segment car x) turning-on);
         }
+
+    -- no power is too little for an E of at most 0
+    pub turning-enough : (e : ℤ) → leZ e (pos 0) ≡ true → enough-for (car .margin) (power car v g) e ≡ true
+    unfolding enough-for power on-segment between
+    turning-enough e h =
+        let x = power-speed car v g in
+        let s = segment car x in
+        let on = turning-on in
+        let rise = t .bounds .n-rises s (on .next-point) in
+        rw (
+          pos-sub 100 (car .margin) (omega (arith, t .bounds .margin-to)),
+          pos-sub (at (car .n) (suc s)) (at (car .n) s) (omega arith),
+          pos-sub x (1000 * at (car .n) s) (on .from),
+          Q-pos (at (car .p) s) (at (car .p) (suc s)) (at (car .n) (suc s) - at (car .n) s) (x - 1000 * at (car .n) s) (omega (arith, on .to)),
+        ) (enough-none e h _ _ _ (omega arith))
 
 -- a gear that fits turns the engine no faster than nmax
 pub turning-of : (car : Vehicle) (here : Place) (v g : ℕ) → Driven car g → fits car here v g ≡ true → Turning car v g

@@ -3,20 +3,22 @@
 use Prim.Native.Nat.{ℕ, suc, _-_, _*_, _≤_, _<_}
 use mathlib.Core.Path.{_≡_, refl}
 use mathlib.Core.Logic.{_≢_}
-use mathlib.Core.Bool.{Bool}
+use mathlib.Core.Bool.{Bool, true}
 use mathlib.Core.List.{List}
 use mathlib.Core.Option.{Option·getD}
 use lib.Dec.{leb, eqb}
 use lib.IntN.{ℤ, pos, natAbs, _-ℤ_, _*ℤ_}
 use lib.Signed.{leZ}
 use Rattle.rules.specs.declared.Vehicle.{Vehicle}
-use Rattle.rules.specs.Words.{if_then_else_, _and_, at, first}
-use Rattle.rules.specs.Gears.{Place, Power, engine, fits, power, strongest, choose, reaches, segment}
+use Rattle.rules.specs.Words.{if_then_else_, _and_, _or_, at, first}
+use Rattle.rules.specs.Gears.{Place, Power, engine, minimum, fits, power, strongest, choose, reaches, segment}
 use Rattle.rules.specs.Units.{rise}
 use Rattle.rules.specs.Corrections.{here, first-choice}
 use Rattle.rules.specs.Laws.Vehicle.{InBounds}
+use Rattle.gears.specs.declared.Numbers.{Numbers}
 use Rattle.gears.specs.declared.Power as code
 use Rattle.gears.specs.declared.Best.{Best}
+use Rattle.gears.specs.Parts.{vehicle-of}
 
 -- ---- the curve
 
@@ -98,6 +100,20 @@ pub record Driving (car : Vehicle) (v : ℕ) (d : ℤ) : Type 0 where
   pub bounds : InBounds car
   pub v-to : v ≤ 2000
   pub d-in : natAbs d ≤ 150
+
+-- the numbers and the ratios of a vehicle in bounds, whatever its curve
+pub record Bounded (k : Numbers) (ratio : List ℕ) : Type 0 where
+  pub n : List ℕ
+  pub p : List ℕ
+  pub bounds : InBounds (vehicle-of k ratio n p)
+
+-- the choice at a trip's first second: first gear if it fits, otherwise 0
+unfoldable pub only-first : Vehicle → ℕ → ℕ
+only-first car v = if fits car (record { first-second = true }) v 1 then 1 else 0
+
+-- first or second gear, or one that turns the engine at the minimum speed of the gears above them
+unfoldable pub may-fit : Vehicle → ℕ → ℕ → Bool
+may-fit car v g = leb g 2 or leb (1000 * minimum car 3) (engine car g v)
 
 -- the first choice: the held gear if there is one, otherwise the rules' choice; 0 where no gear fits
 unfoldable pub first-of : Vehicle → Place → ℕ → ℤ → ℕ → ℕ

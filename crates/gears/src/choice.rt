@@ -1,16 +1,20 @@
 // The first choice of one second.
 ghost use mathlib.Core.Path.{_≡_};
-ghost use Prim.Native.Nat.{_-_, _≤_};
+ghost use mathlib.Core.List.{List};
+ghost use Prim.Native.Nat.{ℕ, _-_, _≤_};
 ghost use lib.IntN.{natAbs};
+ghost use Rattle.rules.specs.Words.{highest};
 ghost use Rattle.rules.specs.Gears.{more, strongest, choose};
 ghost use Rattle.rules.specs.Laws.Vehicle.{InBounds};
 ghost use Rattle.gears.specs.Parts.{vehicle-of};
-ghost use Rattle.gears.specs.Choosing.{power-of, Sized, most-E, Weighed, enough-for, suits-for, Driven, Strongest, Driving, first-of};
+ghost use Rattle.gears.specs.Choosing.{power-of, Sized, most-E, Weighed, enough-for, suits-for, Driven, Strongest, Driving, Bounded, only-first, may-fit, first-of};
 use crate::Best;
 use crate::Numbers;
 use crate::Power;
 use crate::curve::power_at;
+use crate::second::engine;
 use crate::second::fits;
+use crate::second::minimum;
 use crate::second::required;
 
 // Whether a power is enough for E. E keeps its sign: negative while braking.
@@ -44,6 +48,10 @@ fn suits<'a>(
     ensures { λ r. ⌜ r ≡ suits-for (vehicle-of k (now (ratio .entry)) (now (n .entry)) (now (p .entry))) (record { first-second = «first_second» }) v e g ⌝ }
 {
     if fits(k, ratio, first_second, v, g) {
+        // every power is enough while coasting or braking
+        if e <= 0 {
+            return true;
+        }
         let a = power_at(k, ratio, n, p, v, g);
         return enough(k.margin, a, e);
     }
@@ -102,7 +110,38 @@ pub fn strongest<'a>(
     best.gear
 }
 
-// The rules' choice: from the top gear down the first that fits and has enough power, or the fallback.
+// The choice at a trip's first second: first gear, the only one that may fit; 0 where it does not.
+fn only_first(k: Numbers, ratio: &[u16; 10], v: u16) -> usize
+    requires { ⌜ k .idle ≤ k .rated ⌝ }
+    ensures { λ r. ⌜ ((n p : List ℕ) → r ≡ only-first (vehicle-of k (now (ratio .entry)) n p) v) ⌝ }
+{
+    if fits(k, ratio, true, v, 1) {
+        return 1;
+    }
+    0
+}
+
+// The highest gear whose minimum speed is reached, or second gear: none above it fits. Third gear and those above share one minimum.
+fn reached(k: Numbers, ratio: &[u16; 10], v: u16) -> usize
+    requires { ⌜ Bounded k (now ratio) ⌝ }
+    ensures { λ r. ⌜ ((n p : List ℕ) → r ≡ highest (may-fit (vehicle-of k (now (ratio .entry)) n p) v) (k .ng)) ⌝ }
+{
+    let least = 1000 * minimum(k, 3);
+    // where third gear is below it, so is every gear above
+    if engine(ratio, 3, v) < least {
+        return 2;
+    }
+    let mut g = k.ng as usize;
+    while 2 < g {
+        if least <= engine(ratio, g, v) {
+            return g;
+        }
+        g -= 1;
+    }
+    g
+}
+
+// The rules' choice: from the highest gear that may fit down the first that fits and has enough power, or the fallback.
 pub fn choose<'a>(
     k: Numbers,
     ratio: &'a [u16; 10],
@@ -115,8 +154,12 @@ pub fn choose<'a>(
     requires { ⌜ Driving (vehicle-of k (now ratio) (now n) (now p)) v d ⌝ }
     ensures { λ r. ⌜ r ≡ choose (vehicle-of k (now (ratio .entry)) (now (n .entry)) (now (p .entry))) (record { first-second = «first_second» }) v d ⌝ }
 {
+    // a trip begins in first gear, whatever power it has
+    if first_second {
+        return only_first(k, ratio, v);
+    }
     let e = required(k, v, d);
-    let mut g = k.ng as usize;
+    let mut g = reached(k, ratio, v);
     loop {
         if g == 0 {
             break strongest(k, ratio, n, p, first_second, v);

@@ -13,6 +13,7 @@ pub use choice::first_choice;
 use rules::Vehicle;
 pub use second::engine;
 pub use second::floor;
+pub use second::minimum;
 pub use second::some_fits;
 pub use second::step_of;
 

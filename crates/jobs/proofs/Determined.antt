@@ -9,8 +9,8 @@ use Rattle.rules.specs.Refusals.{Fault}
 use Rattle.jobs.specs.declared.Group.{Group}
 use Rattle.jobs.specs.declared.Group.the-variants as group-is
 use Rattle.jobs.specs.Reader.{fault, told}
-use Rattle.jobs.proofs.group_at.Kinds as group-at-kinds
-use Rattle.jobs.proofs.group_at.Reads as group-at-reads
+use Rattle.jobs.proofs.groups.group_at.Kinds as group-at-kinds
+use Rattle.jobs.proofs.groups.group_at.Reads as group-at-reads
 use Rattle.jobs.proofs.read.Kinds as read-kinds
 use Rattle.jobs.proofs.read.Reads as read-reads
 

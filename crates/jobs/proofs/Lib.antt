@@ -1,4 +1,5 @@
 -- What belongs to no one function.
+pub mod Steps
 pub mod Ways
 pub mod Loops
 pub mod Whole

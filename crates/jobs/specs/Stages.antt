@@ -1,6 +1,7 @@
 -- The reading of document 01 in stages, one for each function of the reader.
 -- Assumes nothing.
 use Prim.Native.Nat.{ℕ, zero, suc, _+_, _*_}
+use mathlib.Core.Path.{_≡_}
 use mathlib.Core.Bool.{Bool, true}
 use mathlib.Core.List.{List}
 use lib.ListN.{length, replicate}
@@ -14,16 +15,13 @@ use Rattle.rules.specs.declared.Answer.{Answer}
 use Rattle.rules.specs.declared.Answer.the-variants.{Done, Refused}
 use Rattle.rules.specs.Words.{_and_, within, at, table}
 use Rattle.rules.specs.Refusals.{number, place}
-use Rattle.rules.specs.Job.{Read, got, refused, Reader, _>>=_, _>>_, give, cursor, demand, group, groups, blank}
+use Rattle.rules.specs.Job.{Read, got, refused, Reader, _>>=_, _>>_, give, cursor, demand, Job, group, groups, holds-read, blank}
 use Rattle.jobs.specs.declared.Group.{Group}
 use Rattle.jobs.specs.declared.Group.the-variants as group-is
 use Rattle.jobs.specs.declared.Place.{Place}
 use Rattle.jobs.specs.declared.Place.the-variants as place-is
-use Rattle.jobs.specs.declared.Hold.{Hold}
-use Rattle.jobs.specs.declared.Hold.the-variants as hold-is
 use Rattle.jobs.specs.declared.Gearbox.{Gearbox}
 use Rattle.jobs.specs.declared.Curve.{Curve}
-use Rattle.jobs.specs.declared.Plan.{Plan}
 use Rattle.jobs.specs.declared.Reading.{Reading}
 use Rattle.jobs.specs.Reader.{fault}
 
@@ -34,15 +32,16 @@ abbrev pub reached : {A : Type 0} → Place → A → Read A
 reached (place-is.At j) a = got a j
 reached (place-is.Fault f) a = refused (fault f)
 
+-- reading that comes to its end
+pub record Comes {A : Type 0} (m : Read A) : Type 0 where
+  pub what : A
+  pub end : ℕ
+  pub comes : m ≡ got what end
+
 -- a hold
 pub record Held : Type 0 where
   pub second : ℕ
   pub gear : ℕ
-
--- what a hold's answer says
-abbrev pub held : Hold → Read Held
-held (hold-is.Value s g j) = got (record { second = s; gear = g }) j
-held (hold-is.Fault f) = refused (fault f)
 
 -- the gears and the curve of a vehicle
 pub record Gears : Type 0 where
@@ -78,29 +77,10 @@ car-of gears numbers curve = record {
   p = curve .p;
 }
 
--- a job that was judged: its vehicle and sample count, the place of the first speed, the hold count, the place of the first hold
-pub record Planned : Type 0 where
-  pub vehicle : Vehicle
-  pub count : ℕ
-  pub trace : ℕ
-  pub held : ℕ
-  pub first : ℕ
-
-abbrev pub plan-of : Plan → Planned
-plan-of p = record { vehicle = p .vehicle; count = p .count; trace = p .trace; held = p .held; first = p .first }
-
 -- the same answer with less said of it
 abbrev pub group-place : Group → Place
 group-place (group-is.Value v j) = place-is.At j
 group-place (group-is.Fault f) = place-is.Fault f
-
-abbrev pub hold-place : Hold → Place
-hold-place (hold-is.Value s g j) = place-is.At j
-hold-place (hold-is.Fault f) = place-is.Fault f
-
-abbrev pub group-hold : Group → Hold
-group-hold (group-is.Value v j) = hold-is.Value v 0 j
-group-hold (group-is.Fault f) = hold-is.Fault f
 
 abbrev pub place-answer : Place → Answer
 place-answer (place-is.At j) = Done
@@ -176,17 +156,15 @@ module _ (job : List ℕ) where
     h ← hold-read next count
     judging k (suc (h .second)) count
 
-  -- the whole job, only judged: what is to be filled, and from where
-  unfoldable pub plan-read : ℕ → ℕ → Reader Planned
-  plan-read speeds-room holds-room = do
+  -- the whole job
+  unfoldable pub whole-read : ℕ → ℕ → Reader Job
+  whole-read speeds-room holds-room = do
     car ← car-read
     count ← bounded 1 2048 TraceLength
     demand (leb count speeds-room and leb count holds-room) 2 0
-    trace ← cursor
-    skipping count
+    speeds ← groups job count
     held ← group job
-    first ← cursor
-    judging held 0 count
+    holds ← holds-read job held 0 count (replicate count 0)
     end ← cursor
     demand (eqb end (length job)) 16 end
-    give (record { vehicle = car; count = count; trace = trace; held = held; first = first })
+    give (record { vehicle = car; speeds = speeds; holds = holds })

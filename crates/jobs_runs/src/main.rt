@@ -4,17 +4,11 @@ ghost use Prim.Native.Nat.{_≤_};
 use jobs::Group;
 use jobs::Reading;
 use rules::Answer;
-use rules::Refusal;
 use rules::Vehicle;
-
-fn say(text: &[u8]) {
-    io::write_all(1, text);
-}
-
-fn say_number(n: u64) {
-    say(b" ");
-    io::print_decimal(1, n);
-}
+use runs::say;
+use runs::say_bytes;
+use runs::say_number;
+use runs::say_refusal;
 
 fn say_place(n: usize) {
     say_number(n as u64);
@@ -22,13 +16,6 @@ fn say_place(n: usize) {
 
 fn say_value(n: u16) {
     say_number(n as u64);
-}
-
-fn say_refusal(refusal: Refusal) {
-    say(b" refused");
-    say_number(refusal.number() as u64);
-    say(b" at");
-    say_place(refusal.place());
 }
 
 // A group that stands alone: its value and the place after it.
@@ -242,18 +229,6 @@ fn say_values(values: &[u16]) {
         say_value(values[i]);
         i += 1;
     }
-}
-
-fn say_bytes(bytes: &[u8]) {
-    let mut i = 0;
-    while i < bytes.len() {
-        say_byte(bytes[i]);
-        i += 1;
-    }
-}
-
-fn say_byte(n: u8) {
-    say_number(n as u64);
 }
 
 // Car Z with gear 3 held at second 2, into rooms of six: the sixth place of each is left as it was.

@@ -15,13 +15,13 @@ use Rattle.rules.specs.Refusals.{refuse-at, _orelse_, when, trace-fault,
 use Rattle.rules.specs.Job.{Read, got, refused, hand-on, demand, early, group-if, group, groups, holds-read, job-read}
 use Rattle.rules.specs.Text.{digits, decimal, heading, pedal, line, lines, card-text, refusal-text, worked-text, read-text, printed}
 
--- car Z, with its F0
-car-Z : ℕ → Vehicle
-car-Z f0 = record {
+-- car Z, with its idle and rated speeds and its F0
+car-of : ℕ → ℕ → ℕ → Vehicle
+car-of idle rated f0 = record {
   ng = 5;
   ratio = 12000 ∷ 7000 ∷ 4500 ∷ 3500 ∷ 2800 ∷ 0 ∷ 0 ∷ 0 ∷ 0 ∷ 0 ∷ [];
-  idle = 800;
-  rated = 5600;
+  idle = idle;
+  rated = rated;
   nmax = 6000;
   f0 = f0;
   f1 = pos 0;
@@ -33,8 +33,15 @@ car-Z f0 = record {
   p = 100 ∷ 300 ∷ 500 ∷ 700 ∷ 850 ∷ 900 ∷ 880 ∷ [];
 }
 
+car-Z : ℕ → Vehicle
+car-Z = car-of 800 5600
+
 Z : Vehicle
 Z = car-Z 1000
+
+-- nine tenths of its idle speed are 742.5, idle and an eighth of the way to its rated speed 1,400.5
+halves : Vehicle
+halves = car-of 825 5429 1000
 
 -- a second that is not its trip's first
 inside : Place
@@ -123,6 +130,14 @@ rows =
     ∷ row (choice 500 (negℤ (pos 36))) (numbers (5 ∷ []))
     ∷ row (numbers (choose (car-Z 927) inside 1139 (pos 34) ∷ [])) (numbers (4 ∷ []))
     ∷ row (numbers (choose (car-Z 928) inside 1309 (pos 29) ∷ [])) (numbers (3 ∷ []))
+    -- minimum speeds round halves up: X 742,000 is too low for gear 2, X 1,400,000 for gear 5
+    ∷ row (numbers (minimum halves 1 ∷ minimum halves 2 ∷ minimum halves 3 ∷ [])) (numbers (825 ∷ 743 ∷ 1401 ∷ []))
+    ∷ row (numbers (choose halves inside 106 (pos 0) ∷ [])) (numbers (1 ∷ []))
+    ∷ row (numbers (choose halves inside 500 (pos 0) ∷ [])) (numbers (4 ∷ []))
+    -- a second is moving from V 10 on; a trace of one standing second
+    ∷ row (numbers (card Z (0 ∷ 10 ∷ 0 ∷ []) (replicate 3 0))) (numbers (17 ∷ 17 ∷ 0 ∷ []))
+    ∷ row (numbers (card Z (0 ∷ 9 ∷ 0 ∷ []) (replicate 3 0))) (numbers (0 ∷ 0 ∷ 0 ∷ []))
+    ∷ row (numbers (card Z (0 ∷ []) (replicate 1 0))) (numbers (0 ∷ []))
     -- later trips are corrected too: at second 6 the first choice is 5, the gear 2
     ∷ row (numbers (first-at Z two-trips (replicate 11 0) 6 ∷ [])) (numbers (5 ∷ []))
     ∷ row (numbers (card Z two-trips (replicate 11 0))) (numbers (17 ∷ 17 ∷ 17 ∷ 1 ∷ 1 ∷ 1 ∷ 2 ∷ 4 ∷ 2 ∷ 2 ∷ 0 ∷ []))
@@ -143,5 +158,5 @@ papers [] = []
 papers (r ∷ rs) = r .paper ∷ papers rs
 
 sums-done-on-paper : sums rows ≡ papers rows
-unfolding sums papers rows row choice car-Z Z inside free-trip steady up trace two-trips job-Z _and_ _or_ within every first highest pass table ratio-of ratio-good point-good bounds first-failed bad-field low longest moving rise start run stop engine minimum-of minimum under-nmax over-minimum allowed fits required between on-segment reaches segment power-speed power enough more suits beats strongest choose floor closing ceiling here first-choice free is-peak peak too-high rising too-low slowing firsts after-A after-B gears trip-speeds trip-holds first-at gear-at clutch byte card-at card refuse-at _orelse_ when trace-fault room-fault vehicle-fault check-number checks bad fault-of span-fault work-fault hand-on demand early group-if group groups holds-read job-read digits decimal heading pedal line lines card-text refusal-text worked-text read-text printed
+unfolding sums papers rows row choice car-of car-Z Z halves inside free-trip steady up trace two-trips job-Z _and_ _or_ within every first highest pass table ratio-of ratio-good point-good bounds first-failed bad-field low longest moving rise start run stop engine minimum-of minimum under-nmax over-minimum allowed fits required between on-segment reaches segment power-speed power enough more suits beats strongest choose floor closing ceiling here first-choice free is-peak peak too-high rising too-low slowing firsts after-A after-B gears trip-speeds trip-holds first-at gear-at clutch byte card-at card refuse-at _orelse_ when trace-fault room-fault vehicle-fault check-number checks bad fault-of span-fault work-fault hand-on demand early group-if group groups holds-read job-read digits decimal heading pedal line lines card-text refusal-text worked-text read-text printed
 sums-done-on-paper = refl

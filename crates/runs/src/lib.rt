@@ -1,5 +1,6 @@
 // What the programs that run cases share: document 01's car Z, and what was answered, as text.
 use rules::Answer;
+use rules::Refusal;
 use rules::Vehicle;
 
 // Car Z of "Sums done on paper".
@@ -52,16 +53,19 @@ pub fn say_number(n: u64) {
     io::print_decimal(1, n);
 }
 
-// The answer: done, or the refusal's number and place.
+// A refusal: its number and place.
+pub fn say_refusal(refusal: Refusal) {
+    say(b" refused");
+    say_number(refusal.number() as u64);
+    say(b" at");
+    say_number(refusal.place() as u64);
+}
+
+// The answer: done, or the refusal.
 pub fn say_answer(answer: Answer) {
     match answer {
         Answer::Done => say(b" done"),
-        Answer::Refused(refusal) => {
-            say(b" refused");
-            say_number(refusal.number() as u64);
-            say(b" at");
-            say_number(refusal.place() as u64);
-        }
+        Answer::Refused(refusal) => say_refusal(refusal),
     }
 }
 

@@ -1,4 +1,4 @@
 -- What belongs to no one function.
-pub mod Climb
+pub mod Along
 pub mod Trip
 pub mod Determined

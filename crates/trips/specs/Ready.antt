@@ -1,6 +1,6 @@
 -- What the functions of one trip ask of their arguments.
 -- Assumes nothing.
-use Prim.Native.Nat.{ℕ, suc, _≤_, _<_}
+use Prim.Native.Nat.{ℕ, suc, _-_, _≤_, _<_}
 use mathlib.Core.Path.{_≡_}
 use mathlib.Core.Bool.{true}
 use mathlib.Core.List.{List}
@@ -20,6 +20,11 @@ pub record Aligned (us hs gs : List ℕ) : Type 0 where
 pub record Second (us hs : List ℕ) (j : ℕ) : Type 0 where
   pub speeds : length us ≡ suc (length hs)
   pub inside : j < length hs
+
+-- second j has a second before it in the trip, whose gear is last
+pub record Later (gs : List ℕ) (j last : ℕ) : Type 0 where
+  pub from : 1 ≤ j
+  pub last-is : last ≡ at gs (j - 1)
 
 -- gears that leave room for 16 more in a byte, and one speed more than gears
 pub record HasRoom (us gs : List ℕ) : Type 0 where

@@ -8,7 +8,7 @@ ghost use Rattle.rules.specs.Words.{_and_, _or_, pass};
 ghost use Rattle.rules.specs.Corrections.{peak};
 ghost use Rattle.rules.specs.Laws.Seconds.{one-above};
 ghost use Rattle.gears.specs.Parts.{vehicle-of};
-ghost use Rattle.trips.specs.Ready.{Aligned};
+ghost use Rattle.trips.specs.Ready.{Aligned, Later};
 use gears::Numbers;
 use gears::floor;
 
@@ -34,24 +34,31 @@ fn one_above(p: u8, g: u8, q: u8) -> bool
     over(q, g, p)
 }
 
-// What pass A makes of second j.
-pub fn peak_at(k: Numbers, ratio: &[u16; 10], us: &[u16], hs: &[u8], gs: &[u8], j: usize) -> u8
-    requires { ⌜ (k .ng ≤ 10) × Aligned (now us) (now hs) (now gs) × (j < length (now hs)) ⌝ }
+// What pass A makes of second j, after gear last. Most gears are no higher than the one before.
+pub fn peak_at(
+    k: Numbers,
+    ratio: &[u16; 10],
+    us: &[u16],
+    hs: &[u8],
+    gs: &[u8],
+    j: usize,
+    last: u8,
+) -> u8
+    requires { ⌜ (k .ng ≤ 10) × Aligned (now us) (now hs) (now gs) × Later (now gs) j last × (j < length (now gs)) ⌝ }
     ensures { λ r. ⌜ ((n p : List ℕ) → r ≡ peak (vehicle-of k (now (ratio .entry)) n p) (now (us .entry)) (now (hs .entry)) j (now (gs .entry))) ⌝ }
 {
     let g = gs[j];
-    if hs[j] != 0 {
+    if g <= last {
         return g;
     }
-    if j < 1 {
+    if hs[j] != 0 {
         return g;
     }
     if gs.len() <= j + 1 {
         return g;
     }
-    let p = gs[j - 1];
-    let q = gs[j + 1];
-    if one_above(p, g, q) {
+    let next = gs[j + 1];
+    if one_above(last, g, next) {
         let down = g - 1;
         let least = floor(k, ratio, us[j]);
         if least <= down as usize {
@@ -62,15 +69,19 @@ pub fn peak_at(k: Numbers, ratio: &[u16; 10], us: &[u16], hs: &[u8], gs: &[u8], 
     g
 }
 
-// Pass A, one-second peaks.
+// Pass A, one-second peaks. The trip's first second stays, and the gear before goes along, as corrected.
 pub fn pass_a(k: Numbers, ratio: &[u16; 10], us: &[u16], hs: &[u8], gs: &mut [u8])
     requires { ⌜ (k .ng ≤ 10) × Aligned (now us) (now hs) (now gs) ⌝ }
     ensures { λ r. ⌜ ((n p : List ℕ) → now (gs .exit) ≡ pass (peak (vehicle-of k (now (ratio .entry)) n p) (now (us .entry)) (now (hs .entry))) (length (now (hs .entry))) (now (gs .entry))) ⌝ }
 {
-    let mut j = 0;
+    if gs.len() < 2 {
+        return;
+    }
+    let mut j = 1;
+    let mut last = gs[0];
     while j < gs.len() {
-        let g = peak_at(k, ratio, us, hs, gs, j);
-        gs[j] = g;
+        last = peak_at(k, ratio, us, hs, gs, j, last);
+        gs[j] = last;
         j += 1;
     }
 }

@@ -1,39 +1,55 @@
 // Pass B: rising speed.
 ghost use mathlib.Core.Path.{_≡_};
 ghost use mathlib.Core.List.{List};
-ghost use Prim.Native.Nat.{ℕ, _≤_};
+ghost use Prim.Native.Nat.{ℕ, _≤_, _<_};
 ghost use lib.ListN.{length};
-ghost use Rattle.rules.specs.Words.{pass};
-ghost use Rattle.rules.specs.Corrections.{rising};
-ghost use Rattle.rules.specs.Laws.Seconds.{rising-under, ceiling-after};
+ghost use Rattle.rules.specs.Words.{at, pass};
+ghost use Rattle.rules.specs.Corrections.{ceiling, rising};
 ghost use Rattle.gears.specs.Parts.{vehicle-of};
-ghost use Rattle.trips.specs.Ready.{Aligned, Second};
+ghost use Rattle.trips.specs.Ready.{Aligned, Later};
 use gears::Numbers;
 use gears::floor;
 
-// What pass B makes of gear g at second j, under the ceiling there.
+// The ceiling of second j after gear last, from the gears before it as corrected.
+fn ceiling_at(gs: &[u8], j: usize, last: u8) -> usize
+    requires { ⌜ Later (now gs) j last × (j < length (now gs)) ⌝ }
+    ensures { λ r. ⌜ r ≡ ceiling j (now (gs .entry)) ⌝ }
+{
+    let w = last as usize;
+    if j < 2 {
+        return w;
+    }
+    if last == gs[j - 2] {
+        return w + 1;
+    }
+    w
+}
+
+// What pass B makes of second j, whose gear is g, after gear last. Most gears are no higher than the one before, so no higher than the ceiling.
 fn rising_at(
     k: Numbers,
     ratio: &[u16; 10],
     us: &[u16],
     hs: &[u8],
+    gs: &[u8],
     j: usize,
     g: u8,
-    ceiling: usize,
+    last: u8,
 ) -> u8
-    requires { ⌜ (k .ng ≤ 10) × Second (now us) (now hs) j ⌝ }
-    ensures { λ r. ⌜ ((n p : List ℕ) → r ≡ rising-under (vehicle-of k (now (ratio .entry)) n p) (now (us .entry)) (now (hs .entry)) j g ceiling) ⌝ }
+    requires { ⌜ (k .ng ≤ 10) × Aligned (now us) (now hs) (now gs) × Later (now gs) j last × (j < length (now gs)) × (g ≡ at (now gs) j) ⌝ }
+    ensures { λ r. ⌜ ((n p : List ℕ) → r ≡ rising (vehicle-of k (now (ratio .entry)) n p) (now (us .entry)) (now (hs .entry)) j (now (gs .entry))) ⌝ }
 {
-    if hs[j] != 0 {
+    if g <= last {
         return g;
     }
-    if j < 1 {
+    if hs[j] != 0 {
         return g;
     }
     let v = us[j];
     if v <= us[j - 1] {
         return g;
     }
+    let ceiling = ceiling_at(gs, j, last);
     if g as usize <= ceiling {
         return g;
     }
@@ -44,35 +60,21 @@ fn rising_at(
     ceiling as u8
 }
 
-// The ceiling of the second after j, from the corrected gears of j and of the second before it.
-fn ceiling_from(j: usize, earlier: u8, g: u8) -> usize
-    ensures { λ r. ⌜ r ≡ ceiling-after j earlier g ⌝ }
-{
-    let w = g as usize;
-    if j < 1 {
-        return w;
-    }
-    if g == earlier {
-        return w + 1;
-    }
-    w
-}
-
-// Pass B, rising speed. The ceiling goes along from second to second, worked out from the gears as corrected.
+// Pass B, rising speed. The trip's first second stays, and the gear before goes along, as corrected.
 pub fn pass_b(k: Numbers, ratio: &[u16; 10], us: &[u16], hs: &[u8], gs: &mut [u8])
     requires { ⌜ (k .ng ≤ 10) × Aligned (now us) (now hs) (now gs) ⌝ }
     ensures { λ r. ⌜ ((n p : List ℕ) → now (gs .exit) ≡ pass (rising (vehicle-of k (now (ratio .entry)) n p) (now (us .entry)) (now (hs .entry))) (length (now (hs .entry))) (now (gs .entry))) ⌝ }
 {
-    let mut j = 0;
-    let mut last: u8 = 0;
-    let mut ceiling: usize = 0;
+    if gs.len() < 2 {
+        return;
+    }
+    let mut j = 1;
+    let mut last = gs[0];
     while j < gs.len() {
         let g = gs[j];
-        let r = rising_at(k, ratio, us, hs, j, g, ceiling);
+        let r = rising_at(k, ratio, us, hs, gs, j, g, last);
         gs[j] = r;
-        let earlier = last;
         last = r;
-        ceiling = ceiling_from(j, earlier, last);
         j += 1;
     }
 }

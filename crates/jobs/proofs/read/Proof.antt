@@ -1,58 +1,238 @@
--- `jobs::read` meets its contract: what was judged is read again as it was judged, and a refusal comes before the first store.
+-- `jobs::read` meets its contract: one law for each `return`, and what was judged is put into the rooms as it was judged.
 -- Assumes nothing.
 use native.Mathlib.Omega.{arith}
+use mathlib.Core.Path.{sym}
 use lib.ListN.{length}
+use lib.Seq.{length-take-le}
 use borrow.Author.Needs.{needs}
-use Rattle.jobs.proofs.Rooms.{speeds-filled, holds-filled, refused-as, filled-as}
-use Rattle.jobs.proofs.Whole.{plan-follows}
+use Rattle.rules.specs.declared.Refusal.the-variants.{RoomLength, TraceLength}
+use Rattle.jobs.proofs.Steps.{comes-by}
+use Rattle.jobs.proofs.Ways.{bounded-in, car-stops, count-stops, no-room, speeds-stop, number-stops, holds-stop, more-bytes, whole-gives, skip-comes, judge-comes}
+use Rattle.jobs.proofs.Loops.{groups-length}
+use Rattle.jobs.proofs.Rooms.{refused-as, filled-as, speeds-stand, holds-stand}
 use Rattle.jobs.proofs.read.Statement.{statement}
 use Rattle.jobs.proofs.read.Tie as tie
 
-judge-requires : tie.Need-judge-requires
-judge-requires c κs = search needs
+car-at-requires : tie.Need-car-at-requires
+car-at-requires c κs = search needs
+
+enum-known-came : tie.Need-enum-known-came
+enum-known-came c = search needs
 
 enum-told : tie.Need-enum-told
 enum-told c = search needs
-
-enum-told-2 : tie.Need-enum-told-2
-enum-told-2 c = search needs
-
-answer-requires : tie.Need-answer-requires
-answer-requires c κs = search needs
 
 nothing-requires : tie.Need-nothing-requires
 nothing-requires c κs = search needs
 
 returns : tie.Need-returns
 returns c =
-    let c₁ = c .before .before in
-    let c₂ = c₁ .before .before in
-    let s = c₂ .before .before .before .before in
-    let g = c₁ .enum-told2 .given .1 in
-    rw (c .nothing .ensures, c .before .answer .ensures, g) (refused-as (s .args .job .now) (s .args .speeds .now) (s .args .holds .now) (rw g at (c₂ .judge .ensures)))
-
-fill-requires : tie.Need-fill-requires
-fill-requires c κs =
     let c₁ = c .before .before .before in
     let s = c₁ .before .before .before .before in
-    let f = plan-follows (s .args .job .now) (length (s .args .speeds .now)) (length (s .args .holds .now)) 0 (rw (c .before .enum-told .given .1) at (c₁ .judge .ensures)) in
-    f .speeds-fit
+    let g = c .before .enum-told .given .1 in
+    rw (c .nothing .ensures, g) (refused-as (s .args .job .now) (s .args .speeds .now) (s .args .holds .now) (car-stops (s .args .job .now) (length (s .args .speeds .now)) (length (s .args .holds .now)) 0 (rw g at (c₁ .car-at .ensures))))
 
-clear-requires : tie.Need-clear-requires
-clear-requires c κs =
-    let c₁ = c .before .before .before .before .before in
-    let c₂ = c₁ .before .before in
-    let s = c₂ .before .before .before .before in
-    let f = plan-follows (s .args .job .now) (length (s .args .speeds .now)) (length (s .args .holds .now)) 0 (rw (c₁ .enum-told .given .1) at (c₂ .judge .ensures)) in
-    f .holds-fit
+bounded-requires : tie.Need-bounded-requires
+bounded-requires c κs = search needs
+
+enum-known-seconds : tie.Need-enum-known-seconds
+enum-known-seconds c = search needs
+
+enum-told-2 : tie.Need-enum-told-2
+enum-told-2 c = search needs
+
+place-requires : tie.Need-place-requires
+place-requires c κs = search needs
+
+nothing-requires-2 : tie.Need-nothing-requires-2
+nothing-requires-2 c κs = search needs
+
+returns-2 : tie.Need-returns-2
+returns-2 c =
+    let c₃ = c .before .before .before .before in
+    let c₂ = c₃ .before .before in
+    let c₁ = c₂ .before .before in
+    let s = c₁ .before .before .before .before in
+    let g = c .before .before .enum-told2 .given .1 in
+    rw (c .nothing2 .ensures, c .before .place .ensures, g) (refused-as (s .args .job .now) (s .args .speeds .now) (s .args .holds .now) (count-stops (s .args .job .now) (length (s .args .speeds .now)) (length (s .args .holds .now)) 0 (rw (c₂ .came .given .1) at (c₁ .car-at .ensures)) (rw g at (c₃ .bounded .ensures))))
+
+cast-count : tie.Need-cast-count
+cast-count c = search needs
+
+nothing-requires-3 : tie.Need-nothing-requires-3
+nothing-requires-3 c κs = search needs
+
+returns-3 : tie.Need-returns-3
+returns-3 c =
+    let c₄ = c .before .before .before in
+    let c₃ = c₄ .before .before in
+    let c₂ = c₃ .before .before in
+    let c₁ = c₂ .before .before in
+    let s = c₁ .before .before .before .before in
+    rw (c .nothing3 .ensures) (refused-as (s .args .job .now) (s .args .speeds .now) (s .args .holds .now) {f = RoomLength} (no-room (s .args .job .now) (length (s .args .speeds .now)) (length (s .args .holds .now)) 0 (rw (c₂ .came .given .1) at (c₁ .car-at .ensures)) (rw (c₄ .seconds .given .1) at (c₃ .bounded .ensures)) (λ x y. omega arith)))
+
+nothing-requires-4 : tie.Need-nothing-requires-4
+nothing-requires-4 c κs = search needs
+
+returns-4 : tie.Need-returns-4
+returns-4 c =
+    let c₄ = c .before .before .before .before in
+    let c₃ = c₄ .before .before in
+    let c₂ = c₃ .before .before in
+    let c₁ = c₂ .before .before in
+    let s = c₁ .before .before .before .before in
+    rw (c .nothing4 .ensures) (refused-as (s .args .job .now) (s .args .speeds .now) (s .args .holds .now) {f = RoomLength} (no-room (s .args .job .now) (length (s .args .speeds .now)) (length (s .args .holds .now)) 0 (rw (c₂ .came .given .1) at (c₁ .car-at .ensures)) (rw (c₄ .seconds .given .1) at (c₃ .bounded .ensures)) (λ x y. omega arith)))
+
+skip-requires : tie.Need-skip-requires
+skip-requires c κs = search needs
+
+enum-known-skipped : tie.Need-enum-known-skipped
+enum-known-skipped c = search needs
+
+enum-told-3 : tie.Need-enum-told-3
+enum-told-3 c = search needs
+
+nothing-requires-5 : tie.Need-nothing-requires-5
+nothing-requires-5 c κs = search needs
+
+returns-5 : tie.Need-returns-5
+returns-5 c =
+    let c₅ = c .before .before .before in
+    let c₄ = c₅ .before .before .before .before in
+    let c₃ = c₄ .before .before in
+    let c₂ = c₃ .before .before in
+    let c₁ = c₂ .before .before in
+    let s = c₁ .before .before .before .before in
+    let g = c .before .enum-told3 .given .1 in
+    rw (c .nothing5 .ensures, g) (refused-as (s .args .job .now) (s .args .speeds .now) (s .args .holds .now) (speeds-stop (s .args .job .now) (length (s .args .speeds .now)) (length (s .args .holds .now)) 0 (rw (c₂ .came .given .1) at (c₁ .car-at .ensures)) (rw (c₄ .seconds .given .1) at (c₃ .bounded .ensures)) (omega arith) (omega arith) (rw g at (c₅ .skip .ensures))))
+
+group-at-requires : tie.Need-group-at-requires
+group-at-requires c κs = search needs
+
+enum-known-number : tie.Need-enum-known-number
+enum-known-number c = search needs
+
+enum-told-4 : tie.Need-enum-told-4
+enum-told-4 c = search needs
+
+place-requires-2 : tie.Need-place-requires-2
+place-requires-2 c κs = search needs
+
+nothing-requires-6 : tie.Need-nothing-requires-6
+nothing-requires-6 c κs = search needs
+
+returns-6 : tie.Need-returns-6
+returns-6 c =
+    let c₇ = c .before .before .before .before in
+    let c₆ = c₇ .before .before in
+    let c₅ = c₆ .before .before in
+    let c₄ = c₅ .before .before .before .before in
+    let c₃ = c₄ .before .before in
+    let c₂ = c₃ .before .before in
+    let c₁ = c₂ .before .before in
+    let s = c₁ .before .before .before .before in
+    let g = c .before .before .enum-told4 .given .1 in
+    rw (c .nothing6 .ensures, c .before .place2 .ensures, g) (refused-as (s .args .job .now) (s .args .speeds .now) (s .args .holds .now) (number-stops (s .args .job .now) (length (s .args .speeds .now)) (length (s .args .holds .now)) 0 (rw (c₂ .came .given .1) at (c₁ .car-at .ensures)) (rw (c₄ .seconds .given .1) at (c₃ .bounded .ensures)) (omega arith) (omega arith) (rw (c₆ .skipped .given .1) at (c₅ .skip .ensures)) (rw g at (c₇ .group-at .ensures))))
+
+cast-held : tie.Need-cast-held
+cast-held c = search needs
+
+judge-holds-requires : tie.Need-judge-holds-requires
+judge-holds-requires c κs =
+    let c₈ = c .before in
+    let c₇ = c₈ .before .before in
+    let c₆ = c₇ .before .before in
+    let c₅ = c₆ .before .before in
+    let c₄ = c₅ .before .before .before .before in
+    let c₃ = c₄ .before .before in
+    let c₂ = c₃ .before .before in
+    let c₁ = c₂ .before .before in
+    let s = c₁ .before .before .before .before in
+    let b = bounded-in (s .args .job .now) 1 2048 TraceLength (c₂ .came .given .0 .0) (rw (c₄ .seconds .given .1) at (c₃ .bounded .ensures)) in omega (arith, b)
+
+enum-known-judged : tie.Need-enum-known-judged
+enum-known-judged c = search needs
+
+enum-told-5 : tie.Need-enum-told-5
+enum-told-5 c = search needs
+
+nothing-requires-7 : tie.Need-nothing-requires-7
+nothing-requires-7 c κs = search needs
+
+returns-7 : tie.Need-returns-7
+returns-7 c =
+    let c₉ = c .before .before .before in
+    let c₈ = c₉ .before .before in
+    let c₇ = c₈ .before .before in
+    let c₆ = c₇ .before .before in
+    let c₅ = c₆ .before .before in
+    let c₄ = c₅ .before .before .before .before in
+    let c₃ = c₄ .before .before in
+    let c₂ = c₃ .before .before in
+    let c₁ = c₂ .before .before in
+    let s = c₁ .before .before .before .before in
+    let g = c .before .enum-told5 .given .1 in
+    rw (c .nothing7 .ensures, g) (refused-as (s .args .job .now) (s .args .speeds .now) (s .args .holds .now) (holds-stop (s .args .job .now) (length (s .args .speeds .now)) (length (s .args .holds .now)) 0 (rw (c₂ .came .given .1) at (c₁ .car-at .ensures)) (rw (c₄ .seconds .given .1) at (c₃ .bounded .ensures)) (omega arith) (omega arith) (rw (c₆ .skipped .given .1) at (c₅ .skip .ensures)) (rw (c₈ .number .given .1) at (c₇ .group-at .ensures)) (rw g at (c₉ .judge-holds .ensures))))
+
+nothing-requires-8 : tie.Need-nothing-requires-8
+nothing-requires-8 c κs = search needs
+
+returns-8 : tie.Need-returns-8
+returns-8 c =
+    let c₁₀ = c .before .before .before in
+    let c₉ = c₁₀ .before .before in
+    let c₈ = c₉ .before .before in
+    let c₇ = c₈ .before .before in
+    let c₆ = c₇ .before .before in
+    let c₅ = c₆ .before .before in
+    let c₄ = c₅ .before .before .before .before in
+    let c₃ = c₄ .before .before in
+    let c₂ = c₃ .before .before in
+    let c₁ = c₂ .before .before in
+    let s = c₁ .before .before .before .before in
+    rw (c .nothing8 .ensures) (refused-as (s .args .job .now) (s .args .speeds .now) (s .args .holds .now) (more-bytes (s .args .job .now) (length (s .args .speeds .now)) (length (s .args .holds .now)) 0 (rw (c₂ .came .given .1) at (c₁ .car-at .ensures)) (rw (c₄ .seconds .given .1) at (c₃ .bounded .ensures)) (omega arith) (omega arith) (rw (c₆ .skipped .given .1) at (c₅ .skip .ensures)) (rw (c₈ .number .given .1) at (c₇ .group-at .ensures)) (rw (c₁₀ .judged .given .1) at (c₉ .judge-holds .ensures)) (λ e. omega arith)))
+
+slice-relend-prefix-put-speeds : tie.Need-slice-relend-prefix-put-speeds
+slice-relend-prefix-put-speeds c = search needs
+
+slice-aggregate-put-speeds : tie.Need-slice-aggregate-put-speeds
+slice-aggregate-put-speeds c = sym (length-take-le _ _ (omega arith))
+
+put-speeds-requires : tie.Need-put-speeds-requires
+put-speeds-requires c κs =
+    let c₁₀ = c .before .before .before in
+    let c₉ = c₁₀ .before .before in
+    let c₈ = c₉ .before .before in
+    let c₇ = c₈ .before .before in
+    let c₆ = c₇ .before .before in
+    let c₅ = c₆ .before .before in
+    let c₄ = c₅ .before .before .before .before in
+    let c₃ = c₄ .before .before in
+    let c₂ = c₃ .before .before in
+    let c₁ = c₂ .before .before in
+    let s = c₁ .before .before .before .before in
+    rw (length-take-le (c₄ .seconds .given .0 .0) (s .args .speeds .now) (omega arith)) (comes-by (skip-comes (s .args .job .now) _ _ (rw (c₆ .skipped .given .1) at (c₅ .skip .ensures))))
+
+slice-relend-prefix-put-holds : tie.Need-slice-relend-prefix-put-holds
+slice-relend-prefix-put-holds c = search needs
+
+slice-aggregate-put-holds : tie.Need-slice-aggregate-put-holds
+slice-aggregate-put-holds c = sym (length-take-le _ _ (omega arith))
 
 put-holds-requires : tie.Need-put-holds-requires
 put-holds-requires c κs =
-    let c₁ = c .before .before .before .before .before .before .before .before .before in
-    let c₂ = c₁ .before .before in
-    let s = c₂ .before .before .before .before in
-    let f = plan-follows (s .args .job .now) (length (s .args .speeds .now)) (length (s .args .holds .now)) 0 (rw (c₁ .enum-told .given .1) at (c₂ .judge .ensures)) in
-    omega arith
+    let c₁₀ = c .before .before .before .before .before .before .before in
+    let c₉ = c₁₀ .before .before in
+    let c₈ = c₉ .before .before in
+    let c₇ = c₈ .before .before in
+    let c₆ = c₇ .before .before in
+    let c₅ = c₆ .before .before in
+    let c₄ = c₅ .before .before .before .before in
+    let c₃ = c₄ .before .before in
+    let c₂ = c₃ .before .before in
+    let c₁ = c₂ .before .before in
+    let s = c₁ .before .before .before .before in
+    rw (length-take-le (c₄ .seconds .given .0 .0) (s .args .holds .now) (omega arith)) (comes-by (judge-comes (s .args .job .now) _ _ _ (rw (c₁₀ .judged .given .1) at (c₉ .judge-holds .ensures))))
 
 same-length : tie.Need-same-length
 same-length c = search needs
@@ -60,32 +240,71 @@ same-length c = search needs
 same-length-2 : tie.Need-same-length-2
 same-length-2 c = search needs
 
-returns-2 : tie.Need-returns-2
-returns-2 c =
-    let c₁ = c .before .before .before in
-    let c₂ = c₁ .before .before .before .before in
-    let c₃ = c₂ .before .before .before .before in
-    let c₄ = c₃ .before .before in
-    let c₅ = c₄ .before .before in
-    let s = c₅ .before .before .before .before in
-    let f = plan-follows (s .args .job .now) (length (s .args .speeds .now)) (length (s .args .holds .now)) 0 (rw (c₄ .enum-told .given .1) at (c₅ .judge .ensures)) in
-    filled-as (s .args .job .now) (s .args .speeds .now) (s .args .holds .now) f
-    (speeds-filled (s .args .job .now) (s .args .speeds .now) (c₅ .judge .result .count) (c₅ .judge .result .trace) (c₃ .fill .result) (c₃ .fill .last .1 .1 .1 .0) (c₃ .fill .ensures) (f .speeds-come) (f .speeds-fit))
-    (holds-filled (s .args .job .now) (s .args .holds .now) (c₅ .judge .result .held) (c₅ .judge .result .count) (c₅ .judge .result .first) (c₁ .put-holds .result) (c₁ .put-holds .last .1 .1 .1 .1 .0) (rw (c₂ .clear .ensures) at (c₁ .put-holds .ensures)) (f .holds-come))
+returns-9 : tie.Need-returns-9
+returns-9 c =
+    let c₁₀ = c .before .before .before .before .before .before .before .before .before .before .before in
+    let c₉ = c₁₀ .before .before in
+    let c₈ = c₉ .before .before in
+    let c₇ = c₈ .before .before in
+    let c₆ = c₇ .before .before in
+    let c₅ = c₆ .before .before in
+    let c₄ = c₅ .before .before .before .before in
+    let c₃ = c₄ .before .before in
+    let c₂ = c₃ .before .before in
+    let c₁ = c₂ .before .before in
+    let s = c₁ .before .before .before .before in
+    let come = sym (skip-comes (s .args .job .now) _ _ (rw (c₆ .skipped .given .1) at (c₅ .skip .ensures))) in
+    filled-as (s .args .job .now) (s .args .speeds .now) (s .args .holds .now)
+    (whole-gives (s .args .job .now) (length (s .args .speeds .now)) (length (s .args .holds .now)) 0 (rw (c₂ .came .given .1) at (c₁ .car-at .ensures)) (rw (c₄ .seconds .given .1) at (c₃ .bounded .ensures)) (omega arith) (omega arith) (rw (c₆ .skipped .given .1) at (c₅ .skip .ensures)) (rw (c₈ .number .given .1) at (c₇ .group-at .ensures)) (rw (c₁₀ .judged .given .1) at (c₉ .judge-holds .ensures)) (omega (arith, c .before .before .before .before .before .before .before .before .before .if3 .left)))
+    (groups-length (s .args .job .now) _ _ come)
+    (speeds-stand (s .args .job .now) (s .args .speeds .now) _ (omega arith) _ (c .before .before .before .before .before .before .before .put-speeds .ensures) (rw (c₆ .skipped .given .1) at (c₅ .skip .ensures)))
+    (holds-stand (s .args .job .now) (s .args .holds .now) _ (omega arith) _ _ (c .before .before .before .put-holds .ensures) (rw (c₁₀ .judged .given .1) at (c₉ .judge-holds .ensures)))
 
 pub read-spec : {M : Type 1} → statement M
 read-spec =
     tie.close
     (tie.spec
-    judge-requires
+    car-at-requires
+    enum-known-came
     enum-told
-    enum-told-2
-    answer-requires
     nothing-requires
     returns
-    fill-requires
-    clear-requires
+    bounded-requires
+    enum-known-seconds
+    enum-told-2
+    place-requires
+    nothing-requires-2
+    returns-2
+    cast-count
+    nothing-requires-3
+    returns-3
+    nothing-requires-4
+    returns-4
+    skip-requires
+    enum-known-skipped
+    enum-told-3
+    nothing-requires-5
+    returns-5
+    group-at-requires
+    enum-known-number
+    enum-told-4
+    place-requires-2
+    nothing-requires-6
+    returns-6
+    cast-held
+    judge-holds-requires
+    enum-known-judged
+    enum-told-5
+    nothing-requires-7
+    returns-7
+    nothing-requires-8
+    returns-8
+    slice-relend-prefix-put-speeds
+    slice-aggregate-put-speeds
+    put-speeds-requires
+    slice-relend-prefix-put-holds
+    slice-aggregate-put-holds
     put-holds-requires
     same-length
     same-length-2
-    returns-2)
+    returns-9)

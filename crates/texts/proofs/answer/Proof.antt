@@ -41,10 +41,11 @@ slice-aggregate-put-worked-3 c = let w = rooms (c .before .before .before .befor
 
 put-worked-requires : tie.Need-put-worked-requires
 put-worked-requires c κs =
-    let q = c .before .before .before .before .before .before .before .before .before .read in
+    let p = c .before .before .before .before .before .before .before .before .before in
+    let q = p .read in
     let w = rooms (q .ensures) in
     let n : length (take (q .result .count) (q .last .1 .0)) ≡ q .result .count = length-take-le _ _ (w .speeds-fit) in
-    (rw n (w .few), (length-take-le _ _ (w .few) ∙ sym n, c .before .before .before .before .before .before .before .before .before .before .before .before .before .before .pre))
+    (rw n (w .few), (length-take-le _ _ (w .few) ∙ sym n, p .before .before .before .before .before .pre))
 
 enum-known-judged : tie.Need-enum-known-judged
 enum-known-judged c = search needs
@@ -56,13 +57,17 @@ same-length : tie.Need-same-length
 same-length c = search needs
 
 returns : tie.Need-returns
-returns c = begins (rw (printed-done (c .before .before .before .before .before .before .before .before .before .before .before .before .before .read .ensures) refl refl (c .before .before .before .before .before .before .before .before .before .enum-told .given .1)) at (c .before .before .before .put-worked .ensures))
+returns c =
+    let p = c .before .before .before .before .before .before .before .before .before in
+    begins (rw (printed-done (p .before .before .before .before .read .ensures) refl refl (p .enum-told .given .1)) at (c .before .before .before .put-worked .ensures))
 
 same-length-2 : tie.Need-same-length-2
 same-length-2 c = search needs
 
 returns-2 : tie.Need-returns-2
-returns-2 c = begins (rw (printed-stop (c .before .before .before .before .before .before .before .before .before .read .ensures) refl refl (c .before .before .before .before .before .judged .given .1)) at (c .before .before .put-refusal .ensures))
+returns-2 c =
+    let p = c .before .before .before .before .before in
+    begins (rw (printed-stop (p .before .before .before .before .read .ensures) refl refl (p .judged .given .1)) at (c .before .before .put-refusal .ensures))
 
 pub answer-spec : {M : Type 1} → statement M
 answer-spec =

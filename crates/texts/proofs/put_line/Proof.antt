@@ -13,19 +13,32 @@ slice-aggregate-put : tie.Need-slice-aggregate-put
 slice-aggregate-put c = search needs
 
 put-requires : tie.Need-put-requires
-put-requires c κs = let s = c .before .before .before .before .before .before .before in omega (arith, line-lengths (s .args .i) (s .args .v) (s .args .byte))
+put-requires c κs =
+    let s = c .before .before .before .before .before .before .before in
+    omega (arith, line-lengths (s .args .i) (s .args .v) (s .args .byte))
 
 put-speed-requires : tie.Need-put-speed-requires
-put-speed-requires c κs = let s = c .before .before .before .before .before .before .before .before .before .before .before in omega (arith, line-lengths (s .args .i) (s .args .v) (s .args .byte))
+put-speed-requires c κs =
+    let s = c .before .before .before .before .before .before .before .before .before .before .before in
+    omega (arith, line-lengths (s .args .i) (s .args .v) (s .args .byte))
 
 put-gear-requires : tie.Need-put-gear-requires
-put-gear-requires c κs = let s = c .before .before .before .before .before .before .before .before .before .before .before .before .before .before .before in omega (arith, line-lengths (s .args .i) (s .args .v) (s .args .byte))
+put-gear-requires c κs =
+    let s = c .before .before .before .before .before .before .before .before .before .before .before .before .before .before .before in
+    omega (arith, line-lengths (s .args .i) (s .args .v) (s .args .byte))
 
 same-length : tie.Need-same-length
 same-length c = search needs
 
 returns : tie.Need-returns
-returns c = let s = c .before .before .before .before .before .before .before .before .before .before .before .before .before .before .before .before .before .before in rw (line-is (s .args .i) (s .args .v) (s .args .byte)) (then (c .before .before .before .before .before .before .before .before .before .before .before .before .before .before .before .put-decimal .ensures) (then (c .before .before .before .before .before .before .before .before .before .before .put .ensures) (then (c .before .before .before .before .before .before .put-speed .ensures) (c .before .before .put-gear .ensures))))
+returns c =
+    let four = c .before .before in
+    let three = four .before .before .before .before in
+    let two = three .before .before .before .before in
+    let one = two .before .before .before .before .before in
+    let s = one .before .before .before in
+    rw (line-is (s .args .i) (s .args .v) (s .args .byte))
+    (then (one .put-decimal .ensures) (then (two .put .ensures) (then (three .put-speed .ensures) (four .put-gear .ensures))))
 
 pub put-line-spec : {M : Type 1} → statement M
 put-line-spec =

@@ -1,12 +1,19 @@
 -- `texts::put_refusal` meets its contract: five pieces in a row.
 -- Assumes nothing.
+use Prim.Native.Nat.{_≤_}
 use native.Mathlib.Omega.{arith}
-use Rattle.rules.specs.Text.{refusal-text}
+use lib.ListN.{length}
+use Rattle.rules.specs.Text.{decimal, refusal-text}
 use Rattle.rules.specs.Laws.Lines.{tens, decimal-short}
 use Rattle.texts.proofs.Pieces.{then}
 use borrow.Author.Needs.{needs}
 use Rattle.texts.proofs.put_refusal.Statement.{statement}
 use Rattle.texts.proofs.put_refusal.Tie as tie
+
+-- the number has at most 10 digits, the place at most 20
+short-at : (p : tie.After-place) → (length (decimal (p .before .number .result)) ≤ 10) × (length (decimal (p .place .result)) ≤ 20)
+unfolding tens
+short-at p = (decimal-short 9 (p .before .number .result) (omega arith), decimal-short 19 (p .place .result) (omega arith))
 
 number-requires : tie.Need-number-requires
 number-requires c κs = search needs
@@ -24,26 +31,24 @@ put-requires : tie.Need-put-requires
 put-requires c κs = search needs
 
 put-decimal-requires : tie.Need-put-decimal-requires
-unfolding tens
-put-decimal-requires c κs = omega (arith, decimal-short 9 (c .before .before .before .before .before .before .before .number .result) (omega arith))
+put-decimal-requires c κs = omega (arith, short-at (c .before .before .before .before .before .before))
 
 slice-aggregate-put-2 : tie.Need-slice-aggregate-put-2
 slice-aggregate-put-2 c = search needs
 
 put-requires-2 : tie.Need-put-requires-2
-unfolding tens
-put-requires-2 c κs = omega (arith, decimal-short 9 (c .before .before .before .before .before .before .before .before .before .before .before .before .number .result) (omega arith))
+put-requires-2 c κs = omega (arith, short-at (c .before .before .before .before .before .before .before .before .before .before .before))
 
 put-decimal-requires-2 : tie.Need-put-decimal-requires-2
-unfolding tens
-put-decimal-requires-2 c κs = omega (arith, decimal-short 9 (c .before .before .before .before .before .before .before .before .before .before .before .before .before .before .before .before .number .result) (omega arith), decimal-short 19 (c .before .before .before .before .before .before .before .before .before .before .before .before .before .before .before .place .result) (omega arith))
+put-decimal-requires-2 c κs = omega (arith, short-at (c .before .before .before .before .before .before .before .before .before .before .before .before .before .before .before))
 
 slice-aggregate-put-3 : tie.Need-slice-aggregate-put-3
 slice-aggregate-put-3 c = search needs
 
 put-requires-3 : tie.Need-put-requires-3
-unfolding tens
-put-requires-3 c κs = omega (arith, decimal-short 9 (c .before .before .before .before .before .before .before .before .before .before .before .before .before .before .before .before .before .before .before .before .before .number .result) (omega arith), decimal-short 19 (c .before .before .before .before .before .before .before .before .before .before .before .before .before .before .before .before .before .before .before .before .place .result) (omega arith))
+put-requires-3 c κs =
+    let p = c .before .before .before .before .before .before .before .before .before .before .before .before .before .before .before .before .before .before .before .before in
+    omega (arith, short-at p)
 
 same-length : tie.Need-same-length
 same-length c = search needs
@@ -51,8 +56,14 @@ same-length c = search needs
 returns : tie.Need-returns
 unfolding refusal-text
 returns c =
-    rw (← c .before .before .before .before .before .before .before .before .before .before .before .before .before .before .before .before .before .before .before .before .before .before .before .before .number .ensures, ← c .before .before .before .before .before .before .before .before .before .before .before .before .before .before .before .before .before .before .before .before .before .before .before .place .ensures)
-    (then (c .before .before .before .before .before .before .before .before .before .before .before .before .before .before .before .before .before .before .before .before .put .ensures) (then (c .before .before .before .before .before .before .before .before .before .before .before .before .before .before .before .before .put-decimal .ensures) (then (c .before .before .before .before .before .before .before .before .before .before .before .put2 .ensures) (then (c .before .before .before .before .before .before .before .put-decimal2 .ensures) (c .before .before .put3 .ensures)))))
+    let five = c .before .before in
+    let four = five .before .before .before .before .before in
+    let three = four .before .before .before .before in
+    let two = three .before .before .before .before .before in
+    let one = two .before .before .before .before in
+    let p = one .before .before .before in
+    rw (← p .before .number .ensures, ← p .place .ensures)
+    (then (one .put .ensures) (then (two .put-decimal .ensures) (then (three .put2 .ensures) (then (four .put-decimal2 .ensures) (five .put3 .ensures)))))
 
 pub put-refusal-spec : {M : Type 1} → statement M
 put-refusal-spec =

@@ -28,8 +28,11 @@ same-length-2 c = search needs
 
 returns : tie.Need-returns
 returns c =
-    let s = c .before .before .before .before .before .before .before .before .before .before .before .before .before .before .before in
-    rw (done-text (s .args .vehicle) (s .args .speeds .now) (s .args .holds .now) (s .args .card .now) (s .pre .1 .0) (c .before .before .before .before .before .before .before .before .before .work .ensures .0) (c .before .before .before .before .before .enum-told .given .1) (c .before .before .before .before .before .before .before .before .before .work .ensures .1))
+    let p = c .before .before .before .before .before in
+    let w = p .before .before .before .before in
+    let s = w .before .before .before .before .before .before in
+    rw (done-text (s .args .vehicle) (s .args .speeds .now) (s .args .holds .now) (s .args .card .now) (s .pre .1 .0)
+    (w .work .ensures .0) (p .enum-told .given .1) (w .work .ensures .1))
     (c .before .before .put-card .ensures)
 
 same-length-3 : tie.Need-same-length-3
@@ -40,8 +43,11 @@ same-length-4 c = search needs
 
 returns-2 : tie.Need-returns-2
 returns-2 c =
-    let s = c .before .before .before .before .before .before .before .before .before .before .before .before .before .before .before in
-    rw (stop-text (s .args .vehicle) (s .args .speeds .now) (s .args .holds .now) (s .args .card .now) (s .pre .1 .0) (c .before .before .before .before .before .before .before .before .before .work .ensures .0) (c .before .before .before .before .before .answer .given .1))
+    let p = c .before .before .before .before .before in
+    let w = p .before .before .before .before in
+    let s = w .before .before .before .before .before .before in
+    rw (stop-text (s .args .vehicle) (s .args .speeds .now) (s .args .holds .now) (s .args .card .now) (s .pre .1 .0)
+    (w .work .ensures .0) (p .answer .given .1))
     (c .before .before .put-refusal .ensures)
 
 pub put-worked-spec : {M : Type 1} → statement M

@@ -1,7 +1,5 @@
--- `cards::checks::hold_fault` meets its contract: 7, then 8, then 9; each return has its own law.
+-- `cards::checks::hold_fault` meets its contract: without a hold check 10 decides, with one 7, 8 and 9 do.
 -- Assumes nothing.
-use Rattle.cards.proofs.Tests.{held-over, held-standing, held-over-rev, held-good}
-use Rattle.gears.specs.Parts.{vehicle-of}
 use native.Mathlib.Omega.{arith}
 use borrow.Author.Needs.{needs}
 use Rattle.cards.proofs.checks.hold_fault.Statement.{statement}
@@ -13,57 +11,12 @@ free-fault-requires c κs = search needs
 returns : tie.Need-returns
 returns c = λ n p hs lo h. c .free-fault .ensures n p hs lo (record { size = h .size; shows = omega arith })
 
-mul-v : tie.Need-mul-v
-mul-v c = search needs
-
-shared-slice-read-v : tie.Need-shared-slice-read-v
-shared-slice-read-v c = search needs
+held-fault-requires : tie.Need-held-fault-requires
+held-fault-requires c κs = search needs
 
 returns-2 : tie.Need-returns-2
-returns-2 c = λ n p hs lo h.
-    let a = c .before .before .before .before .args in
-    let car = vehicle-of (a .k) (a .ratio .now) n p in
-    held-over car (a .speeds .now) hs lo (a .i) h (omega arith)
-
-returns-3 : tie.Need-returns-3
-returns-3 c = λ n p hs lo h.
-    let a = c .before .before .before .before .before .args in
-    let car = vehicle-of (a .k) (a .ratio .now) n p in
-    held-standing car (a .speeds .now) hs lo (a .i) h (λ z. omega arith) (omega arith) (omega arith)
-
-cast-most : tie.Need-cast-most
-cast-most c = search needs
-
-mul-most : tie.Need-mul-most
-mul-most c = search needs
-
-engine-requires : tie.Need-engine-requires
-engine-requires c κs = search needs
-
-returns-4 : tie.Need-returns-4
-returns-4 c = λ n p hs lo h.
-    let a = c .before .before .before .before .before .before .before .before .args in
-    let car = vehicle-of (a .k) (a .ratio .now) n p in
-    held-over-rev car (a .speeds .now) hs lo (a .i) h (λ z. omega arith) (omega arith) (omega arith) (omega arith)
-
-returns-5 : tie.Need-returns-5
-returns-5 c = λ n p hs lo h.
-    let a = c .before .before .before .before .before .before .before .before .args in
-    let car = vehicle-of (a .k) (a .ratio .now) n p in
-    held-good car (a .speeds .now) hs lo (a .i) h (λ z. omega arith) (omega arith) (omega arith) (omega arith)
+returns-2 c = λ n p hs lo h. c .held-fault .ensures n p hs lo h
 
 pub hold-fault-spec : {M : Type 1} → statement M
 hold-fault-spec =
-    tie.close
-    (tie.spec
-    free-fault-requires
-    returns
-    mul-v
-    shared-slice-read-v
-    returns-2
-    returns-3
-    cast-most
-    mul-most
-    engine-requires
-    returns-4
-    returns-5)
+    tie.close (tie.spec free-fault-requires returns held-fault-requires returns-2)

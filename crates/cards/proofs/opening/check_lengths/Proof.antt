@@ -1,28 +1,23 @@
+-- `cards::opening::check_lengths` meets its contract. One line for each return.
+-- Assumes nothing.
 use native.Mathlib.Omega.{arith}
 use mathlib.Core.Path.{sym, _∙_}
 use Rattle.cards.proofs.Working.{no-seconds, too-long, holds-short, card-short, lengths-good}
 use Rattle.cards.proofs.opening.check_lengths.Statement.{statement}
 use Rattle.cards.proofs.opening.check_lengths.Tie as tie
-use Rattle.cards.proofs.opening.check_lengths.Reads as reads
-use Rattle.cards.proofs.opening.check_lengths.Lts as lts
 
--- src/opening.rt:17:9
 returns : tie.Need-returns
 returns c vs hs old l h o = no-seconds vs hs old (l ∙ c .if1 .taken)
 
--- src/opening.rt:20:9
 returns-2 : tie.Need-returns-2
 returns-2 c vs hs old l h o = too-long vs hs old (omega arith)
 
--- src/opening.rt:23:9
 returns-3 : tie.Need-returns-3
 returns-3 c vs hs old l h o = holds-short vs hs old (omega arith) (omega arith) (λ e. c .if3 .taken (sym h ∙ e ∙ l))
 
--- src/opening.rt:26:9
 returns-4 : tie.Need-returns-4
 returns-4 c vs hs old l h o = card-short vs hs old (omega arith) (omega arith) (omega arith) (λ e. c .if4 .taken (sym o ∙ e ∙ l))
 
--- src/opening.rt:13:1
 returns-5 : tie.Need-returns-5
 returns-5 c vs hs old l h o = lengths-good vs hs old (omega arith) (omega arith) (omega arith) (omega arith)
 

@@ -1,19 +1,16 @@
+-- `cards::quick::check_standing` meets its contract. One line for each return.
+-- Assumes nothing.
 use native.Mathlib.Omega.{arith}
 use Rattle.cards.proofs.Working.{standing-over, standing-gear, standing-clear}
 use Rattle.cards.proofs.quick.check_standing.Statement.{statement}
 use Rattle.cards.proofs.quick.check_standing.Tie as tie
-use Rattle.cards.proofs.quick.check_standing.Reads as reads
-use Rattle.cards.proofs.quick.check_standing.Lts as lts
 
--- src/quick.rt:21:9
 returns : tie.Need-returns
 returns c = standing-over (c .before .before .args .vehicle) (c .before .before .args .second) (c .before .before .args .gear) (omega arith)
 
--- src/quick.rt:24:9
 returns-2 : tie.Need-returns-2
 returns-2 c = standing-gear (c .before .before .before .args .vehicle) (c .before .before .before .args .second) (c .before .before .before .args .gear) (omega arith) (c .if2 .taken)
 
--- src/quick.rt:17:1
 returns-3 : tie.Need-returns-3
 returns-3 c = standing-clear (c .before .before .before .args .vehicle) (c .before .before .before .args .second) (c .before .before .before .args .gear) (omega arith) (omega arith)
 

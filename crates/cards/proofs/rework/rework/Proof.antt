@@ -1,3 +1,5 @@
+-- `cards::rework::rework` meets its contract. The trip is worked in its own part of the card, then the second before it.
+-- Assumes nothing.
 use Prim.Native.Nat.{ℕ, _+_, _-_, _%_}
 use native.Mathlib.Omega.{arith}
 use mathlib.Core.Path.{_≡_, ap, _∙_}
@@ -9,78 +11,58 @@ use Rattle.rules.specs.Words.{at}
 use Rattle.cards.proofs.Reworking.{ready, worked}
 use Rattle.cards.proofs.rework.rework.Statement.{statement}
 use Rattle.cards.proofs.rework.rework.Tie as tie
-use Rattle.cards.proofs.rework.rework.Reads as reads
-use Rattle.cards.proofs.rework.rework.Lts as lts
 
--- src/rework.rt:28:17
 add-after : tie.Need-add-after
 add-after c = search needs
 
--- src/rework.rt:34:9
 mul-work-trip : tie.Need-mul-work-trip
 mul-work-trip c = search needs
 
--- src/rework.rt:34:9
 sub-work-trip : tie.Need-sub-work-trip
 sub-work-trip c = search needs
 
--- src/rework.rt:34:9
 part-work-trip-start : tie.Need-part-work-trip-start
 part-work-trip-start c = search needs
 
--- src/rework.rt:34:9
 part-work-trip-end : tie.Need-part-work-trip-end
 part-work-trip-end c = search needs
 
--- src/rework.rt:35:9
 sub-work-trip-2 : tie.Need-sub-work-trip-2
 sub-work-trip-2 c = search needs
 
--- src/rework.rt:35:9
 part-work-trip-start-2 : tie.Need-part-work-trip-start-2
 part-work-trip-start-2 c = search needs
 
--- src/rework.rt:35:9
 part-work-trip-end-2 : tie.Need-part-work-trip-end-2
 part-work-trip-end-2 c = search needs
 
--- src/rework.rt:36:9
 sub-work-trip-3 : tie.Need-sub-work-trip-3
 sub-work-trip-3 c = search needs
 
--- src/rework.rt:36:9
 part-work-trip-start-3 : tie.Need-part-work-trip-start-3
 part-work-trip-start-3 c = search needs
 
--- src/rework.rt:36:9
 part-work-trip-end-3 : tie.Need-part-work-trip-end-3
 part-work-trip-end-3 c = search needs
 
--- src/rework.rt:29:5
 work-trip-requires : tie.Need-work-trip-requires
 work-trip-requires c κs = ready (c .before .before .before .before .before .before .pre)
 
--- src/rework.rt:38:17
 slice-read-first : tie.Need-slice-read-first
 slice-read-first c = search needs
 
--- src/rework.rt:39:19
 add-card : tie.Need-add-card
 add-card c = search needs
 
--- src/rework.rt:39:10
 sub-card : tie.Need-sub-card
 sub-card c = search needs
 
--- src/rework.rt:39:5
 slice-write-card : tie.Need-slice-write-card
 slice-write-card c = search needs
 
--- src/rework.rt:14:1
 same-length : tie.Need-same-length
 same-length c = search needs
 
--- src/rework.rt:14:1
 returns : tie.Need-returns
 returns c =
     let s = c .before .before .before .before .before .before .before .before .before .before in

@@ -1,3 +1,5 @@
+-- `cards::rework::sweep` meets its contract. The invariant: the card is right up to a standing second.
+-- Assumes nothing.
 use Prim.Native.Nat.{_-_}
 use native.Mathlib.Omega.{arith}
 use borrow.Author.Needs.{needs}
@@ -6,9 +8,6 @@ use Rattle.gears.specs.Parts.{vehicle-of}
 use Rattle.cards.proofs.Reworking.{Swept, swept-none, swept-at, swept-more, swept-less, swept-all}
 use Rattle.cards.proofs.rework.sweep.Statement.{statement}
 use Rattle.cards.proofs.rework.sweep.Tie as tie
-use Rattle.cards.proofs.rework.sweep.Reads as reads
-use Rattle.cards.proofs.rework.sweep.Lts as lts
-use Rattle.cards.proofs.rework.stretch.Reads as stretch-reads
 
 abbrev Inv-loop : tie.InvT-loop
 Inv-loop k ratio n p speeds holds card₀ i₀ card i = Swept (vehicle-of k ratio n p) speeds holds card₀ card i
@@ -16,31 +15,25 @@ Inv-loop k ratio n p speeds holds card₀ i₀ card i = Swept (vehicle-of k rati
 abbrev μ-loop : tie.MeasureT-loop
 μ-loop k ratio n p speeds holds card₀ i₀ card i = length speeds - i
 
--- src/rework.rt:81:5
 loop-holds : tie.Need-loop-holds Inv-loop μ-loop
 loop-holds c = swept-none (c .before .before .before .pre)
 
--- src/rework.rt:82:9
 stretch-requires : tie.Need-stretch-requires Inv-loop μ-loop
 stretch-requires c κs = swept-at (c .before .before .before .before .before .before .pre) (c .before .before .loop .inv) (omega arith)
 
--- src/rework.rt:81:5
 loop-less : tie.Need-loop-less Inv-loop μ-loop
 loop-less c =
     let s = c .before .before .before .before .before .before .before .before .before in
     rw (c .before .before .stretch .ensures .0) (swept-less (s .pre) (c .before .before .before .before .before .loop .inv) (omega arith))
 
--- src/rework.rt:81:5
 loop-again : tie.Need-loop-again Inv-loop μ-loop
 loop-again c =
     let s = c .before .before .before .before .before .before .before .before .before in
     swept-more (s .pre) (c .before .before .before .before .before .loop .inv) (omega arith) (c .before .before .stretch .ensures .0) (c .before .before .stretch .ensures .1)
 
--- src/rework.rt:68:1
 same-length : tie.Need-same-length Inv-loop μ-loop
 same-length c = search needs
 
--- src/rework.rt:68:1
 returns : tie.Need-returns Inv-loop μ-loop
 returns c = swept-all (c .before .before .before .before .before .pre) (c .before .loop .inv) (omega arith)
 

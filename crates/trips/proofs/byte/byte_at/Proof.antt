@@ -8,10 +8,6 @@ use Rattle.gears.specs.Parts.{vehicle-of}
 use borrow.Author.Needs.{needs}
 use Rattle.trips.proofs.byte.byte_at.Statement.{statement}
 use Rattle.trips.proofs.byte.byte_at.Tie as tie
-use Rattle.trips.proofs.byte.byte_at.Reads as reads
-use Rattle.trips.proofs.byte.byte_at.Lts as lts
-use Rattle.trips.proofs.byte.bottom.Reads as bottom-reads
-use Rattle.trips.proofs.byte.turning.Reads as turning-reads
 
 mul-v : tie.Need-mul-v
 mul-v c = search needs

@@ -13,9 +13,6 @@ use Rattle.rules.specs.Corrections.{byte}
 use Rattle.rules.specs.Laws.Words.{pass-later}
 use Rattle.trips.proofs.byte.bytes.Statement.{statement}
 use Rattle.trips.proofs.byte.bytes.Tie as tie
-use Rattle.trips.proofs.byte.bytes.Reads as reads
-use Rattle.trips.proofs.byte.bytes.Lts as lts
-use Rattle.trips.proofs.byte.byte_at.Reads as byte-at-reads
 
 abbrev Inv-loop : tie.InvT-loop
 Inv-loop k ratio us gs₀ j₀ gs j = (j ≤ length gs) × (length gs ≡ length gs₀) × ((n p : List ℕ) → gs ≡ pass (λ i rs. byte (vehicle-of k ratio n p) us i (at rs i)) j gs₀)

@@ -8,9 +8,6 @@ use Rattle.rules.specs.Laws.Range.{product}
 use borrow.Author.Needs.{needs}
 use Rattle.trips.proofs.byte.turning.Statement.{statement}
 use Rattle.trips.proofs.byte.turning.Tie as tie
-use Rattle.trips.proofs.byte.turning.Reads as reads
-use Rattle.trips.proofs.byte.turning.Lts as lts
-use Rattle.trips.proofs.byte.place.Reads as place-reads
 
 place-requires : tie.Need-place-requires
 place-requires c κs = search needs

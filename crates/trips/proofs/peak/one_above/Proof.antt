@@ -6,9 +6,6 @@ use Rattle.rules.specs.Laws.Seconds.{above-right, above-left}
 use borrow.Author.Needs.{needs}
 use Rattle.trips.proofs.peak.one_above.Statement.{statement}
 use Rattle.trips.proofs.peak.one_above.Tie as tie
-use Rattle.trips.proofs.peak.one_above.Reads as reads
-use Rattle.trips.proofs.peak.one_above.Lts as lts
-use Rattle.trips.proofs.peak.over.Reads as over-reads
 
 over-requires : tie.Need-over-requires
 over-requires c κs = search needs

@@ -5,8 +5,6 @@ use Rattle.rules.specs.Laws.Seconds.{over-no, over-yes}
 use borrow.Author.Needs.{needs}
 use Rattle.trips.proofs.peak.over.Statement.{statement}
 use Rattle.trips.proofs.peak.over.Tie as tie
-use Rattle.trips.proofs.peak.over.Reads as reads
-use Rattle.trips.proofs.peak.over.Lts as lts
 
 add-if1 : tie.Need-add-if1
 add-if1 c = search needs

@@ -1,34 +1,39 @@
--- `trips::peak::pass_a` meets its contract. The loop's invariant: the slice is what pass A has made of it up to second j.
+-- `trips::peak::pass_a` meets its contract. The loop's invariant: the slice is what pass A has made of it up to second j, and the gear before j goes along.
 -- Assumes nothing.
-use Prim.Native.Nat.{ℕ, _≤_, _-_}
-use mathlib.Core.Path.{_≡_, refl, ap, _∙_}
+use Prim.Native.Nat.{_-_}
+use mathlib.Core.Path.{_∙_}
 use native.Mathlib.Omega.{arith}
-use mathlib.Core.List.{List}
 use lib.ListN.{length, length-set}
-use Rattle.rules.specs.Words.{pass}
-use Rattle.rules.specs.Laws.Passes.{pass-start, pass-more}
+use Rattle.rules.specs.Laws.Passes.{pass-first}
 use Rattle.gears.specs.Parts.{vehicle-of}
 use Rattle.rules.specs.Corrections.{peak}
+use Rattle.trips.proofs.Along.{Along, along-start, along-more, along-end, peak-first}
 use Rattle.trips.proofs.peak.pass_a.Statement.{statement}
 use Rattle.trips.proofs.peak.pass_a.Tie as tie
-use Rattle.trips.proofs.peak.pass_a.Reads as reads
-use Rattle.trips.proofs.peak.pass_a.Lts as lts
-use Rattle.trips.proofs.peak.peak_at.Reads as peak-at-reads
 
 abbrev Inv-loop : tie.InvT-loop
-Inv-loop k ratio us hs gs₀ j₀ gs j = (j ≤ length gs) × (length gs ≡ length gs₀) × ((n p : List ℕ) → gs ≡ pass (peak (vehicle-of k ratio n p) us hs) j gs₀)
+Inv-loop k ratio us hs gs₀ j₀ last₀ gs j last = Along (λ n p. peak (vehicle-of k ratio n p) us hs) gs₀ gs j last
 
 abbrev μ-loop : tie.MeasureT-loop
-μ-loop k ratio us hs gs₀ j₀ gs j = length gs - j
+μ-loop k ratio us hs gs₀ j₀ last₀ gs j last = length gs - j
+
+returns : tie.Need-returns Inv-loop μ-loop
+returns c =
+    let s = c .before .before .before .before in
+    let a = s .args in
+    λ n p. pass-first (peak (vehicle-of (a .k) (a .ratio .now) n p) (a .us .now) (a .hs .now)) (a .gs .now) (length (a .hs .now)) (omega (arith, s .pre .1 .gears)) (peak-first (vehicle-of (a .k) (a .ratio .now) n p) (a .us .now) (a .hs .now) (a .gs .now))
+
+slice-read-last : tie.Need-slice-read-last Inv-loop μ-loop
+slice-read-last c = omega arith
 
 loop-holds : tie.Need-loop-holds Inv-loop μ-loop
-loop-holds c = (omega arith, refl, λ n p. pass-start _ _)
+loop-holds c = let a = c .before .before .before .before .before .args in along-start (λ n p. peak (vehicle-of (a .k) (a .ratio .now) n p) (a .us .now) (a .hs .now)) (λ n p gs. peak-first (vehicle-of (a .k) (a .ratio .now) n p) (a .us .now) (a .hs .now) gs) (a .gs .now) (omega arith)
 
 peak-at-requires : tie.Need-peak-at-requires Inv-loop μ-loop
 peak-at-requires c κs =
-    let s = c .before .before .before .before .before .before in
-    let l = c .before .before .loop in
-    (s .pre .0, record { speeds = s .pre .1 .speeds; gears = l .inv .1 ∙ s .pre .1 .gears }, omega (arith, l .inv, s .pre .1 .gears))
+    let s = c .before .before .before .before .before .before .before .before in
+    let l = c .before .before .loop .inv in
+    (s .pre .0, record { speeds = s .pre .1 .speeds; gears = l .size ∙ s .pre .1 .gears }, l .later, omega arith)
 
 slice-write-gs : tie.Need-slice-write-gs Inv-loop μ-loop
 slice-write-gs c = omega arith
@@ -41,24 +46,17 @@ loop-less c = simp length-set (omega arith)
 
 loop-again : tie.Need-loop-again Inv-loop μ-loop
 loop-again c =
-    let s = c .before .before .before .before .before .before .before in
-    let a = s .args in
-    let l = c .before .before .before .loop in (
-      simp length-set (omega arith),
-      simp length-set (l .inv .1),
-      λ n p. pass-more (peak (vehicle-of (a .k) (a .ratio .now) n p) (a .us .now) (a .hs .now)) (a .gs .now) (l .gs) (l .j) (c .peak-at .result) (l .inv .2 n p) (c .peak-at .ensures n p),
-    )
+    let a = c .before .before .before .before .before .before .before .before .before .args in
+    along-more (λ n p. peak (vehicle-of (a .k) (a .ratio .now) n p) (a .us .now) (a .hs .now)) (c .before .before .before .loop .inv) (omega arith) (c .peak-at .result) _ (c .peak-at .ensures) (omega arith)
 
 same-length : tie.Need-same-length Inv-loop μ-loop
-same-length c = c .before .loop .inv .1
+same-length c = c .before .loop .inv .size
 
-returns : tie.Need-returns Inv-loop μ-loop
-returns c =
-    let s = c .before .before .before .before .before in
+returns-2 : tie.Need-returns-2 Inv-loop μ-loop
+returns-2 c =
+    let s = c .before .before .before .before .before .before .before in
     let a = s .args in
-    let l = c .before .loop in
-    let e : l .j ≡ length (a .hs .now) = omega (arith, l .inv, s .pre .1 .gears) in
-    λ n p. l .inv .2 n p ∙ ap (λ (i : ℕ). pass (peak (vehicle-of (a .k) (a .ratio .now) n p) (a .us .now) (a .hs .now)) i (a .gs .now)) e
+    along-end (λ n p. peak (vehicle-of (a .k) (a .ratio .now) n p) (a .us .now) (a .hs .now)) (c .before .loop .inv) (omega arith) (length (a .hs .now)) (s .pre .1 .gears)
 
 pub pass-a-spec : {M : Type 1} → statement M
 pass-a-spec =
@@ -66,6 +64,8 @@ pass-a-spec =
     (tie.spec
     Inv-loop
     μ-loop
+    returns
+    slice-read-last
     loop-holds
     peak-at-requires
     slice-write-gs
@@ -73,4 +73,4 @@ pass-a-spec =
     loop-less
     loop-again
     same-length
-    returns)
+    returns-2)

@@ -2,27 +2,23 @@
 -- Assumes nothing.
 use native.Mathlib.Omega.{arith}
 use mathlib.Core.Path.{sym, _∙_}
-use Rattle.rules.specs.Laws.Seconds.{free-held, free-first, free-later, above-some, peak-still, peak-last, peak-flat, peak-floor, peak-cut}
+use Rattle.rules.specs.Laws.Seconds.{free-held, free-later, peak-level, peak-still, peak-last, peak-flat, peak-floor, peak-cut}
 use Rattle.gears.specs.Parts.{vehicle-of}
 use borrow.Author.Needs.{needs}
 use Rattle.trips.proofs.peak.peak_at.Statement.{statement}
 use Rattle.trips.proofs.peak.peak_at.Tie as tie
-use Rattle.trips.proofs.peak.peak_at.Reads as reads
-use Rattle.trips.proofs.peak.peak_at.Lts as lts
-use Rattle.gears.proofs.floor.Reads as floor-reads
-use Rattle.trips.proofs.peak.one_above.Reads as one-above-reads
 
 shared-slice-read-g : tie.Need-shared-slice-read-g
 shared-slice-read-g c = search needs
 
-shared-slice-read-if1 : tie.Need-shared-slice-read-if1
-shared-slice-read-if1 c = search needs
-
 returns : tie.Need-returns
-returns c = let a = c .before .before .before .before .before .before .args in λ n p. let car = vehicle-of (a .k) (a .ratio .now) n p in peak-still car (a .us .now) (a .hs .now) (a .j) (a .gs .now) (free-held car (a .us .now) (a .hs .now) (a .j) (λ z. omega arith))
+returns c = let a = c .before .before .before .before .before .args in let q = c .before .before .before .before .before .pre in λ n p. let car = vehicle-of (a .k) (a .ratio .now) n p in peak-level car (a .us .now) (a .hs .now) (a .j) (a .gs .now) (omega (arith, q .2 .last-is))
+
+shared-slice-read-if2 : tie.Need-shared-slice-read-if2
+shared-slice-read-if2 c = search needs
 
 returns-2 : tie.Need-returns-2
-returns-2 c = let a = c .before .before .before .before .before .before .before .args in λ n p. let car = vehicle-of (a .k) (a .ratio .now) n p in peak-still car (a .us .now) (a .hs .now) (a .j) (a .gs .now) (free-first car (a .us .now) (a .hs .now) (a .j) (omega arith))
+returns-2 c = let a = c .before .before .before .before .before .before .before .args in λ n p. let car = vehicle-of (a .k) (a .ratio .now) n p in peak-still car (a .us .now) (a .hs .now) (a .j) (a .gs .now) (free-held car (a .us .now) (a .hs .now) (a .j) (λ z. omega arith))
 
 add-if3 : tie.Need-add-if3
 add-if3 c = search needs
@@ -30,20 +26,17 @@ add-if3 c = search needs
 returns-3 : tie.Need-returns-3
 returns-3 c = let a = c .before .before .before .before .before .before .before .before .args in λ n p. let car = vehicle-of (a .k) (a .ratio .now) n p in peak-last car (a .us .now) (a .hs .now) (a .j) (a .gs .now) (omega arith)
 
-shared-slice-read-p : tie.Need-shared-slice-read-p
-shared-slice-read-p c = search needs
+add-next : tie.Need-add-next
+add-next c = search needs
 
-add-q : tie.Need-add-q
-add-q c = search needs
-
-shared-slice-read-q : tie.Need-shared-slice-read-q
-shared-slice-read-q c = search needs
+shared-slice-read-next : tie.Need-shared-slice-read-next
+shared-slice-read-next c = search needs
 
 one-above-requires : tie.Need-one-above-requires
 one-above-requires c κs = search needs
 
 sub-down : tie.Need-sub-down
-sub-down c = above-some _ _ _ (sym (c .before .one-above .ensures) ∙ c .if4 .taken)
+sub-down c = search needs
 
 mul-floor : tie.Need-mul-floor
 mul-floor c = search needs
@@ -55,30 +48,29 @@ floor-requires : tie.Need-floor-requires
 floor-requires c κs = search needs
 
 cast-if5 : tie.Need-cast-if5
-cast-if5 c = omega (arith, c .before .before .before .before .before .before .before .before .before .shared-slice-known5 .given (c .before .before .before .before .before .before .before .before .before .before .before .before .before .before .args .j), c .before .before .before .before .before .before .before .before .before .before .shared-slice-known4 .given (c .before .before .before .before .before .before .before .before .before .before .before .before .before .before .args .j))
+cast-if5 c = omega (arith, c .before .before .before .before .before .before .before .before .before .shared-slice-known4 .given (c .before .before .before .before .before .before .before .before .before .before .before .before .before .args .j), c .before .before .before .before .before .before .before .before .before .before .shared-slice-known3 .given (c .before .before .before .before .before .before .before .before .before .before .before .before .before .args .j))
 
 returns-4 : tie.Need-returns-4
-returns-4 c = let a = c .before .before .before .before .before .before .before .before .before .before .before .before .before .before .before .args in λ n p. let car = vehicle-of (a .k) (a .ratio .now) n p in peak-cut car (a .us .now) (a .hs .now) (a .j) (a .gs .now) (free-later car (a .us .now) (a .hs .now) (a .j) (omega arith) (omega arith)) (omega arith) (sym (c .before .before .before .before .one-above .ensures) ∙ c .before .before .before .if4 .taken) (omega (arith, c .if5 .taken, c .before .floor .ensures n p))
+returns-4 c = let a = c .before .before .before .before .before .before .before .before .before .before .before .before .before .before .args in let q = c .before .before .before .before .before .before .before .before .before .before .before .before .before .before .pre in λ n p. let car = vehicle-of (a .k) (a .ratio .now) n p in peak-cut car (a .us .now) (a .hs .now) (a .j) (a .gs .now) (free-later car (a .us .now) (a .hs .now) (a .j) (omega arith) (q .2 .from)) (omega arith) (rw (← q .2 .last-is) (sym (c .before .before .before .before .one-above .ensures) ∙ c .before .before .before .if4 .taken)) (omega (arith, c .if5 .taken, c .before .floor .ensures n p))
 
 returns-5 : tie.Need-returns-5
-returns-5 c = let a = c .before .before .before .before .before .before .before .before .before .before .before .before .before .before .before .args in λ n p. let car = vehicle-of (a .k) (a .ratio .now) n p in peak-floor car (a .us .now) (a .hs .now) (a .j) (a .gs .now) (omega (arith, c .if5 .left, c .before .floor .ensures n p))
+returns-5 c = let a = c .before .before .before .before .before .before .before .before .before .before .before .before .before .before .args in λ n p. let car = vehicle-of (a .k) (a .ratio .now) n p in peak-floor car (a .us .now) (a .hs .now) (a .j) (a .gs .now) (omega (arith, c .if5 .left, c .before .floor .ensures n p))
 
 returns-6 : tie.Need-returns-6
-returns-6 c = let a = c .before .before .before .before .before .before .before .before .before .before .before .before .args in λ n p. let car = vehicle-of (a .k) (a .ratio .now) n p in peak-flat car (a .us .now) (a .hs .now) (a .j) (a .gs .now) (sym (c .before .one-above .ensures) ∙ c .if4 .left)
+returns-6 c = let a = c .before .before .before .before .before .before .before .before .before .before .before .args in let q = c .before .before .before .before .before .before .before .before .before .before .before .pre in λ n p. let car = vehicle-of (a .k) (a .ratio .now) n p in peak-flat car (a .us .now) (a .hs .now) (a .j) (a .gs .now) (rw (← q .2 .last-is) (sym (c .before .one-above .ensures) ∙ c .if4 .left))
 
 pub peak-at-spec : {M : Type 1} → statement M
 peak-at-spec =
     tie.close
     (tie.spec
     shared-slice-read-g
-    shared-slice-read-if1
     returns
+    shared-slice-read-if2
     returns-2
     add-if3
     returns-3
-    shared-slice-read-p
-    add-q
-    shared-slice-read-q
+    add-next
+    shared-slice-read-next
     one-above-requires
     sub-down
     mul-floor

@@ -5,8 +5,6 @@ use borrow.Author.Needs.{needs}
 use Rattle.rules.specs.Laws.Closing.{Closing, run-start, run-never, run-more, run-stops, run-whole}
 use Rattle.trips.proofs.slowing.closing_from.Statement.{statement}
 use Rattle.trips.proofs.slowing.closing_from.Tie as tie
-use Rattle.trips.proofs.slowing.closing_from.Reads as reads
-use Rattle.trips.proofs.slowing.closing_from.Lts as lts
 
 abbrev Inv-loop : tie.InvT-loop
 Inv-loop us j₀ j = Closing us j

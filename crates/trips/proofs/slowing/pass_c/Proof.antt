@@ -12,10 +12,6 @@ use Rattle.rules.specs.Corrections.{slowing}
 use Rattle.rules.specs.Laws.Seconds.{slowing-open}
 use Rattle.trips.proofs.slowing.pass_c.Statement.{statement}
 use Rattle.trips.proofs.slowing.pass_c.Tie as tie
-use Rattle.trips.proofs.slowing.pass_c.Reads as reads
-use Rattle.trips.proofs.slowing.pass_c.Lts as lts
-use Rattle.trips.proofs.slowing.closing_from.Reads as closing-from-reads
-use Rattle.trips.proofs.slowing.slowing_at.Reads as slowing-at-reads
 
 abbrev Inv-loop : tie.InvT-loop
 Inv-loop us hs gs₀ j₀ gs j = (j ≤ length gs) × (length gs ≡ length gs₀) × ((car : Vehicle) → gs ≡ pass (slowing car us hs) j gs₀) × (j₀ ≤ j)

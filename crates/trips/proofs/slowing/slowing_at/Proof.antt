@@ -5,8 +5,6 @@ use Rattle.rules.specs.Laws.Seconds.{free-held, free-first, free-later, slowing
 use borrow.Author.Needs.{needs}
 use Rattle.trips.proofs.slowing.slowing_at.Statement.{statement}
 use Rattle.trips.proofs.slowing.slowing_at.Tie as tie
-use Rattle.trips.proofs.slowing.slowing_at.Reads as reads
-use Rattle.trips.proofs.slowing.slowing_at.Lts as lts
 
 shared-slice-read-g : tie.Need-shared-slice-read-g
 shared-slice-read-g c = search needs

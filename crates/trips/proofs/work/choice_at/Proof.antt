@@ -12,10 +12,6 @@ use Rattle.gears.specs.Parts.{vehicle-of}
 use borrow.Author.Needs.{needs}
 use Rattle.trips.proofs.work.choice_at.Statement.{statement}
 use Rattle.trips.proofs.work.choice_at.Tie as tie
-use Rattle.trips.proofs.work.choice_at.Reads as reads
-use Rattle.trips.proofs.work.choice_at.Lts as lts
-use Rattle.gears.proofs.first_choice.Reads as first-choice-reads
-use Rattle.gears.proofs.step_of.Reads as step-of-reads
 
 mul-v : tie.Need-mul-v
 mul-v c = search needs

@@ -10,9 +10,6 @@ use Rattle.rules.specs.Laws.Passes.{pass-start, pass-more, firsts-fresh}
 use Rattle.gears.specs.Parts.{vehicle-of}
 use Rattle.trips.proofs.work.first_choices.Statement.{statement}
 use Rattle.trips.proofs.work.first_choices.Tie as tie
-use Rattle.trips.proofs.work.first_choices.Reads as reads
-use Rattle.trips.proofs.work.first_choices.Lts as lts
-use Rattle.trips.proofs.work.choice_at.Reads as choice-at-reads
 
 abbrev Inv-loop : tie.InvT-loop
 Inv-loop k ratio n p us hs gs₀ j₀ gs j = (j ≤ length gs) × (length gs ≡ length gs₀) × (gs ≡ pass (first-choice (vehicle-of k ratio n p) us hs) j gs₀)

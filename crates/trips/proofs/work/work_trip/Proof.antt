@@ -8,13 +8,6 @@ use Rattle.trips.proofs.Trip.{gears-is, bytes-is, moves-on, gears-small
 use borrow.Author.Needs.{needs}
 use Rattle.trips.proofs.work.work_trip.Statement.{statement}
 use Rattle.trips.proofs.work.work_trip.Tie as tie
-use Rattle.trips.proofs.work.work_trip.Reads as reads
-use Rattle.trips.proofs.work.work_trip.Lts as lts
-use Rattle.trips.proofs.byte.bytes.Reads as bytes-reads
-use Rattle.trips.proofs.peak.pass_a.Reads as pass-a-reads
-use Rattle.trips.proofs.rising.pass_b.Reads as pass-b-reads
-use Rattle.trips.proofs.slowing.pass_c.Reads as pass-c-reads
-use Rattle.trips.proofs.work.first_choices.Reads as first-choices-reads
 
 -- the vehicle whose parts are lent
 abbrev car : tie.Start → Vehicle
@@ -57,7 +50,7 @@ same-length c = search needs
 returns : tie.Need-returns
 returns c =
     let s = start (c .before .before .before .before .before .before) in
-    bytes-is (car s) (s .args .us .now) (s .args .hs .now) (done (c .before .before .before .before .before .before)) (c .before .before .bytes .ensures (s .args .n .now) (s .args .p .now))
+    rw (bytes-is (car s) (s .args .us .now) (s .args .hs .now) (done (c .before .before .before .before .before .before)) (c .before .before .bytes .ensures (s .args .n .now) (s .args .p .now)))
 
 pub work-trip-spec : {M : Type 1} → statement M
 work-trip-spec =

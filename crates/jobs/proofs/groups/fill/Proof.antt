@@ -1,0 +1,89 @@
+-- `jobs::groups::fill` meets its contract. The loop's invariant: the groups that are left, put after those that are read, are what was asked.
+-- Assumes nothing.
+use Prim.Native.Nat.{_≤_, _-_}
+use native.Mathlib.Numerals.{add-one}
+use native.Mathlib.Omega.{arith}
+use mathlib.Core.Path.{_≡_, refl}
+use lib.ListN.{length, length-set}
+use lib.Seq.{sets}
+use borrow.Author.Needs.{needs}
+use Rattle.jobs.specs.Stages.{filling}
+use Rattle.jobs.proofs.Loops.{Groups, fill-begins, ends, stops, again}
+use Rattle.jobs.proofs.groups.fill.Statement.{statement}
+use Rattle.jobs.proofs.groups.fill.Tie as tie
+
+abbrev Inv-loop : tie.InvT-loop
+Inv-loop job at count values₀ next₀ i₀ values next i = (i ≤ count) × (length values ≡ length values₀) × Groups job count i next (sets values i) (filling job count values₀ at)
+
+abbrev μ-loop : tie.MeasureT-loop
+μ-loop job at count values₀ next₀ i₀ values next i = count - i
+
+loop-holds : tie.Need-loop-holds Inv-loop μ-loop
+loop-holds c = (omega arith, refl, fill-begins _ _ _ _)
+
+group-at-requires : tie.Need-group-at-requires Inv-loop μ-loop
+group-at-requires c κs = search needs
+
+enum-known-g : tie.Need-enum-known-g Inv-loop μ-loop
+enum-known-g c = search needs
+
+enum-told : tie.Need-enum-told Inv-loop μ-loop
+enum-told c = search needs
+
+place-requires : tie.Need-place-requires Inv-loop μ-loop
+place-requires c κs = search needs
+
+same-length : tie.Need-same-length Inv-loop μ-loop
+same-length c = search needs
+
+returns : tie.Need-returns Inv-loop μ-loop
+returns c =
+    let c₁ = c .before .before .before in
+    let c₂ = c₁ .before .before in
+    let g = c .before .enum-told .given .1 in
+    rw (c .place .ensures, g) (stops (c₂ .loop .inv .2) (omega arith) (rw g at (c₁ .group-at .ensures)))
+
+mul-values : tie.Need-mul-values Inv-loop μ-loop
+mul-values c = search needs
+
+slice-write-values : tie.Need-slice-write-values Inv-loop μ-loop
+slice-write-values c = search needs
+
+add-i : tie.Need-add-i Inv-loop μ-loop
+add-i c = search needs
+
+loop-less : tie.Need-loop-less Inv-loop μ-loop
+loop-less c = search needs
+
+loop-again : tie.Need-loop-again Inv-loop μ-loop
+loop-again c =
+    let c₁ = c .before .before .before in
+    let c₂ = c₁ .before .before in
+    (omega arith, simp length-set (c₂ .loop .inv .1), rw add-one (rw add-one at (again (c₂ .loop .inv .2) (omega arith) (rw (c .before .g .given .1) at (c₁ .group-at .ensures)))))
+
+same-length-2 : tie.Need-same-length-2 Inv-loop μ-loop
+same-length-2 c = search needs
+
+returns-2 : tie.Need-returns-2 Inv-loop μ-loop
+returns-2 c = ends (c .before .loop .inv .2) (omega arith)
+
+pub fill-spec : {M : Type 1} → statement M
+fill-spec =
+    tie.close
+    (tie.spec
+    Inv-loop
+    μ-loop
+    loop-holds
+    group-at-requires
+    enum-known-g
+    enum-told
+    place-requires
+    same-length
+    returns
+    mul-values
+    slice-write-values
+    add-i
+    loop-less
+    loop-again
+    same-length-2
+    returns-2)

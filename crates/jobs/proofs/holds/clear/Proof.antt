@@ -1,0 +1,55 @@
+-- `jobs::holds::clear` meets its contract. The loop's invariant: the places before i are 0, the others as they were.
+-- Assumes nothing.
+use Prim.Native.Nat.{ℕ, _≤_, _-_}
+use native.Mathlib.Omega.{arith}
+use mathlib.Core.List.{List, _++_, append-nil}
+use mathlib.Core.Path.{_≡_, refl, _∙_, ap}
+use lib.ListN.{length-set, length, replicate, drop, set}
+use lib.Seq.{drop-length}
+use borrow.Author.Fill.{fill-more}
+use borrow.Author.Needs.{needs}
+use Rattle.jobs.proofs.holds.clear.Statement.{statement}
+use Rattle.jobs.proofs.holds.clear.Tie as tie
+
+abbrev Inv-loop : tie.InvT-loop
+Inv-loop room₀ i₀ room i = (i ≤ length room₀) × (length room ≡ length room₀) × (room ≡ replicate i 0 ++ drop i room₀)
+
+abbrev μ-loop : tie.MeasureT-loop
+μ-loop room₀ i₀ room i = length room₀ - i
+
+loop-holds : tie.Need-loop-holds Inv-loop μ-loop
+loop-holds c = (omega arith, refl, refl)
+
+slice-write-room : tie.Need-slice-write-room Inv-loop μ-loop
+slice-write-room c = search needs
+
+add-i : tie.Need-add-i Inv-loop μ-loop
+add-i c = search needs
+
+loop-less : tie.Need-loop-less Inv-loop μ-loop
+loop-less c = search needs
+
+loop-again : tie.Need-loop-again Inv-loop μ-loop
+loop-again c = (omega arith, simp length-set (c .before .loop .inv .1), ap (λ (l : List ℕ). set l (c .before .loop .i) 0) (c .before .loop .inv .2) ∙ fill-more (c .before .loop .i) 0 (c .before .before .args .room .now) (omega arith))
+
+same-length : tie.Need-same-length Inv-loop μ-loop
+same-length c = search needs
+
+returns : tie.Need-returns Inv-loop μ-loop
+returns c =
+    let e : c .before .loop .i ≡ length (c .before .before .args .room .now) = omega arith in
+    (rw (e, drop-length) at (c .before .loop .inv .2)) ∙ append-nil (replicate (length (c .before .before .args .room .now)) 0)
+
+pub clear-spec : {M : Type 1} → statement M
+clear-spec =
+    tie.close
+    (tie.spec
+    Inv-loop
+    μ-loop
+    loop-holds
+    slice-write-room
+    add-i
+    loop-less
+    loop-again
+    same-length
+    returns)

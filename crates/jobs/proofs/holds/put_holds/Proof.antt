@@ -1,0 +1,89 @@
+-- `jobs::holds::put_holds` meets its contract. The loop's invariant: reading the holds that are left into the room as it stands is what was asked.
+-- Assumes nothing.
+use Prim.Native.Nat.{_≤_, _-_}
+use native.Mathlib.Omega.{arith}
+use mathlib.Core.Path.{_≡_, refl}
+use lib.ListN.{length, length-set, length-replicate}
+use borrow.Author.Needs.{needs}
+use Rattle.rules.specs.Job.{holds-read}
+use Rattle.jobs.proofs.Loops.{Putting, put-begins, put-ends, second-comes, second-in, gear-comes, gear-in, put-again}
+use Rattle.jobs.proofs.holds.put_holds.Statement.{statement}
+use Rattle.jobs.proofs.holds.put_holds.Tie as tie
+
+abbrev Inv-loop : tie.InvT-loop
+Inv-loop job at holds room₀ place₀ i₀ room place i = (i ≤ holds) × (length room ≡ length room₀) × Putting job holds i (length room₀) place room (holds-read job holds 0 (length room₀) room₀ at)
+
+abbrev μ-loop : tie.MeasureT-loop
+μ-loop job at holds room₀ place₀ i₀ room place i = holds - i
+
+clear-requires : tie.Need-clear-requires Inv-loop μ-loop
+clear-requires c κs = search needs
+
+loop-holds : tie.Need-loop-holds Inv-loop μ-loop
+loop-holds c = (omega arith, refl, put-begins _ _ _ _ _)
+
+judged-at-requires : tie.Need-judged-at-requires Inv-loop μ-loop
+judged-at-requires c κs =
+    let c₁ = c .before in
+    let c₀ = c₁ .before .before .before in
+    second-comes (c₁ .loop .inv .2) (omega arith) (rw (c₀ .clear .ensures, length-replicate) (c₀ .before .before .before .before .pre))
+
+judged-at-requires-2 : tie.Need-judged-at-requires-2 Inv-loop μ-loop
+judged-at-requires-2 c κs =
+    let c₁ = c .before .before in
+    let c₀ = c₁ .before .before .before in
+    gear-comes (c₁ .loop .inv .2) (omega arith) (rw (c₀ .clear .ensures, length-replicate) (c₀ .before .before .before .before .pre)) (c .judged-at .ensures)
+
+cast-room : tie.Need-cast-room Inv-loop μ-loop
+cast-room c =
+    let c₁ = c .before .before .before .before in
+    let c₀ = c₁ .before .before .before in
+    omega (arith, gear-in (c₁ .loop .inv .2) (omega arith) (rw (c₀ .clear .ensures, length-replicate) (c₀ .before .before .before .before .pre)) (c .before .before .judged-at .ensures) (c .before .judged-at2 .ensures))
+
+cast-room-2 : tie.Need-cast-room-2 Inv-loop μ-loop
+cast-room-2 c = search needs
+
+slice-write-room : tie.Need-slice-write-room Inv-loop μ-loop
+slice-write-room c =
+    let c₁ = c .before .before .before .before .before in
+    let c₀ = c₁ .before .before .before in
+    omega (arith, second-in (c₁ .loop .inv .2) (omega arith) (rw (c₀ .clear .ensures, length-replicate) (c₀ .before .before .before .before .pre)) (c .before .before .before .judged-at .ensures))
+
+add-i : tie.Need-add-i Inv-loop μ-loop
+add-i c = search needs
+
+loop-less : tie.Need-loop-less Inv-loop μ-loop
+loop-less c = search needs
+
+loop-again : tie.Need-loop-again Inv-loop μ-loop
+loop-again c =
+    let c₁ = c .before .before .before .before .before in
+    let c₀ = c₁ .before .before .before in
+    (omega arith, simp length-set (c₁ .loop .inv .1), put-again (c₁ .loop .inv .2) (omega arith) (rw (c₀ .clear .ensures, length-replicate) (c₀ .before .before .before .before .pre)) (c .before .before .before .judged-at .ensures) (c .before .before .judged-at2 .ensures))
+
+same-length : tie.Need-same-length Inv-loop μ-loop
+same-length c = search needs
+
+returns : tie.Need-returns Inv-loop μ-loop
+returns c =
+    let c₀ = c .before .before .before .before in
+    rw (c₀ .clear .ensures, length-replicate) at (put-ends (c .before .loop .inv .2) (omega arith))
+
+pub put-holds-spec : {M : Type 1} → statement M
+put-holds-spec =
+    tie.close
+    (tie.spec
+    Inv-loop
+    μ-loop
+    clear-requires
+    loop-holds
+    judged-at-requires
+    judged-at-requires-2
+    cast-room
+    cast-room-2
+    slice-write-room
+    add-i
+    loop-less
+    loop-again
+    same-length
+    returns)

@@ -1,0 +1,13 @@
+-- `jobs::vehicle::blank` meets its contract: each place of its arrays is 0.
+-- Assumes nothing.
+use mathlib.Core.Path.{refl}
+use Rattle.rules.specs.Job.{blank}
+use Rattle.jobs.proofs.vehicle.blank.Statement.{statement}
+use Rattle.jobs.proofs.vehicle.blank.Tie as tie
+
+returns : tie.Need-returns
+unfolding blank
+returns c = refl
+
+pub blank-spec : {M : Type 1} → statement M
+blank-spec = tie.close (tie.spec returns)

@@ -1,0 +1,118 @@
+-- `jobs::vehicle::car_at` meets its contract: one law for each `return`.
+-- Assumes nothing.
+use borrow.Author.Needs.{needs}
+use Rattle.jobs.proofs.Ways.{version-stops, gears-stop, numbers-stop, car-on}
+use Rattle.jobs.proofs.vehicle.car_at.Statement.{statement}
+use Rattle.jobs.proofs.vehicle.car_at.Tie as tie
+
+bounded-requires : tie.Need-bounded-requires
+bounded-requires c κs = search needs
+
+enum-known-version : tie.Need-enum-known-version
+enum-known-version c = search needs
+
+enum-told : tie.Need-enum-told
+enum-told c = search needs
+
+place-requires : tie.Need-place-requires
+place-requires c κs = search needs
+
+no-car-requires : tie.Need-no-car-requires
+no-car-requires c κs = search needs
+
+returns : tie.Need-returns
+returns c =
+    let c₁ = c .before .before in
+    let c₂ = c₁ .before .before in
+    let s = c₂ .before .before in
+    let g = c₁ .enum-told .given .1 in
+    rw (c .no-car .ensures, c .before .place .ensures, g) (version-stops (s .args .job .now) 0 (rw g at (c₂ .bounded .ensures)))
+
+gearbox-at-requires : tie.Need-gearbox-at-requires
+gearbox-at-requires c κs = search needs
+
+enum-known-gears : tie.Need-enum-known-gears
+enum-known-gears c = search needs
+
+enum-told-2 : tie.Need-enum-told-2
+enum-told-2 c = search needs
+
+no-car-requires-2 : tie.Need-no-car-requires-2
+no-car-requires-2 c κs = search needs
+
+returns-2 : tie.Need-returns-2
+returns-2 c =
+    let c₁ = c .before .before .before in
+    let c₂ = c₁ .before .before in
+    let c₃ = c₂ .before .before in
+    let s = c₃ .before .before in
+    let g = c .before .enum-told2 .given .1 in
+    rw (c .no-car2 .ensures, g) (gears-stop (s .args .job .now) 0 (rw (c₂ .version .given .1) at (c₃ .bounded .ensures)) (rw g at (c₁ .gearbox-at .ensures)))
+
+slice-aggregate-fill : tie.Need-slice-aggregate-fill
+slice-aggregate-fill c = search needs
+
+fill-requires : tie.Need-fill-requires
+fill-requires c κs = search needs
+
+enum-known-eight : tie.Need-enum-known-eight
+enum-known-eight c = search needs
+
+enum-told-3 : tie.Need-enum-told-3
+enum-told-3 c = search needs
+
+no-car-requires-3 : tie.Need-no-car-requires-3
+no-car-requires-3 c κs = search needs
+
+returns-3 : tie.Need-returns-3
+returns-3 c =
+    let c₁ = c .before .before .before .before in
+    let c₂ = c₁ .before .before .before in
+    let c₃ = c₂ .before .before in
+    let c₄ = c₃ .before .before in
+    let c₅ = c₄ .before .before in
+    let s = c₅ .before .before in
+    let g = c .before .enum-told3 .given .1 in
+    rw (c .no-car3 .ensures, g) (numbers-stop (s .args .job .now) 0 (rw (c₄ .version .given .1) at (c₅ .bounded .ensures)) (rw (c₂ .gears .given .1) at (c₃ .gearbox-at .ensures)) (rw g at (c₁ .fill .ensures)))
+
+curve-at-requires : tie.Need-curve-at-requires
+curve-at-requires c κs = search needs
+
+vehicle-of-requires : tie.Need-vehicle-of-requires
+vehicle-of-requires c κs = search needs
+
+returns-4 : tie.Need-returns-4
+returns-4 c =
+    let c₁ = c .before .before .before in
+    let c₂ = c₁ .before .before .before in
+    let c₃ = c₂ .before .before .before in
+    let c₄ = c₃ .before .before in
+    let c₅ = c₄ .before .before in
+    let c₆ = c₅ .before .before in
+    let s = c₆ .before .before in
+    rw (c .vehicle-of .ensures) (car-on (s .args .job .now) 0 (rw (c₅ .version .given .1) at (c₆ .bounded .ensures)) (rw (c₃ .gears .given .1) at (c₄ .gearbox-at .ensures)) (rw (c₁ .eight .given .1) at (c₂ .fill .ensures)) (c .before .curve-at .result .at) _ (c .before .curve-at .ensures))
+
+pub car-at-spec : {M : Type 1} → statement M
+car-at-spec =
+    tie.close
+    (tie.spec
+    bounded-requires
+    enum-known-version
+    enum-told
+    place-requires
+    no-car-requires
+    returns
+    gearbox-at-requires
+    enum-known-gears
+    enum-told-2
+    no-car-requires-2
+    returns-2
+    slice-aggregate-fill
+    fill-requires
+    enum-known-eight
+    enum-told-3
+    no-car-requires-3
+    returns-3
+    curve-at-requires
+    vehicle-of-requires
+    returns-4)

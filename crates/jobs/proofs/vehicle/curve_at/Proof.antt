@@ -1,0 +1,75 @@
+-- `jobs::vehicle::curve_at` meets its contract: one law for each `return`.
+-- Assumes nothing.
+use native.Mathlib.Omega.{arith}
+use borrow.Author.Needs.{needs}
+use Rattle.rules.specs.declared.Refusal.the-variants.{VehicleField}
+use Rattle.jobs.proofs.Ways.{bounded-in, curve-stops, curve-on}
+use Rattle.jobs.proofs.vehicle.curve_at.Statement.{statement}
+use Rattle.jobs.proofs.vehicle.curve_at.Tie as tie
+
+bounded-requires : tie.Need-bounded-requires
+bounded-requires c κs = search needs
+
+enum-known-count : tie.Need-enum-known-count
+enum-known-count c = search needs
+
+enum-told : tie.Need-enum-told
+enum-told c = search needs
+
+place-requires : tie.Need-place-requires
+place-requires c κs = search needs
+
+returns : tie.Need-returns
+returns c =
+    let c₁ = c .before .before .before in
+    let s = c₁ .before .before in
+    let g = c .before .enum-told .given .1 in
+    rw (c .place .ensures, g) (curve-stops (s .args .job .now) (s .args .at) (rw g at (c₁ .bounded .ensures)))
+
+cast-fill : tie.Need-cast-fill
+cast-fill c = search needs
+
+mul-fill : tie.Need-mul-fill
+mul-fill c = search needs
+
+slice-aggregate-fill : tie.Need-slice-aggregate-fill
+slice-aggregate-fill c = search needs
+
+fill-requires : tie.Need-fill-requires
+fill-requires c κs =
+    let c₁ = c .before .before in
+    let c₂ = c₁ .before .before in
+    let s = c₂ .before .before in
+    let b = bounded-in (s .args .job .now) 2 64 (VehicleField 11) (s .args .at) (rw (c₁ .count .given .1) at (c₂ .bounded .ensures)) in omega arith
+
+column-requires : tie.Need-column-requires
+column-requires c κs = search needs
+
+column-requires-2 : tie.Need-column-requires-2
+column-requires-2 c κs = search needs
+
+returns-2 : tie.Need-returns-2
+returns-2 c =
+    let c₁ = c .before .before in
+    let c₂ = c₁ .before .before .before in
+    let c₃ = c₂ .before .before .before in
+    let c₄ = c₃ .before .before in
+    let s = c₄ .before .before in
+    rw (c₁ .column .ensures, c .column2 .ensures) (curve-on (s .args .job .now) (s .args .at) (rw (c₃ .count .given .1) at (c₄ .bounded .ensures)) (c₂ .fill .result) (c₂ .fill .last .1 .1 .1 .0) (c₂ .fill .ensures))
+
+pub curve-at-spec : {M : Type 1} → statement M
+curve-at-spec =
+    tie.close
+    (tie.spec
+    bounded-requires
+    enum-known-count
+    enum-told
+    place-requires
+    returns
+    cast-fill
+    mul-fill
+    slice-aggregate-fill
+    fill-requires
+    column-requires
+    column-requires-2
+    returns-2)
