@@ -1,0 +1,480 @@
+/* The library against its C twin. bench JOB            checks, then every ratio, library and twin side by side
+                               bench JOB --check      the checks alone
+                               bench JOB --list       the cases
+                               bench JOB --once CASE lib|twin N   N calls of one side, for an instruction count */
+#include "gearcard.h"
+#include "twin.h"
+#include <stdio.h>
+#include <stdlib.h>
+#include <string.h>
+#include <time.h>
+
+typedef struct gearcard_vehicle car_t;
+typedef struct gearcard_verdict verdict_t;
+typedef struct gearcard_job job_t;
+enum { ROOM = GEARCARD_LONGEST, BYTES = 20000, ROUNDS = 41 };
+
+static uint64_t seed = 88172645463325252ull;
+static uint32_t rnd(uint32_t n) {
+  seed ^= seed << 13;
+  seed ^= seed >> 7;
+  seed ^= seed << 17;
+  return (uint32_t)((seed >> 20) % n);
+}
+static void stop(const char *what) {
+  fprintf(stderr, "bench: %s\n", what);
+  exit(1);
+}
+
+/* ---- cases ---- */
+enum kind { WORK, HOLD, READ };
+typedef struct {
+  char name[40];
+  enum kind kind;
+  car_t car;
+  size_t count, second, length;
+  uint8_t gear;
+  uint16_t v[ROOM];
+  uint8_t h[ROOM], card[ROOM];
+  uint8_t job[BYTES];
+} case_t;
+static case_t cases[40];
+static int ncases;
+
+static case_t *fresh(const char *name, enum kind kind) {
+  case_t *c = &cases[ncases++];
+  snprintf(c->name, sizeof c->name, "%s", name);
+  c->kind = kind;
+  return c;
+}
+
+/* A plausible car: power spread evenly over the curve's points, which reach from idle to nmax. */
+static car_t car_of(unsigned points) {
+  static const uint16_t r[6] = {11800, 6900, 4700, 3600, 2900, 2400};
+  car_t c;
+  memset(&c, 0, sizeof c);
+  c.ng = 6;
+  memcpy(c.ratio, r, sizeof r);
+  c.idle = 800;
+  c.rated = points == 5 ? 4400 : 5600;
+  c.nmax = points == 5 ? 4800 : 6000;
+  c.f0 = 1200, c.f1 = 300, c.f2 = 3300, c.tm = 1500, c.margin = 10;
+  c.points = (uint16_t)points;
+  for (unsigned i = 0; i < points; i++) {
+    uint32_t n = c.idle + (uint32_t)(c.nmax - c.idle) * i / (points - 1);
+    double u = (double)(n - c.idle) / (c.nmax - c.idle);
+    c.n[i] = (uint16_t)n;
+    c.p[i] = (uint16_t)(90 + 1000 * u * (1.55 - 0.70 * u)); /* 9 kW at idle to 94 kW */
+  }
+  return c;
+}
+
+static void put(uint8_t *s, size_t *at, uint32_t x) {
+  while (x >= 128) s[(*at)++] = (uint8_t)(x & 127) | 128, x >>= 7;
+  s[(*at)++] = (uint8_t)x;
+}
+static size_t encode(uint8_t *s, const car_t *c, const uint16_t *v, size_t n, const uint8_t *h) {
+  size_t at = 0, held = 0, i;
+  put(s, &at, 1);
+  put(s, &at, c->ng);
+  for (i = 0; i < c->ng; i++) put(s, &at, c->ratio[i]);
+  put(s, &at, c->idle), put(s, &at, c->rated), put(s, &at, c->nmax), put(s, &at, c->f0), put(s, &at, (uint32_t)(c->f1 + 5000));
+  put(s, &at, c->f2), put(s, &at, c->tm), put(s, &at, c->margin), put(s, &at, c->points);
+  for (i = 0; i < c->points; i++) put(s, &at, c->n[i]), put(s, &at, c->p[i]);
+  put(s, &at, (uint32_t)n);
+  for (i = 0; i < n; i++) put(s, &at, v[i]), held += h[i] != 0;
+  put(s, &at, (uint32_t)held);
+  for (i = 0; i < n; i++)
+    if (h[i]) put(s, &at, (uint32_t)i), put(s, &at, h[i]);
+  return at;
+}
+
+/* One trip: speeds that go up and down as a drive does, 2 to 131 km/h. */
+static void one_trip(uint16_t *v, size_t n) {
+  int x = 20, goal = 600;
+  v[0] = 0;
+  for (size_t i = 1; i < n; i++) {
+    if (rnd(40) == 0 || abs(goal - x) < 12) goal = 20 + (int)rnd(1290);
+    int far = goal - x, step = far > 0 ? 1 + (int)rnd(x < 500 ? 28 : 12) : -1 - (int)rnd(30);
+    if (rnd(5) == 0) step = (int)rnd(7) - 3;
+    x += step;
+    if (x < 12) x = 12;
+    if (x > 1313) x = 1313;
+    v[i] = (uint16_t)x;
+  }
+  /* Down to a stand at the end, by at most 150 a second. */
+  v[n - 1] = 0;
+  for (size_t i = n - 1; i-- > 1 && v[i] > v[i + 1] + 60;) v[i] = (uint16_t)(v[i + 1] + 60);
+}
+/* Trips of 1 to 5 seconds, one standing second between. */
+static void short_trips(uint16_t *v, size_t n) {
+  size_t i = 0;
+  v[i++] = 0;
+  while (i < n) {
+    size_t len = 1 + rnd(5), j;
+    if (i + len >= n) break;
+    int x = 0;
+    for (j = 0; j < len; j++) {
+      int hi = x + 120, back = (int)(len - j) * 120;
+      if (hi > back) hi = back;
+      int lo = x - 100 > 12 ? x - 100 : 12;
+      if (lo > hi) lo = hi;
+      x = lo + (int)rnd((uint32_t)(hi - lo + 1));
+      v[i++] = (uint16_t)x;
+    }
+    v[i++] = (uint16_t)rnd(10);
+  }
+  while (i < n) v[i++] = 0;
+  v[n - 1] = 0;
+}
+
+/* ---- one call of one side ---- */
+static const struct {
+  verdict_t (*work)(car_t, const uint16_t *, size_t, const uint8_t *, size_t, uint8_t *, size_t);
+  verdict_t (*hold)(car_t, const uint16_t *, size_t, uint8_t *, size_t, uint8_t *, size_t, size_t, uint8_t);
+  job_t (*read)(const uint8_t *, size_t, uint16_t *, size_t, uint8_t *, size_t);
+} sides[2] = {{gearcard_work, gearcard_hold, gearcard_read}, {twin_work, twin_hold, twin_read}};
+
+static uint16_t room_v[ROOM];
+static uint8_t room_h[ROOM];
+static __attribute__((noinline)) void call(case_t *c, int twin, long reps) {
+  size_t n = c->count;
+  uint32_t refused = 0;
+  switch (c->kind) {
+  case WORK:
+    for (long r = 0; r < reps; r++) refused |= sides[twin].work(c->car, c->v, n, c->h, n, c->card, n).number;
+    break;
+  case HOLD: /* held and cleared in turn */
+    for (long r = 0; r < reps; r++) refused |= sides[twin].hold(c->car, c->v, n, c->h, n, c->card, n, c->second, r & 1 ? 0 : c->gear).number;
+    break;
+  case READ:
+    for (long r = 0; r < reps; r++) refused |= sides[twin].read(c->job, c->length, room_v, ROOM, room_h, ROOM).verdict.number;
+  }
+  if (refused) stop("a benchmark input was refused");
+}
+
+/* ---- the same bytes ---- */
+static long numbers[17];
+/* Counts the answer that both gave. */
+static uint32_t same_verdict(const char *what, verdict_t a, verdict_t b) {
+  if (a.number != b.number || a.place != b.place) {
+    fprintf(stderr, "%s: library %u at %zu, twin %u at %zu\n", what, a.number, a.place, b.number, b.place);
+    exit(1);
+  }
+  numbers[a.number]++;
+  return a.number;
+}
+static int same_car(const car_t *a, const car_t *b) { /* without the gap before f1 */
+  size_t gap = offsetof(car_t, nmax) + 4, f1 = offsetof(car_t, f1);
+  return !memcmp(a, b, gap) && !memcmp((const char *)a + f1, (const char *)b + f1, sizeof *a - f1);
+}
+static uint32_t same_work(const car_t *car, const uint16_t *v, size_t n, const uint8_t *h, size_t nh, size_t nc) {
+  uint8_t x[ROOM + 64], y[ROOM + 64];
+  memset(x, 0xa5, sizeof x);
+  memset(y, 0xa5, sizeof y);
+  verdict_t a = gearcard_work(*car, v, n, h, nh, x, nc), b = twin_work(*car, v, n, h, nh, y, nc);
+  if (memcmp(x, y, sizeof x)) stop("work: bytes differ");
+  return same_verdict("work", a, b);
+}
+static uint32_t same_hold(const car_t *car, const uint16_t *v, size_t n, uint8_t *h, uint8_t *card, size_t second, uint8_t gear) {
+  static uint8_t h2[ROOM + 64], c2[ROOM + 64];
+  memcpy(h2, h, n);
+  memcpy(c2, card, n);
+  verdict_t a = gearcard_hold(*car, v, n, h, n, card, n, second, gear), b = twin_hold(*car, v, n, h2, n, c2, n, second, gear);
+  if (memcmp(h, h2, n) || memcmp(card, c2, n)) stop("hold: bytes differ");
+  return same_verdict("hold", a, b);
+}
+static uint32_t same_read(const uint8_t *s, size_t len, size_t rs, size_t rh) {
+  static uint16_t v1[ROOM + 64], v2[ROOM + 64];
+  static uint8_t h1[ROOM + 64], h2[ROOM + 64];
+  memset(v1, 0xa5, sizeof v1), memset(v2, 0xa5, sizeof v2), memset(h1, 0xa5, sizeof h1), memset(h2, 0xa5, sizeof h2);
+  job_t a = gearcard_read(s, len, v1, rs, h1, rh), b = twin_read(s, len, v2, rs, h2, rh);
+  if (!same_car(&a.vehicle, &b.vehicle) || a.count != b.count || memcmp(v1, v2, sizeof v1) || memcmp(h1, h2, sizeof h1)) stop("read: bytes differ");
+  return same_verdict("read", a.verdict, b.verdict);
+}
+
+static car_t random_car(void) {
+  car_t c;
+  memset(&c, 0, sizeof c);
+  c.ng = (uint16_t)(2 + rnd(9));
+  uint32_t r = rnd(8) ? 9000 + rnd(9000) : 20000 + rnd(30000);
+  for (unsigned i = 0; i < c.ng; i++) {
+    c.ratio[i] = (uint16_t)r;
+    r = r * (600 + rnd(320)) / 1000;
+  }
+  c.idle = (uint16_t)(300 + rnd(1200));
+  c.rated = (uint16_t)(c.idle + 1 + rnd(6000));
+  c.nmax = (uint16_t)(c.rated + rnd(1500));
+  c.f0 = (uint16_t)rnd(3000), c.f1 = (int32_t)rnd(3001) - 1500, c.f2 = (uint16_t)rnd(6000), c.tm = (uint16_t)(400 + rnd(3601)), c.margin = (uint16_t)rnd(51);
+  uint32_t from = 1 + rnd(c.idle), k = 0, step = 1000;
+  uint32_t least = (c.nmax - from) / 63 + 1;
+  if (least < 1000) step = least + rnd(1000 - least + 1);
+  for (;; k++) {
+    c.n[k] = (uint16_t)(from > 16000 ? 16000 : from);
+    c.p[k] = (uint16_t)rnd(rnd(3) ? 1200 : 5001);
+    if (k >= 1 && from >= c.nmax) break;
+    if (k == 63) break;
+    from += step;
+  }
+  c.points = (uint16_t)(k + 1);
+  return c;
+}
+
+static void random_checks(long rounds) {
+  static uint16_t v[ROOM + 8];
+  static uint8_t h[ROOM + 8], card[ROOM + 8], s[BYTES];
+  for (long r = 0; r < rounds; r++) {
+    car_t car = random_car();
+    size_t n = rnd(20) ? 1 + rnd(r % 10 ? 120 : 2048) : ROOM;
+    if (n < 8) n = 1 + rnd(8);
+    if (n >= 8 && rnd(2)) one_trip(v, n);
+    else if (n >= 8) short_trips(v, n);
+    else for (size_t i = 0; i < n; i++) v[i] = (uint16_t)(i == 0 || i + 1 == n ? 0 : rnd(150));
+    if (n >= 40 && rnd(2)) /* some stands within */
+      for (size_t i = 10; i + 20 < n; i += 15 + rnd(40)) {
+        v[i] = (uint16_t)rnd(10);
+        for (size_t j = i; j-- > 0 && v[j] > v[j + 1] + 120;) v[j] = (uint16_t)(v[j + 1] + 120);
+        for (size_t j = i + 1; j < n && v[j] > v[j - 1] + 120; j++) v[j] = (uint16_t)(v[j - 1] + 120);
+      }
+    memset(h, 0, sizeof h);
+    /* holds: mostly such as pass */
+    unsigned held = rnd(3) ? rnd(6) : 0;
+    if (rnd(12) == 0) held = (unsigned)n;
+    for (unsigned i = 0; i < held; i++) {
+      size_t j = rnd((uint32_t)n);
+      uint32_t g = 1 + rnd(car.ng);
+      if (v[j] >= 10 && (uint32_t)car.ratio[g - 1] * v[j] <= 1000u * car.nmax) h[j] = (uint8_t)g;
+      else if (rnd(60) == 0) h[j] = (uint8_t)rnd(256);
+    }
+    size_t nh = n, nc = n;
+    switch (rnd(16)) { /* faults */
+    case 0: ((uint16_t *)&car)[rnd(150)] = (uint16_t)rnd(65536); break;
+    case 1: v[rnd((uint32_t)n)] = (uint16_t)rnd(rnd(2) ? 65536 : 2200); break;
+    case 2: v[rnd(2) ? 0 : n - 1] = (uint16_t)(8 + rnd(4)); break;
+    case 3: if (n > 1) { size_t j = 1 + rnd((uint32_t)n - 1); v[j] = (uint16_t)(v[j - 1] + 149 + rnd(3)); } break;
+    case 4: if (rnd(4) == 0) nh = n - 1; else if (rnd(4) == 0) nc = n + 1; break;
+    case 5: if (rnd(4) == 0) n = nh = nc = 0; break;
+    }
+    uint32_t no = same_work(&car, v, n, h, nh, nc);
+    if (n == 0) continue;
+    for (size_t i = 0; i < n; i++) card[i] = (uint8_t)rnd(256);
+    if (no == 0) gearcard_work(car, v, n, h, n, card, n);
+    for (int k = 0; k < 6; k++) {
+      size_t second = rnd((uint32_t)n + (rnd(8) == 0));
+      uint8_t gear = (uint8_t)rnd(car.ng + 1u + (rnd(6) == 0));
+      if (rnd(20) == 0) gear = (uint8_t)rnd(256);
+      same_hold(&car, v, n, h, card, second, gear);
+    }
+    if (no == 0) { /* the quick way gave what the whole working gives */
+      uint8_t whole[ROOM];
+      twin_work(car, v, n, h, n, whole, n);
+      if (memcmp(whole, card, n)) stop("hold: not the card of the whole working");
+    }
+    if (car.f1 < -5000 || car.f1 > 60535 || car.ng > 10 || car.points > 64) continue;
+    size_t len = encode(s, &car, v, n, h);
+    same_read(s, len, ROOM, ROOM);
+    same_read(s, len, n, n);
+    if (rnd(4) == 0) same_read(s, len, n - rnd(2), n - rnd(2));
+    same_read(s, rnd((uint32_t)len + 1), ROOM, ROOM);
+    for (int k = 0; k < 4; k++) {
+      size_t j = rnd((uint32_t)(rnd(3) ? (len < 60 ? len : 60) : len));
+      uint8_t was = s[j];
+      s[j] = (uint8_t)(rnd(3) ? rnd(256) : rnd(2) ? 0x80 : was ^ 0x80);
+      same_read(s, len + rnd(2), ROOM, ROOM);
+      s[j] = was;
+    }
+  }
+}
+
+/* ---- the cases ---- */
+typedef struct { size_t a, b; } span_t;
+static span_t trips[ROOM];
+static int ntrips;
+static int by_length(const void *x, const void *y) {
+  const span_t *a = x, *b = y;
+  size_t i = a->b - a->a, j = b->b - b->a;
+  return i < j ? -1 : i > j ? 1 : a->a < b->a ? -1 : 1;
+}
+
+/* A trace worked by the plausible car, with each number of curve points. */
+static void work_cases(const char *trace, const uint16_t *v, size_t n) {
+  static const unsigned points[3] = {5, 7, 64};
+  for (int k = 0; k < 3; k++) {
+    char name[40];
+    snprintf(name, sizeof name, "work.%s.%u", trace, points[k]);
+    case_t *c = fresh(name, WORK);
+    c->car = car_of(points[k]), c->count = n;
+    memcpy(c->v, v, n * sizeof *v);
+  }
+}
+
+static void build(const char *path) {
+  static uint8_t bytes[BYTES];
+  FILE *f = fopen(path, "rb");
+  if (!f) stop("no job");
+  size_t len = fread(bytes, 1, sizeof bytes, f);
+  fclose(f);
+  static uint16_t v[ROOM];
+  static uint8_t h[ROOM];
+  job_t job = gearcard_read(bytes, len, v, ROOM, h, ROOM);
+  if (job.verdict.number) stop("the job is refused");
+  size_t n = job.count;
+  char name[40];
+  case_t *c;
+  c = fresh("work.class3.own", WORK); /* the job's own car */
+  c->car = job.vehicle, c->count = n;
+  memcpy(c->v, v, sizeof v);
+  work_cases("class3", v, n);
+  static uint16_t one[ROOM], many[ROOM];
+  one_trip(one, ROOM);
+  short_trips(many, ROOM);
+  work_cases("one", one, ROOM);
+  work_cases("many", many, ROOM);
+  /* holds: each trip of the Class 3 cycle */
+  static uint8_t card[ROOM];
+  memset(h, 0, sizeof h);
+  gearcard_work(job.vehicle, v, n, h, n, card, n);
+  for (size_t i = 1; i < n;) {
+    if (v[i] < 10) { i++; continue; }
+    size_t b = i;
+    while (v[b] >= 10) b++;
+    trips[ntrips].a = i, trips[ntrips++].b = b;
+    i = b;
+  }
+  qsort(trips, (size_t)ntrips, sizeof *trips, by_length);
+  for (int t = 0; t < ntrips; t++) {
+    const char *what = t == 0 ? "short" : t == ntrips - 1 ? "longest" : t == (ntrips - 1) / 2 ? "typical" : "trip";
+    if (!strcmp(what, "trip")) snprintf(name, sizeof name, "hold.trip%zu", trips[t].b - trips[t].a);
+    else snprintf(name, sizeof name, "hold.%s", what);
+    c = fresh(name, HOLD), c->car = job.vehicle, c->count = n;
+    memcpy(c->v, v, sizeof v);
+    memcpy(c->card, card, sizeof card);
+    c->length = trips[t].b - trips[t].a;
+    c->second = trips[t].a + c->length / 2;
+    uint32_t g = card[c->second] & 15;
+    if (g > 1 && (uint32_t)c->car.ratio[g - 2] * v[c->second] <= 1000u * c->car.nmax) g--;
+    c->gear = (uint8_t)g;
+  }
+  /* reading */
+  c = fresh("read.class3", READ);
+  memcpy(c->job, bytes, len), c->length = len;
+  c = fresh("read.long", READ); /* 2,048 seconds of speeds as they are driven, a hold at every moving one */
+  c->car = car_of(64);
+  for (size_t i = 0; i < ROOM; i++) h[i] = one[i] >= 10 ? 3 : 0;
+  c->length = encode(c->job, &c->car, one, ROOM, h);
+  c = fresh("read.bytes", READ); /* the most bytes: every value as long as it can be */
+  car_t big;
+  for (size_t i = 0; i < sizeof big / 2; i++) ((uint16_t *)&big)[i] = 65535;
+  big.ng = 10, big.points = 64, big.f1 = 60535;
+  static uint16_t far[ROOM];
+  for (size_t i = 0; i < ROOM; i++) far[i] = (uint16_t)(16384 + rnd(49152)), h[i] = (uint8_t)(128 + rnd(128));
+  c->length = encode(c->job, &big, far, ROOM, h);
+}
+
+/* ---- time ---- */
+static double now(void) { /* this thread's own time: what other programs take does not count */
+  struct timespec t;
+  clock_gettime(CLOCK_THREAD_CPUTIME_ID, &t);
+  return t.tv_sec + 1e-9 * t.tv_nsec;
+}
+static double timed(case_t *c, int twin, long reps) {
+  double a = now();
+  call(c, twin, reps);
+  return now() - a;
+}
+static int up(const void *x, const void *y) {
+  double a = *(const double *)x, b = *(const double *)y;
+  return a < b ? -1 : a > b;
+}
+static long reps_for(case_t *c, int twin, double want) {
+  long r = 2;
+  for (;;) {
+    double t = timed(c, twin, r);
+    if (t > want / 4) {
+      r = (long)(r * want / t);
+      return r < 2 ? 2 : r & ~1l;
+    }
+    r *= 2;
+  }
+}
+static void row(const char *name, const char *what, double *x, int n) {
+  qsort(x, (size_t)n, sizeof *x, up);
+  printf("%-18s %-22s %7.3f   [%.3f .. %.3f]\n", name, what, x[n / 2], x[n / 10], x[n - 1 - n / 10]);
+  fflush(stdout);
+}
+
+int main(int argc, char **argv) {
+  if (argc < 2) stop("bench JOB [--check | --list | --once CASE lib|twin N]");
+  build(argv[1]);
+  if (argc > 2 && !strcmp(argv[2], "--list")) {
+    for (int i = 0; i < ncases; i++) printf("%s\n", cases[i].name);
+    return 0;
+  }
+  if (argc > 5 && !strcmp(argv[2], "--once")) {
+    for (int i = 0; i < ncases; i++)
+      if (!strcmp(cases[i].name, argv[3])) {
+        call(&cases[i], !strcmp(argv[4], "twin"), atol(argv[5]));
+        return 0;
+      }
+    stop("no such case");
+  }
+  for (int i = 0; i < ncases; i++) {
+    case_t *c = &cases[i];
+    uint32_t no = 0;
+    if (c->kind == WORK) no = same_work(&c->car, c->v, c->count, c->h, c->count, c->count);
+    if (c->kind == READ) no = same_read(c->job, c->length, ROOM, ROOM);
+    if (c->kind == HOLD) {
+      uint8_t h[ROOM], card[ROOM];
+      memcpy(h, c->h, ROOM), memcpy(card, c->card, ROOM);
+      no = same_hold(&c->car, c->v, c->count, h, card, c->second, c->gear);
+      no |= same_hold(&c->car, c->v, c->count, h, card, c->second, 0);
+      if (memcmp(card, c->card, c->count)) stop("hold and clear: not the card as it was");
+    }
+    if (no) {
+      fprintf(stderr, "%s is refused by %u\n", c->name, no);
+      return 1;
+    }
+  }
+  printf("same bytes on every benchmark input (%d cases)\n", ncases);
+  memset(numbers, 0, sizeof numbers);
+  random_checks(6000);
+  printf("same bytes on 6000 random cars and traces (work, 6 holds, reads each); answers by number:");
+  for (int i = 0; i < 17; i++) printf(" %d:%ld", i, numbers[i]);
+  printf("\n");
+  if (argc > 2 && !strcmp(argv[2], "--check")) return 0;
+
+  double x[ROUNDS], y[ROUNDS];
+  printf("\ncase               ratio                   median   [10th .. 90th percentile], %d rounds\n", ROUNDS);
+  for (int i = 0; i < ncases; i++) {
+    case_t *c = &cases[i];
+    long reps = reps_for(c, 1, 0.004);
+    timed(c, 0, reps);
+    for (int r = 0; r < ROUNDS; r++) { /* A B, then B A */
+      double a, b;
+      if (r & 1) b = timed(c, 1, reps), a = timed(c, 0, reps);
+      else a = timed(c, 0, reps), b = timed(c, 1, reps);
+      x[r] = a / b;
+    }
+    row(c->name, "library / twin", x, ROUNDS);
+  }
+  printf("\ntrips of the Class 3 cycle, seconds:");
+  for (int t = 0; t < ntrips; t++) printf(" %zu", trips[t].b - trips[t].a);
+  printf("\n");
+  for (int i = 0; i < ncases; i++) {
+    case_t *c = &cases[i], *w = &cases[0];
+    if (c->kind != HOLD) continue;
+    long rh0 = reps_for(c, 0, 0.003), rh1 = reps_for(c, 1, 0.003), rw0 = reps_for(w, 0, 0.003), rw1 = reps_for(w, 1, 0.003);
+    for (int r = 0; r < ROUNDS; r++) {
+      double a = timed(w, 0, rw0) / rw0, b = timed(c, 0, rh0) / rh0;
+      x[r] = a / b;
+      a = timed(w, 1, rw1) / rw1, b = timed(c, 1, rh1) / rh1;
+      y[r] = a / b;
+    }
+    char what[40];
+    snprintf(what, sizeof what, "whole/hold lib  %4zu s", c->length);
+    row(c->name, what, x, ROUNDS);
+    snprintf(what, sizeof what, "whole/hold twin %4zu s", c->length);
+    row(c->name, what, y, ROUNDS);
+  }
+  return 0;
+}

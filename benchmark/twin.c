@@ -1,0 +1,562 @@
+/* The C twin of the gear card, written by hand for speed: document 01's rules and refusals and no check beyond them.
+
+   What it does for speed:
+   - the vehicle by const pointer, and once a call per gear the lowest and highest V at which the gear fits (both rise with the gear, so the gears
+     that fit are a run, and a second needs no product to know it);
+   - the checks 4 to 10 as one pass without branches; only where it finds something is the exact refusal looked for, or the holds gone through;
+   - first choice, passes A and B and the bytes in one loop over a trip, the gears of the seconds before in registers; pass C on the tail after it;
+   - braking (E at most 0) asks for no power, so nothing is looked up; most power is kept along on the way down, so there is no second loop;
+   - a job is parsed once, into buffers, copied when all of it has passed.
+
+   To see what each of these is worth, they can be left out one by one at compile time, which leaves the library's own plan in C: PLAIN_CHECK (each
+   second judged in full), PLAIN_CHOOSE (each gear from the top by products; a second loop for most power; no short way when braking), PLAIN_PASSES
+   (first choices, A, B, C and bytes as five loops), PLAIN_READ (the job parsed twice). */
+#include "twin.h"
+#include <string.h>
+
+typedef struct gearcard_vehicle car_t;
+typedef struct gearcard_verdict verdict_t;
+#define LIKELY(x) __builtin_expect(!!(x), 1)
+#define UNLIKELY(x) __builtin_expect(!!(x), 0)
+#define INLINE static inline __attribute__((always_inline))
+
+INLINE verdict_t say(uint32_t number, size_t place) {
+  verdict_t r = {number, place};
+  return r;
+}
+
+/* Refusal 3: the first field out of bounds, 0 where none is. */
+static uint32_t car_fault(const car_t *c) {
+  unsigned ng = c->ng, i;
+  if (ng - 2u > 8u) return 1;
+  unsigned bad = c->ratio[0] > 50000;
+  for (i = 1; i < ng; i++) bad |= c->ratio[i] >= c->ratio[i - 1];
+  if (bad | (c->ratio[ng - 1] == 0)) return 2;
+  if (c->idle - 300u > 2700u) return 3;
+  if (c->rated <= c->idle || c->rated > 12000) return 4;
+  if (c->nmax < c->rated || c->nmax > 15000) return 5;
+  if (c->f0 > 10000) return 6;
+  if ((uint32_t)(c->f1 + 5000u) > 10000u) return 7;
+  if (c->f2 > 20000) return 8;
+  if (c->tm - 400u > 3600u) return 9;
+  if (c->margin > 50) return 10;
+  unsigned m = c->points;
+  if (m - 2u > 62u) return 11;
+  bad = (c->n[0] == 0) | (c->p[0] > 5000);
+  for (i = 1; i < m; i++) bad |= ((uint32_t)(c->n[i] - c->n[i - 1] - 1) > 999u) | (c->p[i] > 5000);
+  if (bad | (c->n[m - 1] > 16000)) return 12;
+  if (c->n[0] > c->idle || c->n[m - 1] < c->nmax) return 13;
+  return 0;
+}
+
+/* What a call works out once of a vehicle. */
+typedef struct {
+  const car_t *c;
+  uint32_t ng, cap, idle1000;
+  int64_t a, b, e2, dm, mm;
+  uint32_t lo[12], hi[12]; /* the V at which a gear fits; gear 1 from 0 on */
+} prep_t;
+
+INLINE void prepare(prep_t *k, const car_t *c) {
+  uint32_t ng = c->ng, idle = c->idle, top = 1000u * c->nmax;
+  k->c = c;
+  k->ng = ng;
+  k->idle1000 = 1000u * idle;
+  k->a = 9000000ll * c->f0;
+  k->b = 9000ll * c->f1;
+  k->e2 = 9ll * c->f2;
+  k->dm = 2575000ll * c->tm;
+  k->mm = (100 - (int64_t)c->margin) * 3240000;
+  uint32_t m2 = 1000u * ((9 * idle + 5) / 10), m3 = 1000u * (idle + (c->rated - idle + 4) / 8);
+  k->lo[1] = 0;
+  k->hi[1] = top / c->ratio[0];
+  k->lo[2] = (m2 + c->ratio[1] - 1) / c->ratio[1];
+  k->hi[2] = top / c->ratio[1];
+  for (uint32_t g = 3; g <= ng; g++) {
+    uint32_t r = c->ratio[g - 1];
+    k->lo[g] = (m3 + r - 1) / r;
+    k->hi[g] = top / r;
+  }
+  /* Up to cap every V is at most 2,000 and has a gear that fits, the first second of a trip too: its V is at most 159. */
+  /* lo and hi are filled from 1 to ng, and ng is at least 2 */
+  uint32_t cap = k->hi[ng] < 2000 ? k->hi[ng] : 2000;
+  for (uint32_t g = 1; g < ng; g++)
+    if (k->hi[g] + 1 < k->lo[g + 1] && k->hi[g] < cap) cap = k->hi[g];
+  if (k->hi[1] < 159 && k->hi[1] < cap) cap = k->hi[1];
+  k->cap = cap;
+}
+
+/* Whether no gear fits V at a moving second, the first of its trip or not. */
+INLINE int none_fits(const prep_t *k, int first, uint32_t x) {
+#ifdef PLAIN_CHECK
+  const car_t *c = k->c;
+  uint32_t idle = c->idle, top = 1000u * c->nmax;
+  uint32_t m2 = 1000u * ((9 * idle + 5) / 10), m3 = 1000u * (idle + (c->rated - idle + 4) / 8);
+  for (uint32_t g = 1; g <= k->ng; g++) {
+    uint32_t X = c->ratio[g - 1] * x;
+    if (X <= top && (g == 1 || (!first && X >= (g == 2 ? m2 : m3)))) return 0;
+  }
+  return 1;
+#else
+  if (first) return x > k->hi[1];
+  uint32_t f = 1;
+  while (f <= k->ng && k->hi[f] < x) f++;
+  return f > k->ng || x < k->lo[f];
+#endif
+}
+
+INLINE int past_nmax(const prep_t *k, uint32_t g, uint32_t x) {
+#ifdef PLAIN_CHECK
+  return k->c->ratio[g - 1] * x > 1000u * k->c->nmax;
+#else
+  return x > k->hi[g];
+#endif
+}
+
+/* The first refusal of 4 to 10 on [lo, hi), exactly, with the hold of one second in place of the one there. */
+static __attribute__((noinline)) verdict_t exact(const prep_t *k, const uint16_t *v, size_t n, const uint8_t *h, size_t second, uint8_t gear, size_t lo,
+                                                 size_t hi) {
+  uint32_t best = 11;
+  size_t place = 0;
+  for (size_t i = lo; i < hi; i++) {
+    uint32_t x = v[i], held = i == second ? gear : h[i], no = 11;
+    int step = i > lo ? (int)x - (int)v[i - 1] : 0;
+    if (x > 2000) no = 4;
+    else if (step > 150 || step < -150) no = 5;
+    else if (x >= 10 && (i == 0 || i == n - 1)) no = 6;
+    else if (held) {
+      if (held > k->ng) no = 7;
+      else if (x < 10) no = 8;
+      else if (past_nmax(k, held, x)) no = 9;
+    } else if (x >= 10 && none_fits(k, i == 0 || v[i - 1] < 10, x)) no = 10;
+    if (no < best) best = no, place = i;
+  }
+  return best == 11 ? say(0, 0) : say(best, place);
+}
+
+/* Whether a speed of [lo, hi) is over cap or a step over 150. */
+INLINE unsigned speeds_odd(const uint16_t *v, size_t lo, size_t hi, uint32_t cap) {
+  uint16_t c = (uint16_t)cap, bad = v[lo] > c;
+  for (size_t i = lo + 1; i < hi; i++) {
+    uint16_t x = v[i], d = (uint16_t)(x - v[i - 1] + 150);
+    bad |= (uint16_t)((x > c) | (d > 300));
+  }
+  return bad;
+}
+
+INLINE unsigned any(const uint8_t *h, size_t lo, size_t hi) {
+  uint8_t s = 0;
+  for (size_t i = lo; i < hi; i++) s |= h[i];
+  return s;
+}
+
+/* Whether a hold is wrong at its second. */
+INLINE unsigned hold_odd(const prep_t *k, uint32_t g, uint32_t x) { return g > k->ng || x < 10 || x > k->hi[g]; }
+
+/* The first refusal of 4 to 10 on [lo, hi): gone through second by second only where the quick look finds something odd. The hold of one second is taken
+   as gear, where that second is in the trace. */
+INLINE verdict_t judge(const prep_t *k, const uint16_t *v, size_t n, const uint8_t *h, size_t second, uint8_t gear, size_t lo, size_t hi) {
+#ifndef PLAIN_CHECK
+  unsigned odd = speeds_odd(v, lo, hi, k->cap) | (v[lo] >= 10) | (v[hi - 1] >= 10) | (gear && hold_odd(k, gear, v[second]));
+  if (LIKELY(!odd)) {
+    if (!any(h, lo, hi)) return say(0, 0);
+    size_t i = lo;
+    while (i < hi && (!h[i] || i == second || LIKELY(!hold_odd(k, h[i], v[i])))) i++;
+    if (i == hi) return say(0, 0);
+  }
+#endif
+  return exact(k, v, n, h, second, gear, lo, hi);
+}
+
+typedef struct {
+  int64_t q, w;
+} power_t;
+
+/* Q and w at x, at least 1000 idle. */
+INLINE power_t power(const prep_t *k, uint32_t x) {
+  const car_t *c = k->c;
+  const uint16_t *n = c->n;
+  if (x < k->idle1000) x = k->idle1000;
+  uint32_t whole = (x + 999) / 1000, s = 0, len = c->points - 1u;
+  while (len > 1) {
+    uint32_t half = len / 2;
+    s = n[s + half] < whole ? s + half : s;
+    len -= half;
+  }
+  int32_t n1 = n[s], p1 = c->p[s], w = n[s + 1] - n1;
+  power_t r;
+  r.w = w;
+  r.q = (int64_t)p1 * (1000 * w) + (int64_t)(c->p[s + 1] - p1) * ((int32_t)x - 1000 * n1);
+  return r;
+}
+
+/* The first choice of a second without a hold, t the highest gear whose minimum is reached. A gear fits: the checks have passed. */
+INLINE uint32_t choose(const prep_t *k, uint32_t v, int32_t d, uint32_t t) {
+  int64_t y = v;
+  int64_t e = y * (k->a + y * (k->b + y * k->e2) + k->dm * d);
+  if (e <= 0) return t;
+  const uint16_t *ratio = k->c->ratio;
+  power_t m = power(k, ratio[t - 1] * v);
+  if (k->mm * m.q >= e * m.w) return t;
+  uint32_t best = t;
+  for (uint32_t g = t - 1; g >= 1 && v <= k->hi[g]; g--) {
+    power_t r = power(k, ratio[g - 1] * v);
+    if (k->mm * r.q >= e * r.w) return g;
+    if (r.q * m.w > m.q * r.w) m = r, best = g;
+  }
+  return best;
+}
+
+#ifdef PLAIN_CHOOSE
+INLINE int plain_fits(const car_t *c, int first, uint32_t v, uint32_t g) {
+  uint32_t idle = c->idle, x = c->ratio[g - 1] * v;
+  if (x > 1000u * c->nmax) return 0;
+  if (g == 1) return 1;
+  if (first) return 0;
+  return x >= 1000u * (g == 2 ? (9 * idle + 5) / 10 : idle + (c->rated - idle + 4) / 8);
+}
+INLINE power_t plain_power(const prep_t *k, uint32_t x) {
+  const car_t *c = k->c;
+  if (x < k->idle1000) x = k->idle1000;
+  uint32_t lo = 0, hi = c->points - 2u;
+  while (lo < hi) {
+    uint32_t mid = (lo + hi) / 2;
+    if (x <= 1000u * c->n[mid + 1]) hi = mid;
+    else lo = mid + 1;
+  }
+  int64_t n1 = c->n[lo], p1 = c->p[lo], w = c->n[lo + 1] - n1;
+  power_t r = {1000 * p1 * w + (c->p[lo + 1] - p1) * ((int64_t)x - 1000 * n1), w};
+  return r;
+}
+INLINE uint32_t plain_choose(const prep_t *k, int first, uint32_t v, int32_t d) {
+  const car_t *c = k->c;
+  int64_t y = v, e = y * (k->a + y * (k->b + y * k->e2) + k->dm * d);
+  for (uint32_t g = k->ng; g >= 1; g--)
+    if (plain_fits(c, first, v, g)) {
+      power_t r = plain_power(k, c->ratio[g - 1] * v);
+      if (k->mm * r.q >= e * r.w) return g;
+    }
+  uint32_t best = 0;
+  power_t m = {0, 1};
+  for (uint32_t g = 1; g <= k->ng; g++)
+    if (plain_fits(c, first, v, g)) {
+      power_t r = plain_power(k, c->ratio[g - 1] * v);
+      if (!best || m.q * r.w <= r.q * m.w) best = g, m = r;
+    }
+  return best;
+}
+#endif
+
+INLINE uint8_t byte_of(const prep_t *k, uint32_t g, uint32_t v, int32_t d) {
+  return (uint8_t)(g + (((d <= 0) & (k->c->ratio[g - 1] * v < k->idle1000)) << 4));
+}
+
+#ifdef PLAIN_PASSES
+static __attribute__((noinline)) void passes(const prep_t *k, const uint16_t *v, const uint8_t *h, uint8_t *g, size_t n) {
+  uint32_t ng = k->ng, t = 1;
+  const uint16_t *ratio = k->c->ratio;
+  uint32_t top = 1000u * k->c->nmax;
+  for (size_t j = 0; j < n; j++) {
+    uint32_t x = v[j];
+    int32_t d = (int32_t)v[j + 1] - (int32_t)x;
+#ifdef PLAIN_CHOOSE
+    (void)t, (void)ng;
+    g[j] = h[j] ? h[j] : (uint8_t)plain_choose(k, j == 0, x, d);
+#else
+    if (h[j]) g[j] = h[j];
+    else if (j == 0) g[j] = 1;
+    else {
+      while (t < ng && x >= k->lo[t + 1]) t++;
+      while (x < k->lo[t]) t--;
+      g[j] = (uint8_t)choose(k, x, d, t);
+    }
+#endif
+  }
+  for (size_t j = 1; j + 1 < n; j++) {
+    uint32_t p = g[j - 1], q = g[j + 1], big = p > q ? p : q, small = p > q ? q : p;
+    if (!h[j] && g[j] == big + 1 && g[j] <= small + 2 && ratio[g[j] - 2] * (uint32_t)v[j] <= top) g[j]--;
+  }
+  uint32_t last = n ? g[0] : 0, ceiling = last;
+  for (size_t j = 1; j < n; j++) {
+    uint32_t x = g[j];
+    if (!h[j] && v[j] > v[j - 1] && x > ceiling) {
+      x = ceiling;
+      while (ratio[x - 1] * (uint32_t)v[j] > top) x++;
+      g[j] = (uint8_t)x;
+    }
+    ceiling = x + (x == last);
+    last = x;
+  }
+  size_t j = n;
+  while (j > 1 && v[j - 1] > v[j]) j--;
+  for (; j < n; j++)
+    if (!h[j] && g[j] == 1) g[j] = 2;
+  for (j = 0; j < n; j++) g[j] = byte_of(k, g[j], v[j], (int32_t)v[j + 1] - (int32_t)v[j]);
+}
+INLINE size_t trip(const prep_t *k, const uint16_t *v, const uint8_t *h, uint8_t *card, size_t a) {
+  size_t b = a;
+  while (v[b] >= 10) b++;
+  passes(k, v + a, h + a, card + a, b - a);
+  card[a - 1] = (uint8_t)(16 + (card[a] & 15));
+  return b;
+}
+#else
+/* A trip from a on, its card and that of the second before; answers the standing second after it. */
+INLINE size_t trip(const prep_t *k, const uint16_t *v, const uint8_t *h, uint8_t *card, size_t a) {
+  size_t j = a, run = a;
+  uint32_t t = 1, ng = k->ng, x = v[a], next = v[a + 1];
+  uint32_t g = h[a] ? h[a] : 1; /* the first choice here */
+  uint32_t pa = 0, b1 = 0, b2 = 0, before = 0;
+  card[a - 1] = (uint8_t)(16 + g);
+  for (;;) {
+    int32_t d = (int32_t)next - (int32_t)x;
+    uint32_t more = next >= 10, q = 0, after = 0;
+    if (d >= 0) run = j + 1;
+    if (more) { /* the first choice of the next second */
+      after = v[j + 2];
+      q = h[j + 1];
+#ifdef PLAIN_CHOOSE
+      (void)t, (void)ng;
+      if (!q) q = plain_choose(k, 0, next, (int32_t)after - (int32_t)next);
+#else
+      if (!q) {
+        while (t < ng && next >= k->lo[t + 1]) t++;
+        while (next < k->lo[t]) t--;
+        q = choose(k, next, (int32_t)after - (int32_t)next, t);
+      }
+#endif
+    }
+    uint32_t ga = g;
+    if (j > a && !h[j]) {
+      if (more) { /* A */
+        uint32_t big = pa > q ? pa : q, small = pa > q ? q : pa;
+        if (g == big + 1 && g <= small + 2 && x <= k->hi[g - 1]) ga = g - 1;
+      }
+      pa = ga;
+      if (x > before) { /* B */
+        uint32_t ceiling = b1 + (b1 == b2);
+        if (ga > ceiling) {
+          while (k->hi[ceiling] < x) ceiling++;
+          ga = ceiling;
+        }
+      }
+    } else
+      pa = ga;
+    b2 = b1;
+    b1 = ga;
+    card[j] = byte_of(k, ga, x, d);
+    j++;
+    if (!more) break;
+    before = x;
+    x = next;
+    next = after;
+    g = q;
+  }
+  if (run == a) run = a + 1;
+  for (; run < j; run++) /* C */
+    if ((card[run] & 15) == 1 && !h[run]) card[run] = byte_of(k, 2, v[run], -1);
+  return j;
+}
+#endif
+
+/* Refusals 1 to 3. */
+INLINE verdict_t opening(const car_t *c, size_t n, size_t nh, size_t nc) {
+  if (n - 1 > 2047) return say(1, 0);
+  if (nh != n || nc != n) return say(2, 0);
+  uint32_t field = car_fault(c);
+  return say(field ? 3 : 0, field);
+}
+
+verdict_t twin_work(car_t vehicle, const uint16_t *v, size_t n, const uint8_t *h, size_t nh, uint8_t *card, size_t nc) {
+  verdict_t r = opening(&vehicle, n, nh, nc);
+  if (UNLIKELY(r.number)) return r;
+  prep_t k;
+  prepare(&k, &vehicle);
+  r = judge(&k, v, n, h, n, 0, 0, n);
+  if (UNLIKELY(r.number)) return r;
+  for (size_t i = 0; i < n;) {
+    if (i + 1 < n && v[i + 1] >= 10)
+      i = trip(&k, v, h, card, i + 1);
+    else
+      card[i++] = 0;
+  }
+  return say(0, 0);
+}
+
+verdict_t twin_hold(car_t vehicle, const uint16_t *v, size_t n, uint8_t *h, size_t nh, uint8_t *card, size_t nc, size_t second, uint8_t gear) {
+  verdict_t r = opening(&vehicle, n, nh, nc);
+  if (UNLIKELY(r.number)) return r;
+  if (second >= n) return say(11, second);
+  if (v[second] < 10) {
+    if (gear > vehicle.ng) return say(7, second);
+    if (gear) return say(8, second);
+    h[second] = 0;
+    return say(0, 0);
+  }
+  prep_t k;
+  prepare(&k, &vehicle);
+  size_t a = second, b = second + 1;
+  while (a > 0 && v[a - 1] >= 10) a--;
+  while (b < n && v[b] >= 10) b++;
+  size_t lo = a ? a - 1 : 0, hi = b < n ? b + 1 : n;
+  r = judge(&k, v, n, h, second, gear, lo, hi);
+  if (UNLIKELY(r.number)) return r;
+  h[second] = gear;
+  trip(&k, v, h, card, a);
+  return say(0, 0);
+}
+
+/* A group at *at into *out; 0, or the number of its fault. */
+INLINE uint32_t group(const uint8_t *s, size_t end, size_t *at, uint32_t *out) {
+  size_t i = *at;
+  if (UNLIKELY(i >= end)) return 12;
+  uint32_t a = s[i];
+  if (a < 128) {
+    *out = a;
+    *at = i + 1;
+    return 0;
+  }
+  if (UNLIKELY(i + 1 >= end)) return 12;
+  uint32_t b = s[i + 1];
+  if (LIKELY(b < 128)) {
+    if (UNLIKELY(b == 0)) return 13;
+    *out = a - 128 + (b << 7);
+    *at = i + 2;
+    return 0;
+  }
+  if (UNLIKELY(i + 2 >= end)) return 12;
+  uint32_t c = s[i + 2];
+  if (UNLIKELY(c - 1u > 2u)) return 13;
+  *out = a - 128 + ((b - 128) << 7) + (c << 14);
+  *at = i + 3;
+  return 0;
+}
+
+/* The whole of a job; the refusal, and where it was met. */
+INLINE verdict_t parse(struct gearcard_job *r, const uint8_t *s, size_t end, uint16_t *speeds, size_t rs, uint8_t *holds, size_t rh) {
+  car_t *c = &r->vehicle;
+  size_t at = 0;
+  uint32_t x, y, f;
+#define GROUP(out)                            \
+  if (UNLIKELY(f = group(s, end, &at, &out))) \
+  return say(f, f == 12 ? end : at)
+#define FIELD(place) \
+  GROUP(x);          \
+  place = (uint16_t)x
+/* A hold, its second in x and its gear in y. */
+#define HELD                                                         \
+  size_t from = at;                                                  \
+  GROUP(x);                                                          \
+  if (UNLIKELY(x < next || x >= count)) return say(15, from);        \
+  GROUP(y);                                                          \
+  if (UNLIKELY(y - 1u > 254u)) return say(15, from);                 \
+  next = x + 1
+  GROUP(x);
+  if (x != 1) return say(14, 0);
+  FIELD(c->ng);
+  if (x - 2u > 8u) return say(3, 1);
+  for (uint32_t i = 0; i < c->ng; i++) {
+    FIELD(c->ratio[i]);
+  }
+  FIELD(c->idle);
+  FIELD(c->rated);
+  FIELD(c->nmax);
+  FIELD(c->f0);
+  GROUP(x);
+  c->f1 = (int32_t)x - 5000;
+  FIELD(c->f2);
+  FIELD(c->tm);
+  FIELD(c->margin);
+  FIELD(c->points);
+  if (x - 2u > 62u) return say(3, 11);
+  for (uint32_t i = 0; i < c->points; i++) {
+    FIELD(c->n[i]);
+    FIELD(c->p[i]);
+  }
+  GROUP(x);
+  if (x - 1u > 2047u) return say(1, 0);
+  uint32_t count = x;
+  if (rs < count || rh < count) return say(2, 0);
+#ifdef PLAIN_READ
+  size_t trace = at, first;
+  uint32_t held, next = 0, i;
+  for (i = 0; i < count; i++) {
+    GROUP(x);
+  }
+  GROUP(held);
+  first = at;
+  for (i = 0; i < held; i++) {
+    HELD;
+  }
+  if (at != end) return say(16, at);
+  at = trace;
+  for (i = 0; i < count; i++) {
+    GROUP(x);
+    speeds[i] = (uint16_t)x;
+  }
+  memset(holds, 0, count);
+  at = first;
+  for (i = 0; i < held; i++) {
+    GROUP(x);
+    GROUP(y);
+    holds[x] = (uint8_t)y;
+  }
+#else
+  uint16_t vs[2048];
+  uint32_t i = 0;
+  /* Three bytes a second are there for the next so many seconds: no end to look for. */
+  while (i < count) {
+    size_t room = (end - at) / 3;
+    if (room == 0) break;
+    uint32_t stop = room < count - i ? i + (uint32_t)room : count;
+    for (; i < stop; i++) {
+      uint32_t a = s[at], b, z;
+      if (a < 128) {
+        vs[i] = (uint16_t)a;
+        at++;
+      } else if (LIKELY((b = s[at + 1]) < 128)) {
+        if (UNLIKELY(b == 0)) return say(13, at);
+        vs[i] = (uint16_t)(a - 128 + (b << 7));
+        at += 2;
+      } else {
+        z = s[at + 2];
+        if (UNLIKELY(z - 1u > 2u)) return say(13, at);
+        vs[i] = (uint16_t)(a - 128 + ((b - 128) << 7) + (z << 14));
+        at += 3;
+      }
+    }
+  }
+  for (; i < count; i++) {
+    GROUP(x);
+    vs[i] = (uint16_t)x;
+  }
+  uint32_t held;
+  GROUP(held);
+  if (held) {
+    uint8_t hs[2048];
+    uint32_t next = 0;
+    memset(hs, 0, count);
+    for (i = 0; i < held; i++) {
+      HELD;
+      hs[x] = (uint8_t)y;
+    }
+    if (at != end) return say(16, at);
+    memcpy(holds, hs, count);
+  } else {
+    if (at != end) return say(16, at);
+    memset(holds, 0, count);
+  }
+  memcpy(speeds, vs, 2 * (size_t)count);
+#endif
+  r->count = count;
+  return say(0, 0);
+}
+
+struct gearcard_job twin_read(const uint8_t *job, size_t nj, uint16_t *speeds, size_t rs, uint8_t *holds, size_t rh) {
+  struct gearcard_job r;
+  memset(&r, 0, sizeof r);
+  verdict_t said = parse(&r, job, nj, speeds, rs, holds, rh);
+  if (UNLIKELY(said.number)) memset(&r, 0, sizeof r);
+  r.verdict = said;
+  return r;
+}

@@ -1,0 +1,10 @@
+/* The C twin: the functions of gearcard.h, written by hand for speed. Same rules, same bytes. */
+#ifndef TWIN_H
+#define TWIN_H
+#include "gearcard.h"
+struct gearcard_job twin_read(const uint8_t *job, size_t job_length, uint16_t *speeds, size_t speeds_length, uint8_t *holds, size_t holds_length);
+struct gearcard_verdict twin_work(struct gearcard_vehicle vehicle, const uint16_t *speeds, size_t speeds_length, const uint8_t *holds,
+                                  size_t holds_length, uint8_t *card, size_t card_length);
+struct gearcard_verdict twin_hold(struct gearcard_vehicle vehicle, const uint16_t *speeds, size_t speeds_length, uint8_t *holds, size_t holds_length,
+                                  uint8_t *card, size_t card_length, size_t second, uint8_t gear);
+#endif

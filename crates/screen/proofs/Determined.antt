@@ -1,0 +1,27 @@
+-- Each public function's contract allows one outcome. `Reads` is the contract's own reading, which the check makes of the clauses.
+-- Assumes nothing.
+use mathlib.Core.Path.{_≡_, sym, _∙_}
+use Rattle.once.specs.Determined.{Determined}
+use Rattle.screen.proofs.gearcard_read.Kinds as read-kinds
+use Rattle.screen.proofs.gearcard_read.Reads as read-reads
+use Rattle.screen.proofs.gearcard_work.Kinds as work-kinds
+use Rattle.screen.proofs.gearcard_work.Reads as work-reads
+use Rattle.screen.proofs.gearcard_hold.Kinds as hold-kinds
+use Rattle.screen.proofs.gearcard_hold.Reads as hold-reads
+
+pub gearcard-read : Determined read-kinds.ps read-kinds.r read-reads.Asked read-reads.Learnt
+gearcard-read κs a asked z z′ ws ws′ p q = (
+  λ i. record {
+    verdict = (p .answered ∙ sym (q .answered)) i;
+    vehicle = (p .the-vehicle ∙ sym (q .the-vehicle)) i;
+    count = (p .the-count ∙ sym (q .the-count)) i;
+  },
+  λ i. (tt, ((p .speeds-left ∙ sym (q .speeds-left)) i, ((p .holds-left ∙ sym (q .holds-left)) i, tt))),
+)
+
+pub gearcard-work : Determined work-kinds.ps work-kinds.r work-reads.Asked work-reads.Learnt
+gearcard-work κs a asked z z′ ws ws′ p q = (p .0 ∙ sym (q .0), λ i. (tt, (tt, (tt, ((p .1 ∙ sym (q .1)) i, tt)))))
+
+pub gearcard-hold : Determined hold-kinds.ps hold-kinds.r hold-reads.Asked hold-reads.Learnt
+gearcard-hold κs a asked z z′ ws ws′ p q =
+    (p .0 ∙ sym (q .0), λ i. (tt, (tt, ((p .1 .0 ∙ sym (q .1 .0)) i, ((p .1 .1 ∙ sym (q .1 .1)) i, (tt, (tt, tt)))))))

@@ -1,0 +1,17 @@
+-- `screen::verdict_of` meets its contract. Number and place are those of the two functions of `rules`.
+-- Assumes nothing.
+use borrow.Author.Needs.{needs}
+use Rattle.screen.proofs.verdict_of.Statement.{statement}
+use Rattle.screen.proofs.verdict_of.Tie as tie
+
+number-requires : tie.Need-number-requires
+number-requires c κs = search needs
+
+place-requires : tie.Need-place-requires
+place-requires c κs = search needs
+
+returns : tie.Need-returns
+returns c = λ i. record { number = c .before .number .ensures i; place = c .place .ensures i }
+
+pub verdict-of-spec : {M : Type 1} → statement M
+verdict-of-spec = tie.close (tie.spec number-requires place-requires returns)

@@ -1,0 +1,80 @@
+// The C functions for driver's aid screens: thin wrappers over the reader, the working and the quick way. include/gearcard.h declares them.
+ghost use mathlib.Core.Path.{_≡_};
+ghost use Rattle.rules.specs.Refusals.{work-fault, work-card};
+ghost use Rattle.rules.specs.Quick.{quick-fault, quick-holds, quick-card};
+ghost use Rattle.screen.specs.Screen.{says, told, ScreenRead};
+use rules::Answer;
+use rules::Vehicle;
+
+// The refusal's number, 0 where there is none, and its place.
+#[repr(C)]
+pub struct Verdict {
+    pub number: u32,
+    pub place: usize,
+}
+
+// What the reader answers: where it refuses, the vehicle is all zeros and the count 0.
+#[repr(C)]
+pub struct Job {
+    pub verdict: Verdict,
+    pub vehicle: Vehicle,
+    pub count: usize,
+}
+
+fn verdict_of(answer: Answer) -> Verdict
+    ensures { λ r. ⌜ r ≡ says answer ⌝ }
+{
+    Verdict {
+        number: answer.number(),
+        place: answer.place(),
+    }
+}
+
+// Reads a job into the start of the lent rooms.
+#[no_mangle]
+pub extern "C" fn gearcard_read(job: &[u8], speeds: &mut [u16], holds: &mut [u8]) -> Job
+    ensures { λ r. ⌜ ScreenRead (now (job .entry)) (now (speeds .entry)) (now (holds .entry)) r (now (speeds .exit)) (now (holds .exit)) ⌝ }
+{
+    let reading = jobs::read(job, speeds, holds);
+    let answer = reading.answer;
+    let vehicle = reading.vehicle;
+    let verdict = verdict_of(answer);
+    Job {
+        verdict: verdict,
+        vehicle: vehicle,
+        count: reading.count,
+    }
+}
+
+// Works the whole trace.
+#[no_mangle]
+pub extern "C" fn gearcard_work<'a>(
+    vehicle: Vehicle,
+    speeds: &'a [u16],
+    holds: &'a [u8],
+    card: &mut [u8],
+) -> Verdict
+    ensures answer { λ r. ⌜ r ≡ told (work-fault vehicle (now (speeds .entry)) (now (holds .entry)) (now (card .entry))) ⌝ }
+    ensures card { λ r. ⌜ now (card .exit) ≡ work-card vehicle (now (speeds .entry)) (now (holds .entry)) (now (card .entry)) ⌝ }
+{
+    let answer = cards::work(vehicle, speeds, holds, card);
+    verdict_of(answer)
+}
+
+// Holds one second in a gear, or clears it with 0.
+#[no_mangle]
+pub extern "C" fn gearcard_hold(
+    vehicle: Vehicle,
+    speeds: &[u16],
+    holds: &mut [u8],
+    card: &mut [u8],
+    second: usize,
+    gear: u8,
+) -> Verdict
+    ensures answer { λ r. ⌜ r ≡ told (quick-fault vehicle (now (speeds .entry)) (now (holds .entry)) (now (card .entry)) second gear) ⌝ }
+    ensures holds { λ r. ⌜ now (holds .exit) ≡ quick-holds vehicle (now (speeds .entry)) (now (holds .entry)) (now (card .entry)) second gear ⌝ }
+    ensures card { λ r. ⌜ now (card .exit) ≡ quick-card vehicle (now (speeds .entry)) (now (holds .entry)) (now (card .entry)) second gear ⌝ }
+{
+    let answer = cards::hold(vehicle, speeds, holds, card, second, gear);
+    verdict_of(answer)
+}

@@ -1,0 +1,83 @@
+/* The gear card: the C functions of the driver's aid engine.
+
+   A vehicle, a trace of speeds and its holds give a card: one byte a second, the gear, plus 16 where the clutch is down. Speeds are in tenths of
+   km/h. A hold of 0 is no hold. docs/01-scope.md has the rules, the units and the bounds; README.md has the refusals for people.
+
+   Every function takes what it is given and answers: none asks anything of its caller but that each pointer points to as many initialised elements as
+   its length says (a length of 0 takes any aligned pointer that is not null), that nothing else writes them during the call, and that elements behind
+   a pointer without const overlap nothing else. The memory stays the caller's: nothing is kept after a call. A refusal changes no byte of it. */
+#ifndef GEARCARD_H
+#define GEARCARD_H
+
+#include <stddef.h>
+#include <stdint.h>
+
+/* The longest trace, in seconds. */
+#define GEARCARD_LONGEST 2048
+
+/* Document 01's vehicle record, with its numbers of fields, which refusal 3 gives; field 13 is that the first n is at most idle and the last at least
+   nmax. Places of ratio past ng, and of n and p past points, are no part of it: they may hold any number. */
+struct gearcard_vehicle {
+  uint16_t ng;        /* 1: gear count, 2 to 10 */
+  uint16_t ratio[10]; /* 2: engine speed over road speed, hundredths of min^-1 per km/h, 1 to 50,000, falling */
+  uint16_t idle;      /* 3: min^-1, 300 to 3,000 */
+  uint16_t rated;     /* 4: min^-1, above idle, at most 12,000 */
+  uint16_t nmax;      /* 5: min^-1, from rated to 15,000 */
+  uint16_t f0;        /* 6: tenths of N, 0 to 10,000 */
+  int32_t f1;         /* 7: thousandths of N/(km/h), -5,000 to 5,000 */
+  uint16_t f2;        /* 8: hundred-thousandths of N/(km/h)^2, 0 to 20,000 */
+  uint16_t tm;        /* 9: test mass, kg, 400 to 4,000 */
+  uint16_t margin;    /* 10: safety margin, per cent, 0 to 50 */
+  uint16_t points;    /* 11: number of power curve points, 2 to 64 */
+  uint16_t n[64];     /* 12: engine speed, min^-1, 1 to 16,000, rising by 1 to 1,000 */
+  uint16_t p[64];     /* 12: full-load power, tenths of kW, 0 to 5,000 */
+};
+
+/* The answer: number 0 and place 0 where it is accepted, else the refusal and its place. Seconds and bytes count from 0. Where several apply,
+   gearcard_work and gearcard_hold give the first in this order, at its lowest second; gearcard_read the first fault of the job from left to right.
+
+    1  trace empty or over 2,048 seconds                              place 0
+    2  holds or card not as long as the trace;                        place 0
+       in gearcard_read, a room smaller than the count
+    3  a vehicle field out of bounds, the first such                  field, 1 to 13
+   11  second outside the trace (gearcard_hold)                       second asked
+    4  speed over 2,000                                               second
+    5  step from the second before over 150                           second
+    6  first, then last, sample is moving                             second
+    7  hold above ng                                                  second
+    8  hold at a standing second                                      second
+    9  held gear turns the engine past nmax                           second
+   10  no gear fits, no hold                                          second
+   12  job ends early                                                 its length
+   13  group not shortest, or over 65,535, or longer than 3 bytes     group's first byte
+   14  version not 1                                                  place 0
+   15  hold second not rising or past the trace,                      first byte of the second
+       or its gear 0 or over 255
+   16  bytes after the end                                            first of them */
+struct gearcard_verdict {
+  uint32_t number;
+  size_t place;
+};
+
+/* What gearcard_read answers; where it refuses, the vehicle is all zeros and the count 0. */
+struct gearcard_job {
+  struct gearcard_verdict verdict;
+  struct gearcard_vehicle vehicle;
+  size_t count; /* seconds of the trace */
+};
+
+/* Reads a job: fills the first count places of speeds and of holds, hold 0 where the job names none. Room beyond is untouched. It
+   judges the counts and the holds' seconds, and that a held gear is 1 to 255: other bounds are left to gearcard_work. */
+struct gearcard_job gearcard_read(const uint8_t *job, size_t job_length, uint16_t *speeds, size_t speeds_length, uint8_t *holds, size_t holds_length);
+
+/* Works the whole trace: fills the card, which is as long as the speeds and the holds. */
+struct gearcard_verdict gearcard_work(struct gearcard_vehicle vehicle, const uint16_t *speeds, size_t speeds_length, const uint8_t *holds,
+                                      size_t holds_length, uint8_t *card, size_t card_length);
+
+/* Holds one second in a gear, or clears it with gear 0: writes the hold, and re-works the card for that second's trip and the standing second before
+   it. Of the trace it checks these and the standing second after, and no others. Where the card was the right one for the holds, it is then the one
+   that gearcard_work would give for the new holds. At a standing second 0 is accepted, and only its hold written; a gear is refused. */
+struct gearcard_verdict gearcard_hold(struct gearcard_vehicle vehicle, const uint16_t *speeds, size_t speeds_length, uint8_t *holds, size_t holds_length,
+                                      uint8_t *card, size_t card_length, size_t second, uint8_t gear);
+
+#endif

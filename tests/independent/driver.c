@@ -1,0 +1,109 @@
+/* The C library behind a pipe: takes requests from standard input, calls the function asked for, and answers on standard output. src/library.rs is
+   the other end, which so needs no link with the archive.
+
+   A request: kind (u32), gear (u32), second (u64), the vehicle's fields in order; for the speeds, the holds and the third slice (the job where kind
+   is READ, else the card) the number of elements of the guard before it, of the slice and of the guard after it (u32 each); then the elements of the
+   three, guards included. An answer: number (u32), place (u64); where kind is READ the vehicle's fields and the count (u64); then the elements again.
+   All little-endian, as x86-64 is. Exit 0 at the end of the requests, 2 where one is cut or past the limits here. */
+#include "gearcard.h"
+
+#include <stdio.h>
+#include <stdlib.h>
+
+enum { READ, WORK, HOLD };
+enum { SECONDS = 4096, BYTES = 32768 };
+
+struct span {
+  uint32_t before, length, after;
+};
+
+static void refuse(const char *why) {
+  fprintf(stderr, "driver: %s\n", why);
+  exit(2);
+}
+
+static void get(void *to, size_t size) {
+  if (size && fread(to, size, 1, stdin) != 1) refuse("a request is cut");
+}
+
+static void put(void *from, size_t size) {
+  if (size && fwrite(from, size, 1, stdout) != 1) refuse("an answer cannot be written");
+}
+
+static void vehicle_fields(struct gearcard_vehicle *v, void (*pass)(void *, size_t)) {
+  pass(&v->ng, sizeof v->ng);
+  pass(v->ratio, sizeof v->ratio);
+  pass(&v->idle, sizeof v->idle);
+  pass(&v->rated, sizeof v->rated);
+  pass(&v->nmax, sizeof v->nmax);
+  pass(&v->f0, sizeof v->f0);
+  pass(&v->f1, sizeof v->f1);
+  pass(&v->f2, sizeof v->f2);
+  pass(&v->tm, sizeof v->tm);
+  pass(&v->margin, sizeof v->margin);
+  pass(&v->points, sizeof v->points);
+  pass(v->n, sizeof v->n);
+  pass(v->p, sizeof v->p);
+}
+
+/* Elements of a slice and its guards, which a room must hold. */
+static size_t whole(struct span s, size_t room) {
+  uint64_t all = (uint64_t)s.before + s.length + s.after;
+  if (all > room) refuse("a slice is longer than its room");
+  return (size_t)all;
+}
+
+static void answer(uint32_t kind, uint32_t gear, uint64_t second, struct gearcard_vehicle vehicle, struct span s, struct span h, struct span t) {
+  static uint16_t speeds[SECONDS];
+  static uint8_t holds[SECONDS], third[BYTES];
+  size_t all_speeds = whole(s, SECONDS), all_holds = whole(h, SECONDS), all_third = whole(t, BYTES);
+  get(speeds, all_speeds * sizeof *speeds);
+  get(holds, all_holds);
+  get(third, all_third);
+
+  uint16_t *v = speeds + s.before;
+  uint8_t *held = holds + h.before, *last = third + t.before;
+  struct gearcard_job job;
+  struct gearcard_verdict verdict;
+  if (kind == READ) {
+    job = gearcard_read(last, t.length, v, s.length, held, h.length);
+    verdict = job.verdict;
+  } else if (kind == WORK) {
+    verdict = gearcard_work(vehicle, v, s.length, held, h.length, last, t.length);
+  } else {
+    verdict = gearcard_hold(vehicle, v, s.length, held, h.length, last, t.length, second, (uint8_t)gear);
+  }
+
+  put(&verdict.number, sizeof verdict.number);
+  put(&verdict.place, sizeof verdict.place);
+  if (kind == READ) {
+    vehicle_fields(&job.vehicle, put);
+    put(&job.count, sizeof job.count);
+  }
+  put(speeds, all_speeds * sizeof *speeds);
+  put(holds, all_holds);
+  put(third, all_third);
+  if (fflush(stdout) != 0) refuse("an answer cannot be written");
+}
+
+int main(void) {
+  static char in[1 << 16], out[1 << 16];
+  setvbuf(stdin, in, _IOFBF, sizeof in);
+  setvbuf(stdout, out, _IOFBF, sizeof out);
+  for (;;) {
+    int byte = getchar();
+    if (byte == EOF) return 0;
+    ungetc(byte, stdin);
+    uint32_t kind, gear;
+    uint64_t second;
+    struct gearcard_vehicle vehicle;
+    struct span spans[3];
+    get(&kind, sizeof kind);
+    get(&gear, sizeof gear);
+    get(&second, sizeof second);
+    vehicle_fields(&vehicle, get);
+    get(spans, sizeof spans);
+    if (kind > HOLD || gear > 255) refuse("no such request");
+    answer(kind, gear, second, vehicle, spans[0], spans[1], spans[2]);
+  }
+}

@@ -1,0 +1,108 @@
+#!/usr/bin/env python3
+"""Puts one slip at a time into a copy of the reference and expects the comparison with the library to notice it.
+
+    tests/independent/run --cases 500     first: it builds the driver
+    mutants.py [NUMBER..]                 all slips, or those of these numbers; seed 7, 5,000 cases of each kind. Exit 1 where one is not noticed
+"""
+import os, shutil, subprocess, sys
+
+HERE = os.path.dirname(os.path.abspath(__file__))
+TOP = os.path.dirname(os.path.dirname(HERE))
+OUT = os.path.join(TOP, "target", "independent")
+DRIVER = [os.path.join(TOP, "library"), "run", os.path.join(OUT, "driver")]
+SLIPS = [
+    ("rounding minimum down", "(2 * top + bottom).div_euclid(2 * bottom)", "top / bottom"),
+    ("halves down", "(2 * top + bottom).div_euclid", "(2 * top + bottom - 1).div_euclid"),
+    ("fit: minimum excluded", "x >= least &&", "x > least &&"),
+    ("nmax excluded", "<= 1000 * v.nmax as i128\n}", "< 1000 * v.nmax as i128\n}"),
+    ("slow gear 1 does not fit", "gear == 1 && x < least", "false"),
+    ("any gear opens a trip", "(gear == 1 || !opens_trip)", "true"),
+    ("sign of D dropped", "2_575_000 * d * s", "2_575_000 * d.abs() * s"),
+    ("power below idle", ".max(1000 * v.idle as i128);", ".max(1000 * v.n[0] as i128);"),
+    ("enough: equality excluded", "    given >= e * power.w", "    given > e * power.w"),
+    ("tie to the lower gear", "a.q * b.w >= b.q * a.w", "a.q * b.w > b.q * a.w"),
+    ("A: no g-2", "(smaller == g - 1 || smaller == g - 2)", "smaller == g - 1"),
+    ("A: any smaller", "(smaller == g - 1 || smaller == g - 2)", "true"),
+    ("A: no floor", "if floor(v, speeds[s]) as i32 <= g - 1 {", "if true {"),
+    ("A: holds change", "s == trip.last || holds[s] != 0", "s == trip.last"),
+    ("B: holds change", "speeds[s - 1] >= speeds[s] || holds[s] != 0", "speeds[s - 1] >= speeds[s]"),
+    ("B: equal speed too", "speeds[s - 1] >= speeds[s] ||", "speeds[s - 1] > speeds[s] ||"),
+    ("B: no floor", "gears[s] = ceiling.max(least);", "gears[s] = ceiling;"),
+    ("C: holds change", "holds[s] == 0 && gears[s] == 1", "gears[s] == 1"),
+    ("C: first second too", "s != trip.first && holds[s] == 0", "holds[s] == 0"),
+    ("C: level speed too", "speeds[start - 1] > speeds[start]", "speeds[start - 1] >= speeds[start]"),
+    ("C before B", "    pass_b(v, speeds, holds, trip, &mut gears);\n    pass_c(speeds, holds, trip, &mut gears);", "    pass_c(speeds, holds, trip, &mut gears);\n    pass_b(v, speeds, holds, trip, &mut gears);"),
+    ("B before A", "    pass_a(v, speeds, holds, trip, &mut gears);\n    pass_b(v, speeds, holds, trip, &mut gears);", "    pass_b(v, speeds, holds, trip, &mut gears);\n    pass_a(v, speeds, holds, trip, &mut gears);"),
+    ("clutch: D below 0 only", "change(speeds, s) <= 0 && slow", "change(speeds, s) < 0 && slow"),
+    ("clutch: at idle too", "speeds[s]) < 1000 * v.idle as i128", "speeds[s]) <= 1000 * v.idle as i128"),
+    ("step 151 passes", ".abs() > 150)", ".abs() > 151)"),
+    ("step 150 refused", ".abs() > 150)", ".abs() > 149)"),
+    ("speed 2001 passes", "speeds[s] > 2000", "speeds[s] > 2001"),
+    ("speed 2000 refused", "speeds[s] > 2000", "speeds[s] >= 2000"),
+    ("moving from 11", "speed >= 10\n", "speed >= 11\n"),
+    ("2,048 refused", "speeds > LONGEST", "speeds >= LONGEST"),
+    ("quick: step before the span", "refuse_first(5, from + 1, to", "refuse_first(5, from.max(1), to"),
+    ("quick: hold at the standing second after is not seen", "    seconds_good(v, speeds, &holds, from, to)?;", "    let mut seen = holds.clone();\n    seen[to] = 0;\n    seconds_good(v, speeds, &seen, from, to)?;"),
+    ("quick: whole trace checked", "seconds_good(v, speeds, &holds, from, to)?;\n    work_trip", "seconds_good(v, speeds, &holds, 0, speeds.len() - 1)?;\n    work_trip"),
+    ("quick: standing 8 before 7", "if gear as u16 > v.ng { 7 } else { 8 }", "8"),
+    ("11 before 3", "    vehicle_good(v)?;\n    if second >= speeds.len() {\n        return Err((11, second));\n    }", "    if second >= speeds.len() {\n        return Err((11, second));\n    }\n    vehicle_good(v)?;"),
+    ("last before first in 6", "    if moving(speeds[from]) {\n        return Err((6, from));\n    }\n    if moving(speeds[to]) {\n        return Err((6, to));\n    }", "    if moving(speeds[to]) {\n        return Err((6, to));\n    }\n    if moving(speeds[from]) {\n        return Err((6, from));\n    }"),
+    ("8 before 7", "    refuse_first(7, from, to, |s| holds[s] as u16 > v.ng)?;\n    refuse_first(8, from, to, |s| holds[s] != 0 && !moving(speeds[s]))?;", "    refuse_first(8, from, to, |s| holds[s] != 0 && !moving(speeds[s]))?;\n    refuse_first(7, from, to, |s| holds[s] as u16 > v.ng)?;"),
+    ("reader: not shortest taken", "k == 0 || byte != 0", "true"),
+    ("reader: 2 before 1", "if count == 0 || count > LONGEST {\n        return Err((1, 0));\n    }\n    if speeds_room < count || holds_room < count {\n        return Err((2, 0));\n    }", "if speeds_room < count || holds_room < count {\n        return Err((2, 0));\n    }\n    if count == 0 || count > LONGEST {\n        return Err((1, 0));\n    }"),
+    ("reader: holds room unasked", "speeds_room < count || holds_room < count", "speeds_room < count"),
+    ("reader: equal seconds taken", "second > earlier", "second >= earlier"),
+    ("reader: second at the count taken", "        if !rising || second >= count {\n            return Err((15, place));\n        }\n        let gear = c.group()?;\n        if gear == 0 || gear > 255 {\n            return Err((15, place));\n        }\n        holds[second] = gear as u8;", "        if !rising || second > count {\n            return Err((15, place));\n        }\n        let gear = c.group()?;\n        if gear == 0 || gear > 255 {\n            return Err((15, place));\n        }\n        if second < count {\n            holds[second] = gear as u8;\n        }"),
+    ("reader: gear 255 refused", "gear > 255", "gear >= 255"),
+    ("reader: second judged after the gear", "        if !rising || second >= count {\n            return Err((15, place));\n        }\n        let gear = c.group()?;", "        let gear = c.group()?;\n        if !rising || second >= count {\n            return Err((15, place));\n        }"),
+    ("reader: F1 as it stands", "as i32 - 5000", "as i32"),
+] + [(f"bound: {a}", a, b) for a, b in [
+    ("(2..=10).contains(&v.ng),", "(1..=10).contains(&v.ng),"), ("(2..=10).contains(&v.ng),", "(2..=9).contains(&v.ng),"),
+    ("(1..=50_000).contains(g)", "(0..=50_000).contains(g)"), ("(1..=50_000).contains(g)", "(1..=50_001).contains(g)"), ("(1..=50_000).contains(g)", "(1..=49_999).contains(g)"),
+    ("two[0] > two[1]", "two[0] >= two[1]"), ("(300..=3000)", "(299..=3000)"), ("(300..=3000)", "(300..=3001)"), ("(300..=3000)", "(301..=2999)"),
+    ("v.rated > v.idle", "v.rated >= v.idle"), ("v.rated > v.idle", "v.rated > v.idle + 1"), ("v.rated <= 12_000", "v.rated <= 12_001"), ("v.rated <= 12_000", "v.rated < 12_000"),
+    ("v.nmax >= v.rated", "v.nmax + 1 >= v.rated"), ("v.nmax >= v.rated", "v.nmax > v.rated"), ("v.nmax <= 15_000", "v.nmax <= 15_001"), ("v.nmax <= 15_000", "v.nmax < 15_000"),
+    ("v.f0 <= 10_000", "v.f0 <= 10_001"), ("v.f0 <= 10_000", "v.f0 < 10_000"), ("(-5000..=5000)", "(-5001..=5000)"), ("(-5000..=5000)", "(-5000..=5001)"), ("(-5000..=5000)", "(-4999..=4999)"),
+    ("v.f2 <= 20_000", "v.f2 <= 20_001"), ("v.f2 <= 20_000", "v.f2 < 20_000"), ("(400..=4000)", "(399..=4000)"), ("(400..=4000)", "(400..=4001)"), ("(400..=4000)", "(401..=3999)"),
+    ("v.margin <= 50", "v.margin <= 51"), ("v.margin <= 50", "v.margin < 50"), ("(2..=64).contains(&v.points),", "(3..=64).contains(&v.points),"), ("(2..=64).contains(&v.points),", "(2..=63).contains(&v.points),"),
+    ("(1..=1000).contains", "(0..=1000).contains"), ("(1..=1000).contains", "(1..=1001).contains"), ("(1..=1000).contains", "(2..=999).contains"),
+    ("(1..=16_000)", "(0..=16_000)"), ("(1..=16_000)", "(1..=16_001)"), ("(1..=16_000)", "(2..=15_999)"), ("*x <= 5000", "*x <= 5001"), ("*x <= 5000", "*x < 5000"),
+    ("v.n[0] <= v.idle &&", "v.n[0] <= v.idle + 1 &&"), ("v.n[0] <= v.idle &&", "v.n[0] < v.idle &&"), ("- 1] >= v.nmax", "- 1] + 1 >= v.nmax"), ("- 1] >= v.nmax", "- 1] > v.nmax"),
+]]
+
+def run(k, name, old, new):
+    here = os.path.join(OUT, "mutants", str(k))
+    shutil.rmtree(here, ignore_errors=True)
+    shutil.copytree(os.path.join(HERE, "src"), here)
+    if not replace(os.path.join(here, "paper.rs"), old, new):
+        return f"{k} NOT APPLIED: {name}"
+    # The paper's own sums would notice many a slip before any case does.
+    if not replace(os.path.join(here, "main.rs"), "    sums::check();\n", ""):
+        return f"{k} NOT APPLIED: sums::check() is not where it was"
+    made = subprocess.run(["rustc", "-C", "opt-level=0", "-C", "debug-assertions=off", "-A", "warnings", "--edition", "2021", "--crate-name", "independent", "main.rs", "-o", "out"], cwd=here, capture_output=True, text=True)
+    if made.returncode:
+        return f"{k} DOES NOT COMPILE: {name}: {made.stderr[:300]}"
+    ran = subprocess.run([os.path.join(here, "out"), "--seed", "7", "--cases", "5000", "--"] + DRIVER, capture_output=True, text=True)
+    shutil.rmtree(here)
+    first = next((line for line in ran.stdout.splitlines() if line.startswith("FAILED: gearcard_")), "")
+    noticed = "noticed" if first else ("noticed (the reference stopped)" if ran.returncode > 1 else "NOT NOTICED")
+    return f"{k} {noticed}: {name} -> {new[:40]!r} {first}"
+
+
+def replace(path, old, new):
+    with open(path) as file:
+        text = file.read()
+    with open(path, "w") as file:
+        file.write(text.replace(old, new, 1))
+    return old in text
+
+
+ONLY = [int(word) for word in sys.argv[1:]]
+missed = 0
+for k, (name, old, new) in enumerate(SLIPS):
+    if not ONLY or k in ONLY:
+        said = run(k, name, old, new)
+        missed += " noticed" not in said
+        print(said, flush=True)
+print(f"{missed} not noticed of {len(ONLY or SLIPS)}")
+sys.exit(missed != 0)

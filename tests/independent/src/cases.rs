@@ -1,0 +1,250 @@
+//! One case of each kind: generation, the reference's answer, the library's, and their comparison.
+
+use crate::jobs;
+use crate::library::{Library, Loan};
+use crate::paper::{self, Refusal};
+use crate::rng::Rng;
+use crate::traces;
+use crate::vehicle::Vehicle;
+use crate::vehicles;
+
+pub const KINDS: [&str; 3] = ["read", "work", "hold"];
+
+/// The number of the answer (0: accepted), or a description of the mismatch.
+pub type Outcome = Result<u32, String>;
+
+pub fn run(library: &mut Library, seed: u64, kind: usize, index: u64) -> Outcome {
+    let mut r = Rng::of_case(seed, kind as u64, index);
+    let outcome = match kind {
+        0 => read_case(library, &mut r),
+        1 => work_case(library, &mut r),
+        _ => hold_case(library, &mut r),
+    };
+    outcome.map_err(|why| format!("FAILED: gearcard_{}, seed {seed}, case {index}\n{why}", KINDS[kind]))
+}
+
+fn number<T>(answer: &Result<T, Refusal>) -> u32 {
+    answer.as_ref().err().map_or(0, |(number, _)| *number)
+}
+
+// ---------------------------------------------------------------- what a case is made of
+
+struct Setting {
+    vehicle: Vehicle,
+    speeds: Vec<u16>,
+    holds: Vec<u8>,
+    card: Vec<u8>,
+    /// Seconds where a fault was put, for the quick way to ask about.
+    faults: Vec<usize>,
+}
+
+/// A sound vehicle, trace and holds; the card is noise, which the quick way may replace by the right one.
+fn sound(r: &mut Rng) -> Setting {
+    let vehicle = vehicles::good(r);
+    let length = traces::length(r);
+    let speeds = traces::trace(r, &vehicle, length);
+    let holds = traces::holds(r, &vehicle, &speeds);
+    let card = (0..length).map(|_| r.next() as u8).collect();
+    Setting { vehicle, speeds, holds, card, faults: Vec::new() }
+}
+
+/// Faults 4 to 10 first, since they need a sound vehicle; then the vehicle; then the lengths.
+fn spoil(r: &mut Rng, c: &mut Setting) {
+    let how_many = r.pick(&[1, 1, 1, 2, 3]);
+    let mut numbers: Vec<u32> = (0..how_many).map(|_| r.range(1, 10) as u32).collect();
+    numbers.sort_by(|a, b| b.cmp(a));
+    for number in numbers {
+        match number {
+            1 => spoil_length(r, c),
+            2 => spoil_rooms(r, c),
+            3 => spoil_vehicle(r, c),
+            _ => c.faults.extend(traces::put_fault(r, &c.vehicle, &mut c.speeds, &mut c.holds, number)),
+        }
+    }
+}
+
+fn spoil_length(r: &mut Rng, c: &mut Setting) {
+    let length = r.pick(&[0, 2049, 2049, 2050, 2060]);
+    c.speeds.resize(length, 0);
+    if r.chance(70) {
+        c.holds.resize(length, 0);
+        c.card.resize(length, 7);
+    }
+}
+
+/// One or both of the other slices a few longer or shorter.
+fn spoil_rooms(r: &mut Rng, c: &mut Setting) {
+    let which = r.range(1, 3);
+    let near = |r: &mut Rng, length: usize| (length as i64 + r.pick(&[-3, -1, -1, 1, 1, 2])).max(0) as usize;
+    if which != 2 {
+        c.holds.resize(near(r, c.speeds.len()), 1);
+    }
+    if which != 1 {
+        c.card.resize(near(r, c.speeds.len()), 3);
+    }
+}
+
+/// One field, or two with the later one first, for a field's fault leans on the fields before it.
+fn spoil_vehicle(r: &mut Rng, c: &mut Setting) {
+    if vehicles_broken(c) {
+        return;
+    }
+    let mut fields = vec![r.range(1, 13) as usize];
+    if r.chance(25) {
+        fields.push(r.range(1, 13) as usize);
+    }
+    fields.sort_by(|a, b| b.cmp(a));
+    fields.dedup();
+    for field in fields {
+        vehicles::break_field(r, &mut c.vehicle, field);
+    }
+}
+
+fn vehicles_broken(c: &Setting) -> bool {
+    paper::first_bad_field(&c.vehicle).is_some()
+}
+
+fn describe(c: &Setting) -> String {
+    format!("{:?}\nspeeds ({}) {:?}\nholds ({}) {:?}\ncard ({}) {:?}", c.vehicle, c.speeds.len(), c.speeds, c.holds.len(), c.holds, c.card.len(), c.card)
+}
+
+// ---------------------------------------------------------------- the whole working
+
+fn work_case(library: &mut Library, r: &mut Rng) -> Outcome {
+    let mut c = sound(r);
+    if r.chance(35) {
+        spoil(r, &mut c);
+    }
+    let expected = paper::work(&c.vehicle, &c.speeds, &c.holds, c.card.len());
+    let loan = Loan::new(r, &c.speeds, &c.holds, &c.card);
+    library.work(&c.vehicle, &loan, &expected).map_err(|why| format!("{why}\n{}\nreference: {expected:?}", describe(&c)))?;
+    Ok(number(&expected))
+}
+
+// ---------------------------------------------------------------- the quick way
+
+fn hold_case(library: &mut Library, r: &mut Rng) -> Outcome {
+    let mut c = sound(r);
+    let mut right = false;
+    if r.chance(60) {
+        if let Ok(card) = paper::work(&c.vehicle, &c.speeds, &c.holds, c.speeds.len()) {
+            (c.card, right) = (card, true);
+        }
+    }
+    if r.chance(45) {
+        // The card is then still one that once was right, which is the more telling thing to lend.
+        spoil(r, &mut c);
+        right = false;
+    }
+    let second = ask_second(r, &c);
+    let gear = ask_gear(r, &c, second);
+    let expected = paper::hold(&c.vehicle, &c.speeds, &c.holds, &c.card, second, gear);
+    let loan = Loan::new(r, &c.speeds, &c.holds, &c.card);
+    let told = |why: String| format!("{why}\nsecond {second} gear {gear}\n{}\nreference (holds, card): {expected:?}", describe(&c));
+    library.hold(&c.vehicle, &loan, second, gear, &expected).map_err(told)?;
+    if right {
+        agrees_with_whole(&c, &expected).map_err(told)?;
+    }
+    Ok(number(&expected))
+}
+
+/// The paper against itself: a right card stays the one the whole working gives.
+fn agrees_with_whole(c: &Setting, expected: &Result<(Vec<u8>, Vec<u8>), Refusal>) -> Result<(), String> {
+    let Ok((holds, card)) = expected else { return Ok(()) };
+    if paper::work(&c.vehicle, &c.speeds, holds, holds.len()).as_ref() == Ok(card) {
+        return Ok(());
+    }
+    Err(String::from("the reference's quick way and its whole working disagree"))
+}
+
+/// Mostly a moving second, or one near a fault; sometimes outside.
+fn ask_second(r: &mut Rng, c: &Setting) -> usize {
+    let length = c.speeds.len();
+    if length == 0 || r.chance(4) {
+        return r.pick(&[length, length, length + 1, length + 300, usize::MAX, 1 << 32, 1 << 63, 65_536]);
+    }
+    if !c.faults.is_empty() && r.chance(75) {
+        let near = r.pick(&c.faults) as i64 + r.pick(&[-2, -1, 0, 0, 1, 2]);
+        return near.clamp(0, length as i64 - 1) as usize;
+    }
+    let wants_moving = r.chance(88);
+    traces::any_place(r, length, |s| paper::moving(c.speeds[s]) == wants_moving).unwrap_or(0)
+}
+
+fn ask_gear(r: &mut Rng, c: &Setting, second: usize) -> u8 {
+    let ng = c.vehicle.ng.clamp(2, 10) as i64;
+    let nmax = 1000 * c.vehicle.nmax as i128;
+    let good: Vec<u8> = match c.speeds.get(second) {
+        Some(&speed) => (1..=ng as u8).filter(|&gear| paper::engine(&c.vehicle, gear, speed) <= nmax).collect(),
+        None => Vec::new(),
+    };
+    match r.range(0, 99) {
+        0..=24 => 0,
+        25..=79 if !good.is_empty() => r.pick(&good),
+        80..=84 => ng as u8 + 1,
+        85..=86 => r.pick(&[11, 16, 17, 255]),
+        _ => r.range(1, ng) as u8,
+    }
+}
+
+// ---------------------------------------------------------------- the reader
+
+fn read_case(library: &mut Library, r: &mut Rng) -> Outcome {
+    let (bytes, count) = job(r);
+    let rooms = rooms(r, count);
+    let expected = paper::read(&bytes, rooms.0, rooms.1);
+    let speeds: Vec<u16> = (0..rooms.0).map(|_| r.next() as u16).collect();
+    let holds: Vec<u8> = (0..rooms.1).map(|_| r.next() as u8).collect();
+    library.read(&Loan::new(r, &speeds, &holds, &bytes), &expected).map_err(|why| {
+        let told = expected.as_ref().map(|job| (&job.vehicle, &job.speeds, &job.holds));
+        format!("{why}\nrooms {rooms:?}\njob ({}) {bytes:?}\nreference: {told:?}", bytes.len())
+    })?;
+    Ok(number(&expected))
+}
+
+/// A job that is whole, then damaged in no, one or two ways; now and then no job at all. With it the sample count it had when whole.
+fn job(r: &mut Rng) -> (Vec<u8>, usize) {
+    if r.chance(2) {
+        return ((0..r.range(0, 40)).map(|k| if k == 0 { 1 } else { r.next() as u8 & 0x7F }).collect(), 5);
+    }
+    let mut c = sound(r);
+    if r.chance(20) {
+        spoil_values(r, &mut c);
+    }
+    if r.chance(40) {
+        c.holds.iter_mut().filter(|gear| **gear != 0).for_each(|gear| *gear = r.range(1, 255) as u8);
+    }
+    let damages: Vec<i64> = (0..r.pick(&[0, 1, 1, 1, 2])).map(|_| r.range(0, jobs::DAMAGES)).collect();
+    let mut groups = jobs::groups(&c.vehicle, &c.speeds, &c.holds);
+    damages.iter().filter(|kind| **kind <= jobs::GROUP_DAMAGES).for_each(|kind| jobs::damage_groups(r, &mut groups, *kind));
+    let mut bytes = groups.all.concat();
+    damages.iter().filter(|kind| **kind > jobs::GROUP_DAMAGES).for_each(|kind| jobs::damage_bytes(r, &mut bytes, *kind));
+    (bytes, c.speeds.len())
+}
+
+/// Ranges other than the counts are none of the reader's business: it takes any values there.
+fn spoil_values(r: &mut Rng, c: &mut Setting) {
+    let v = &mut c.vehicle;
+    v.idle = r.next() as u16;
+    v.rated = r.next() as u16;
+    v.nmax = r.next() as u16;
+    v.f0 = r.next() as u16;
+    v.f1 = r.edge(-5000, 60_535) as i32;
+    v.f2 = r.next() as u16;
+    v.tm = r.next() as u16;
+    v.margin = r.next() as u16;
+    v.ratio.iter_mut().chain(&mut v.n).chain(&mut v.p).for_each(|x| *x = r.next() as u16);
+    c.speeds.iter_mut().for_each(|x| *x = r.next() as u16);
+}
+
+/// Mostly enough room, by nothing or by a few; sometimes too little in one or both.
+fn rooms(r: &mut Rng, count: usize) -> (usize, usize) {
+    let one = |r: &mut Rng| match r.range(0, 99) {
+        0..=39 => count,
+        40..=79 => count + r.range(1, 9) as usize,
+        80..=94 => paper::LONGEST.max(count),
+        95..=97 => count.saturating_sub(1),
+        _ => r.below(count + 1),
+    };
+    (one(r), one(r))
+}

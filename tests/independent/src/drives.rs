@@ -1,0 +1,122 @@
+//! The regulation's cycles, each driven whole by several cars: the working, the job read back, and holds set and cleared the quick way.
+
+use crate::cycles;
+use crate::jobs;
+use crate::library::{Library, Loan};
+use crate::paper;
+use crate::rng::Rng;
+use crate::traces;
+use crate::vehicle::{car_z, Vehicle};
+use crate::vehicles;
+use std::path::Path;
+
+/// Apart from the kinds of a case, whose numbers are 0 to 2.
+const KIND: u64 = 3;
+const REALISTIC: usize = 6;
+/// Holds set by one car on one cycle, and as many cleared.
+const HOLDS: usize = 100;
+
+pub fn run(library: &mut Library, seed: u64, dir: &Path) -> Result<(), String> {
+    let all = cycles::traces(dir);
+    if all.is_empty() {
+        return Err(format!("FAILED: no cycles in {}", dir.display()));
+    }
+    for (index, (name, speeds)) in all.iter().enumerate() {
+        let mut r = Rng::of_case(seed, KIND, index as u64);
+        let (mut driven, mut refused, mut holds) = (0, 0, 0);
+        for vehicle in &cars(&mut r) {
+            let mut drive = Drive { library, r: &mut r, vehicle, speeds };
+            match drive.whole().map_err(|why| format!("FAILED: cycle {name}, seed {seed}\n{vehicle:?}\n{why}"))? {
+                Some(accepted) => (driven, holds) = (driven + 1, holds + accepted),
+                None => refused += 1,
+            }
+        }
+        if holds == 0 {
+            return Err(format!("FAILED: cycle {name}: no car had a hold accepted, so little was tried"));
+        }
+        println!("cycles: {name}, {} seconds, {driven} cars ({refused} more refused), {holds} holds: agreed", speeds.len());
+    }
+    Ok(())
+}
+
+fn cars(r: &mut Rng) -> Vec<Vehicle> {
+    let mut cars = vec![car_z()];
+    cars.extend([5, 7, 64].map(vehicles::mid_size));
+    cars.extend((0..REALISTIC).map(|_| vehicles::realistic(r)));
+    cars
+}
+
+struct Drive<'a> {
+    library: &'a mut Library,
+    r: &'a mut Rng,
+    vehicle: &'a Vehicle,
+    speeds: &'a [u16],
+}
+
+impl Drive<'_> {
+    /// How many holds were accepted, set or cleared; none where the cycle itself is refused with this car.
+    fn whole(&mut self) -> Result<Option<usize>, String> {
+        let none = vec![0; self.speeds.len()];
+        let Some(first) = self.work(&none)? else { return Ok(None) };
+        let (mut holds, mut card) = (none, first.clone());
+        let mut accepted = 0;
+        for _ in 0..HOLDS {
+            let second = traces::any_place(self.r, self.speeds.len(), |s| paper::moving(self.speeds[s])).unwrap_or(0);
+            let gear = self.r.range(1, self.vehicle.ng as i64) as u8;
+            accepted += self.hold(&mut holds, &mut card, second, gear)?;
+            if self.r.chance(40) {
+                accepted += self.clear_one(&mut holds, &mut card)?;
+            }
+        }
+        self.job(&holds)?;
+        if self.work(&holds)? != Some(card.clone()) {
+            return Err(String::from("the reference's holds and its whole working disagree"));
+        }
+        while holds.iter().any(|gear| *gear != 0) {
+            accepted += self.clear_one(&mut holds, &mut card)?;
+        }
+        if card != first {
+            return Err(String::from("the reference's card is another after all holds are cleared"));
+        }
+        Ok(Some(accepted))
+    }
+
+    /// The reference's card, where it is no refusal.
+    fn work(&mut self, holds: &[u8]) -> Result<Option<Vec<u8>>, String> {
+        let expected = paper::work(self.vehicle, self.speeds, holds, self.speeds.len());
+        let noise: Vec<u8> = self.speeds.iter().map(|_| self.r.next() as u8).collect();
+        let loan = Loan::new(self.r, self.speeds, holds, &noise);
+        self.library.work(self.vehicle, &loan, &expected).map_err(|why| format!("{why}\nholds {holds:?}\nreference: {expected:?}"))?;
+        Ok(expected.ok())
+    }
+
+    /// 1 where the hold is accepted, which moves holds and card on.
+    fn hold(&mut self, holds: &mut Vec<u8>, card: &mut Vec<u8>, second: usize, gear: u8) -> Result<usize, String> {
+        let expected = paper::hold(self.vehicle, self.speeds, holds, card, second, gear);
+        let loan = Loan::new(self.r, self.speeds, holds, card);
+        let asked = || format!("second {second} gear {gear}\nholds {holds:?}\ncard {card:?}\nreference (holds, card): {expected:?}");
+        self.library.hold(self.vehicle, &loan, second, gear, &expected).map_err(|why| format!("{why}\n{}", asked()))?;
+        let Ok(after) = expected else { return Ok(0) };
+        (*holds, *card) = after;
+        Ok(1)
+    }
+
+    fn clear_one(&mut self, holds: &mut Vec<u8>, card: &mut Vec<u8>) -> Result<usize, String> {
+        match traces::any_place(self.r, holds.len(), |s| holds[s] != 0) {
+            Some(second) => self.hold(holds, card, second, 0),
+            None => Ok(0),
+        }
+    }
+
+    /// The job of this drive, read back: what was put into it comes out.
+    fn job(&mut self, holds: &[u8]) -> Result<(), String> {
+        let bytes = jobs::groups(self.vehicle, self.speeds, holds).all.concat();
+        let expected = paper::read(&bytes, self.speeds.len(), paper::LONGEST);
+        let same = expected.as_ref().is_ok_and(|job| job.vehicle == *self.vehicle && job.speeds == self.speeds && job.holds == holds);
+        if !same {
+            return Err(String::from("the reference does not read its own job back"));
+        }
+        let loan = Loan::new(self.r, &vec![7; self.speeds.len()], &[7; paper::LONGEST], &bytes);
+        self.library.read(&loan, &expected).map_err(|why| format!("{why}\njob {bytes:?}"))
+    }
+}

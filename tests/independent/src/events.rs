@@ -1,0 +1,43 @@
+//! How often the reference met the rarer turns of the rules: a turn that is never met is not tested.
+
+use std::sync::atomic::{AtomicU64, Ordering::Relaxed};
+
+#[derive(Clone, Copy)]
+pub enum Event {
+    PassA,
+    PassAFloor,
+    PassB,
+    PassBFloor,
+    PassC,
+    NoneEnough,
+    PowerTie,
+    PowerEqual,
+    ClutchMoving,
+    StandingCleared,
+}
+
+const NAMES: [&str; 10] = [
+    "pass A lowered a gear",
+    "pass A stopped by the floor",
+    "pass B lowered a gear to the ceiling",
+    "pass B stopped by the floor",
+    "pass C raised a gear",
+    "no fitting gear had enough power",
+    "tie of most power",
+    "power exactly as required",
+    "clutch down while moving",
+    "hold cleared at a standing second",
+];
+
+static COUNTS: [AtomicU64; 10] = [const { AtomicU64::new(0) }; 10];
+
+pub fn note(event: Event) {
+    COUNTS[event as usize].fetch_add(1, Relaxed);
+}
+
+pub fn print() {
+    println!("met by the reference:");
+    for (name, count) in NAMES.iter().zip(&COUNTS) {
+        println!("  {:>10}  {name}", count.load(Relaxed));
+    }
+}

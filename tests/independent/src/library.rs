@@ -1,0 +1,250 @@
+//! The library, called through driver.c: each lent slice lies inside a larger one, whose other places are compared too.
+
+use crate::paper::{Job, Refusal};
+use crate::rng::Rng;
+use crate::vehicle::{Vehicle, ZERO};
+use std::fmt::Debug;
+use std::io::{self, BufReader, BufWriter, Read, Write};
+use std::process::{Child, ChildStdin, ChildStdout, Command, Stdio};
+
+/// A number that goes through the pipe, little-endian.
+pub trait Wire: Copy + PartialEq + Debug {
+    fn put(self, to: &mut Vec<u8>);
+    fn get(from: &mut impl Read) -> io::Result<Self>;
+}
+
+macro_rules! wire {
+    ($($number:ty)*) => {$(
+        impl Wire for $number {
+            fn put(self, to: &mut Vec<u8>) {
+                to.extend(self.to_le_bytes());
+            }
+
+            fn get(from: &mut impl Read) -> io::Result<$number> {
+                let mut bytes = [0; size_of::<$number>()];
+                from.read_exact(&mut bytes)?;
+                Ok(<$number>::from_le_bytes(bytes))
+            }
+        }
+    )*};
+}
+
+wire!(u8 u16 u32 u64 i32);
+
+fn put_all<T: Wire>(values: &[T], to: &mut Vec<u8>) {
+    values.iter().for_each(|value| value.put(to));
+}
+
+fn get_all<T: Wire>(values: &mut [T], from: &mut impl Read) -> io::Result<()> {
+    for value in values {
+        *value = T::get(from)?;
+    }
+    Ok(())
+}
+
+fn put_vehicle(v: &Vehicle, to: &mut Vec<u8>) {
+    v.ng.put(to);
+    put_all(&v.ratio, to);
+    put_all(&[v.idle, v.rated, v.nmax, v.f0], to);
+    v.f1.put(to);
+    put_all(&[v.f2, v.tm, v.margin, v.points], to);
+    put_all(&v.n, to);
+    put_all(&v.p, to);
+}
+
+fn get_vehicle(from: &mut impl Read) -> io::Result<Vehicle> {
+    let mut v = ZERO;
+    v.ng = u16::get(from)?;
+    get_all(&mut v.ratio, from)?;
+    for field in [&mut v.idle, &mut v.rated, &mut v.nmax, &mut v.f0] {
+        *field = u16::get(from)?;
+    }
+    v.f1 = i32::get(from)?;
+    for field in [&mut v.f2, &mut v.tm, &mut v.margin, &mut v.points] {
+        *field = u16::get(from)?;
+    }
+    get_all(&mut v.n, from)?;
+    get_all(&mut v.p, from)?;
+    Ok(v)
+}
+
+/// A slice lent to the library, with guards before and after.
+#[derive(Clone)]
+struct Lent<T> {
+    all: Vec<T>,
+    before: usize,
+    length: usize,
+}
+
+impl<T: Wire> Lent<T> {
+    /// Guards are random, and their number too, so that the slice lies at any alignment its type allows.
+    fn new(r: &mut Rng, content: &[T], random: impl Fn(u64) -> T) -> Lent<T> {
+        let before = r.range(8, 40) as usize;
+        let after = r.range(8, 40) as usize;
+        let mut all: Vec<T> = (0..before).map(|_| random(r.next())).collect();
+        all.extend_from_slice(content);
+        all.extend((0..after).map(|_| random(r.next())));
+        Lent { all, before, length: content.len() }
+    }
+
+    fn span(&self) -> [u32; 3] {
+        [self.before, self.length, self.all.len() - self.before - self.length].map(|count| count as u32)
+    }
+
+    /// Every element afterwards against what it was, or against `expected` at the start of the slice; places count from there.
+    fn compare(&self, name: &str, after: &Lent<T>, expected: &[T]) -> Result<(), String> {
+        let mut wanted = self.all.clone();
+        wanted[self.before..self.before + expected.len()].copy_from_slice(expected);
+        match (0..wanted.len()).find(|&k| wanted[k] != after.all[k]) {
+            None => Ok(()),
+            Some(k) => {
+                let place = k as i64 - self.before as i64;
+                Err(format!("{name} (length {}) differs at {place}: expected {:?}, library {:?}", self.length, wanted[k], after.all[k]))
+            }
+        }
+    }
+}
+
+/// What one call is lent besides the vehicle. The third is the card, or for a read the job.
+#[derive(Clone)]
+pub struct Loan {
+    speeds: Lent<u16>,
+    holds: Lent<u8>,
+    third: Lent<u8>,
+}
+
+impl Loan {
+    pub fn new(r: &mut Rng, speeds: &[u16], holds: &[u8], third: &[u8]) -> Loan {
+        Loan { speeds: Lent::new(r, speeds, |x| x as u16), holds: Lent::new(r, holds, |x| x as u8), third: Lent::new(r, third, |x| x as u8) }
+    }
+}
+
+#[derive(Clone, Copy)]
+enum Call {
+    Read,
+    Work,
+    Hold,
+}
+
+struct Request<'a> {
+    call: Call,
+    vehicle: &'a Vehicle,
+    second: usize,
+    gear: u8,
+    loan: &'a Loan,
+}
+
+struct Answer {
+    number: u32,
+    place: u64,
+    /// With the count; of a read only.
+    vehicle: Option<(Vehicle, u64)>,
+    loan: Loan,
+}
+
+impl Answer {
+    /// Number 0 at place 0 is how an accepted case answers.
+    fn compare(&self, expected: Option<Refusal>) -> Result<(), String> {
+        let (number, place) = expected.unwrap_or((0, 0));
+        if (number, place as u64) == (self.number, self.place) {
+            return Ok(());
+        }
+        Err(format!("answer: expected {number} at {place}, library {} at {}", self.number, self.place))
+    }
+}
+
+pub struct Library {
+    driver: Child,
+    to: BufWriter<ChildStdin>,
+    from: BufReader<ChildStdout>,
+}
+
+impl Library {
+    /// The words are the driver's command.
+    pub fn start(words: &[String]) -> Result<Library, String> {
+        let started = Command::new(&words[0]).args(&words[1..]).stdin(Stdio::piped()).stdout(Stdio::piped()).spawn();
+        let mut driver = started.map_err(|why| format!("{}: {why}", words[0]))?;
+        let to = BufWriter::with_capacity(1 << 16, driver.stdin.take().unwrap());
+        let from = BufReader::with_capacity(1 << 16, driver.stdout.take().unwrap());
+        Ok(Library { driver, to, from })
+    }
+
+    /// A driver that ends before it has answered is a fault of this very call.
+    fn call(&mut self, request: &Request) -> Result<Answer, String> {
+        self.converse(request).map_err(|why| match self.driver.wait() {
+            Ok(status) => format!("the driver ended before its answer ({status}; {why})"),
+            Err(other) => format!("the driver does not answer ({why}; {other})"),
+        })
+    }
+
+    fn converse(&mut self, request: &Request) -> io::Result<Answer> {
+        let mut bytes = Vec::new();
+        put_all(&[request.call as u32, request.gear as u32], &mut bytes);
+        (request.second as u64).put(&mut bytes);
+        put_vehicle(request.vehicle, &mut bytes);
+        let mut loan = request.loan.clone();
+        put_all(&[loan.speeds.span(), loan.holds.span(), loan.third.span()].concat(), &mut bytes);
+        put_all(&loan.speeds.all, &mut bytes);
+        put_all(&loan.holds.all, &mut bytes);
+        put_all(&loan.third.all, &mut bytes);
+        self.to.write_all(&bytes)?;
+        self.to.flush()?;
+
+        let from = &mut self.from;
+        let (number, place) = (u32::get(from)?, u64::get(from)?);
+        let vehicle = match request.call {
+            Call::Read => Some((get_vehicle(from)?, u64::get(from)?)),
+            _ => None,
+        };
+        get_all(&mut loan.speeds.all, from)?;
+        get_all(&mut loan.holds.all, from)?;
+        get_all(&mut loan.third.all, from)?;
+        Ok(Answer { number, place, vehicle, loan })
+    }
+
+    /// No more requests: the driver then ends, and well.
+    pub fn end(mut self) -> Result<(), String> {
+        drop(self.to);
+        match self.driver.wait() {
+            Ok(status) if status.success() => Ok(()),
+            other => Err(format!("the driver did not end well: {other:?}")),
+        }
+    }
+
+    /// `expected`: the card.
+    pub fn work(&mut self, vehicle: &Vehicle, loan: &Loan, expected: &Result<Vec<u8>, Refusal>) -> Result<(), String> {
+        let answer = self.call(&Request { call: Call::Work, vehicle, second: 0, gear: 0, loan })?;
+        answer.compare(expected.as_ref().err().copied())?;
+        loan.speeds.compare("speeds", &answer.loan.speeds, &[])?;
+        loan.holds.compare("holds", &answer.loan.holds, &[])?;
+        loan.third.compare("card", &answer.loan.third, expected.as_deref().unwrap_or(&[]))
+    }
+
+    /// `expected`: the holds and the card.
+    pub fn hold(&mut self, vehicle: &Vehicle, loan: &Loan, second: usize, gear: u8, expected: &Result<(Vec<u8>, Vec<u8>), Refusal>) -> Result<(), String> {
+        let answer = self.call(&Request { call: Call::Hold, vehicle, second, gear, loan })?;
+        answer.compare(expected.as_ref().err().copied())?;
+        let (holds, card): (&[u8], &[u8]) = match expected {
+            Ok((holds, card)) => (holds, card),
+            Err(_) => (&[], &[]),
+        };
+        loan.speeds.compare("speeds", &answer.loan.speeds, &[])?;
+        loan.holds.compare("holds", &answer.loan.holds, holds)?;
+        loan.third.compare("card", &answer.loan.third, card)
+    }
+
+    pub fn read(&mut self, loan: &Loan, expected: &Result<Job, Refusal>) -> Result<(), String> {
+        let answer = self.call(&Request { call: Call::Read, vehicle: &ZERO, second: 0, gear: 0, loan })?;
+        answer.compare(expected.as_ref().err().copied())?;
+        let (vehicle, speeds, holds): (Vehicle, &[u16], &[u8]) = match expected {
+            Ok(job) => (job.vehicle, &job.speeds, &job.holds),
+            Err(_) => (ZERO, &[], &[]),
+        };
+        if answer.vehicle != Some((vehicle, speeds.len() as u64)) {
+            return Err(format!("vehicle and count: expected {vehicle:?} {}, library {:?}", speeds.len(), answer.vehicle));
+        }
+        loan.third.compare("job", &answer.loan.third, &[])?;
+        loan.speeds.compare("speeds", &answer.loan.speeds, speeds)?;
+        loan.holds.compare("holds", &answer.loan.holds, holds)
+    }
+}

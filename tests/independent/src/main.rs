@@ -1,0 +1,149 @@
+//! Compares the gear card library with a working of its own, written from docs/01-scope.md alone.
+//!
+//!   independent [--seed S] [--cases N] [--cycles DIR] -- DRIVER..    the cycles of DIR, then N cases of each kind (read, work, hold)
+//!   independent [--seed S] --case KIND I -- DRIVER..                 one case again (KIND read, work or hold)
+//!   independent --job FILE                                           what the card program would print of a job, from the reference alone
+
+mod cases;
+mod cycles;
+mod drives;
+mod events;
+mod jobs;
+mod library;
+mod paper;
+mod rng;
+mod sums;
+mod traces;
+mod vehicle;
+mod vehicles;
+
+use library::Library;
+use std::path::Path;
+use std::process::exit;
+use std::time::{Duration, Instant};
+
+/// About two minutes for the three kinds together, on a quiet x86-64 machine.
+const DEFAULT_CASES: u64 = 600_000;
+const DEFAULT_SEED: u64 = 20_261_115;
+
+/// Answers by kind and number, 0 for accepted.
+type Counts = [[u64; 17]; 3];
+
+struct Options {
+    seed: u64,
+    cases: u64,
+    /// Kind and number.
+    case: Option<(usize, u64)>,
+    cycles: Option<String>,
+}
+
+fn main() {
+    let words: Vec<String> = std::env::args().skip(1).collect();
+    if let [option, file] = &words[..] {
+        if option == "--job" {
+            return print_job(file);
+        }
+    }
+    let Some(split) = words.iter().position(|word| word == "--") else { usage() };
+    let options = options(&words[..split]);
+    let driver = &words[split + 1..];
+    if driver.is_empty() {
+        usage();
+    }
+    let outcome = Library::start(driver).and_then(|library| match options.case {
+        Some((kind, index)) => one_case(library, options.seed, kind, index),
+        None => run(library, &options),
+    });
+    if let Err(why) = outcome {
+        println!("{why}");
+        exit(1);
+    }
+}
+
+fn usage() -> ! {
+    eprintln!("use: [--seed S] [--cases N] [--cycles DIR] -- DRIVER.. | [--seed S] --case KIND I -- DRIVER.. | --job FILE");
+    exit(2)
+}
+
+fn options(words: &[String]) -> Options {
+    let mut options = Options { seed: DEFAULT_SEED, cases: DEFAULT_CASES, case: None, cycles: None };
+    let mut words = words.iter().map(String::as_str);
+    while let Some(option) = words.next() {
+        let mut value = || words.next().unwrap_or_else(|| usage());
+        match option {
+            "--seed" => options.seed = number(value()),
+            "--cases" => options.cases = number(value()),
+            "--cycles" => options.cycles = Some(String::from(value())),
+            "--case" => options.case = Some((kind(value()), number(value()))),
+            _ => usage(),
+        }
+    }
+    options
+}
+
+fn number(word: &str) -> u64 {
+    word.parse().unwrap_or_else(|_| usage())
+}
+
+fn kind(word: &str) -> usize {
+    cases::KINDS.iter().position(|name| *name == word).unwrap_or_else(|| usage())
+}
+
+fn print_job(file: &str) {
+    match std::fs::read(file) {
+        Ok(bytes) => print!("{}", paper::printed(&bytes)),
+        Err(why) => {
+            eprintln!("{file}: {why}");
+            exit(2)
+        }
+    }
+}
+
+fn one_case(mut library: Library, seed: u64, kind: usize, index: u64) -> Result<(), String> {
+    let number = cases::run(&mut library, seed, kind, index)?;
+    println!("agreed, answer {number}");
+    library.end()
+}
+
+fn run(mut library: Library, options: &Options) -> Result<(), String> {
+    sums::check();
+    println!("the paper's own sums: agreed");
+    if let Some(dir) = &options.cycles {
+        drives::run(&mut library, options.seed, Path::new(dir))?;
+    }
+    let mut met: Counts = [[0; 17]; 3];
+    let mut spent = [Duration::ZERO; 3];
+    for index in 0..options.cases {
+        for kind in 0..3 {
+            let start = Instant::now();
+            let number = cases::run(&mut library, options.seed, kind, index)?;
+            spent[kind] += start.elapsed();
+            met[kind][number as usize] += 1;
+        }
+    }
+    for (kind, time) in cases::KINDS.iter().zip(spent) {
+        let each = time.as_micros() as u64 / options.cases.max(1);
+        println!("{kind}: {} cases of seed {} agreed, {each} ms for each 1,000 cases", options.cases, options.seed);
+    }
+    library.end()?;
+    events::print();
+    print_counts(&met);
+    all_met(&met)
+}
+
+fn print_counts(met: &Counts) {
+    println!("{:>9} {:>8} {:>8} {:>8}", "answer", "read", "work", "hold");
+    for number in 0..=16 {
+        let name = if number == 0 { String::from("accepted") } else { number.to_string() };
+        println!("{name:>9} {:>8} {:>8} {:>8}", met[0][number], met[1][number], met[2][number]);
+    }
+}
+
+/// A refusal that no case met was not tested.
+fn all_met(met: &Counts) -> Result<(), String> {
+    let missed: Vec<String> = (1..=16).filter(|&number| met.iter().all(|counts| counts[number] == 0)).map(|number| number.to_string()).collect();
+    if missed.is_empty() {
+        return Ok(());
+    }
+    Err(format!("FAILED: no case met refusal {}", missed.join(", ")))
+}

@@ -1,0 +1,478 @@
+//! The paper's rules, written out one by one from docs/01-scope.md with i128 throughout.
+//! Nothing here is meant to be quick: a rule reads as the paper words it.
+
+use crate::events::{note, Event};
+use crate::vehicle::{Vehicle, ZERO};
+
+pub const LONGEST: usize = 2048;
+
+/// Number and place.
+pub type Refusal = (u32, usize);
+
+// ---------------------------------------------------------------- the vehicle record
+
+/// The number of the first field out of bounds.
+pub fn first_bad_field(v: &Vehicle) -> Option<usize> {
+    (1..=13).find(|&field| !field_good(v, field))
+}
+
+/// Fields are asked for in order, so a field may rely on those before it (field 2 on the gear count, 12 and 13 on the point count).
+fn field_good(v: &Vehicle, field: usize) -> bool {
+    match field {
+        1 => (2..=10).contains(&v.ng),
+        2 => ratios_good(&v.ratio[..v.ng as usize]),
+        3 => (300..=3000).contains(&v.idle),
+        4 => v.rated > v.idle && v.rated <= 12_000,
+        5 => v.nmax >= v.rated && v.nmax <= 15_000,
+        6 => v.f0 <= 10_000,
+        7 => (-5000..=5000).contains(&v.f1),
+        8 => v.f2 <= 20_000,
+        9 => (400..=4000).contains(&v.tm),
+        10 => v.margin <= 50,
+        11 => (2..=64).contains(&v.points),
+        12 => points_good(&v.n[..v.points as usize], &v.p[..v.points as usize]),
+        _ => v.n[0] <= v.idle && v.n[v.points as usize - 1] >= v.nmax,
+    }
+}
+
+fn ratios_good(ratio: &[u16]) -> bool {
+    ratio.iter().all(|g| (1..=50_000).contains(g)) && ratio.windows(2).all(|two| two[0] > two[1])
+}
+
+fn points_good(n: &[u16], p: &[u16]) -> bool {
+    let rise = |two: &[u16]| (1..=1000).contains(&(two[1] as i32 - two[0] as i32));
+    n.iter().all(|x| (1..=16_000).contains(x)) && p.iter().all(|x| *x <= 5000) && n.windows(2).all(rise)
+}
+
+// ---------------------------------------------------------------- one second, one gear
+
+pub fn moving(speed: u16) -> bool {
+    speed >= 10
+}
+
+/// X, thousandths of min^-1. Gears count from 1.
+pub fn engine(v: &Vehicle, gear: u8, speed: u16) -> i128 {
+    v.ratio[gear as usize - 1] as i128 * speed as i128
+}
+
+/// The nearest whole of a fraction that is not negative, halves up.
+fn nearest(top: i128, bottom: i128) -> i128 {
+    (2 * top + bottom).div_euclid(2 * bottom)
+}
+
+pub fn minimum(v: &Vehicle, gear: u8) -> i128 {
+    let (idle, rated) = (v.idle as i128, v.rated as i128);
+    match gear {
+        1 => idle,
+        2 => nearest(9 * idle, 10),
+        _ => nearest(8 * idle + (rated - idle), 8),
+    }
+}
+
+fn within_nmax(v: &Vehicle, gear: u8, speed: u16) -> bool {
+    engine(v, gear, speed) <= 1000 * v.nmax as i128
+}
+
+pub fn fits(v: &Vehicle, gear: u8, speed: u16, opens_trip: bool) -> bool {
+    let x = engine(v, gear, speed);
+    let least = 1000 * minimum(v, gear);
+    let between = x >= least && within_nmax(v, gear, speed);
+    let slow_first = gear == 1 && x < least;
+    (between || slow_first) && (gear == 1 || !opens_trip)
+}
+
+/// E, in 1/(3.24 x 10^12) kW; D keeps its sign.
+pub fn required(v: &Vehicle, speed: u16, d: i128) -> i128 {
+    let s = speed as i128;
+    9_000_000 * v.f0 as i128 * s + 9_000 * v.f1 as i128 * s * s + 9 * v.f2 as i128 * s * s * s + 2_575_000 * d * s * v.tm as i128
+}
+
+/// Full-load power as the pair Q and w: Q/(1000 w) tenths of kW.
+#[derive(Clone, Copy)]
+pub struct Power {
+    pub q: i128,
+    pub w: i128,
+}
+
+pub fn power(v: &Vehicle, gear: u8, speed: u16) -> Power {
+    let x = engine(v, gear, speed).max(1000 * v.idle as i128);
+    let at = |k: usize| (v.n[k] as i128, v.p[k] as i128);
+    for k in 0..v.points as usize - 1 {
+        let ((n1, p1), (n2, p2)) = (at(k), at(k + 1));
+        if 1000 * n1 <= x && x <= 1000 * n2 {
+            let w = n2 - n1;
+            return Power { q: 1000 * p1 * w + (p2 - p1) * (x - 1000 * n1), w };
+        }
+    }
+    panic!("the reference was asked for power off the curve: {x} in {v:?}");
+}
+
+fn enough(v: &Vehicle, power: Power, e: i128) -> bool {
+    let given = (100 - v.margin as i128) * power.q * 3_240_000;
+    if given == e * power.w {
+        note(Event::PowerEqual);
+    }
+    given >= e * power.w
+}
+
+/// Neither w is ever 0 or negative, so two fractions compare by their cross products.
+fn at_least(a: Power, b: Power) -> bool {
+    a.q * b.w >= b.q * a.w
+}
+
+/// D: the next speed less this one, 0 where there is no next second.
+fn change(speeds: &[u16], s: usize) -> i128 {
+    match speeds.get(s + 1) {
+        Some(next) => *next as i128 - speeds[s] as i128,
+        None => 0,
+    }
+}
+
+fn opens_trip(speeds: &[u16], s: usize) -> bool {
+    moving(speeds[s]) && (s == 0 || !moving(speeds[s - 1]))
+}
+
+fn fitting_gears(v: &Vehicle, speeds: &[u16], s: usize) -> Vec<u8> {
+    let opens = opens_trip(speeds, s);
+    (1..=v.ng as u8).filter(|&gear| fits(v, gear, speeds[s], opens)).collect()
+}
+
+/// The first choice at a moving second that has a hold or a gear that fits.
+pub fn first_choice(v: &Vehicle, speeds: &[u16], holds: &[u8], s: usize) -> u8 {
+    if holds[s] != 0 {
+        return holds[s];
+    }
+    let e = required(v, speeds[s], change(speeds, s));
+    let fitting = fitting_gears(v, speeds, s);
+    let strong = fitting.iter().copied().filter(|&gear| enough(v, power(v, gear, speeds[s]), e)).max();
+    strong.unwrap_or_else(|| strongest(v, &fitting, speeds[s]))
+}
+
+/// Going up the gears, "at least as strong" leaves the higher gear on a tie.
+fn strongest(v: &Vehicle, fitting: &[u8], speed: u16) -> u8 {
+    note(Event::NoneEnough);
+    let mut best = fitting[0];
+    for &gear in &fitting[1..] {
+        let (new, old) = (power(v, gear, speed), power(v, best, speed));
+        if at_least(new, old) {
+            if at_least(old, new) {
+                note(Event::PowerTie);
+            }
+            best = gear;
+        }
+    }
+    best
+}
+
+// ---------------------------------------------------------------- corrections
+
+/// First and last second, both in the trip.
+#[derive(Clone, Copy, Debug)]
+pub struct Trip {
+    pub first: usize,
+    pub last: usize,
+}
+
+pub fn trips(speeds: &[u16]) -> Vec<Trip> {
+    let mut found = Vec::new();
+    for first in 0..speeds.len() {
+        if opens_trip(speeds, first) {
+            found.push(Trip { first, last: trip_of(speeds, first).last });
+        }
+    }
+    found
+}
+
+/// The trip of a moving second: widened at both ends until it cannot be lengthened.
+pub fn trip_of(speeds: &[u16], second: usize) -> Trip {
+    let mut trip = Trip { first: second, last: second };
+    while trip.first > 0 && moving(speeds[trip.first - 1]) {
+        trip.first -= 1;
+    }
+    while trip.last + 1 < speeds.len() && moving(speeds[trip.last + 1]) {
+        trip.last += 1;
+    }
+    trip
+}
+
+/// The lowest gear that does not turn the engine past nmax. Every moving second of an accepted trace has one.
+fn floor(v: &Vehicle, speed: u16) -> u8 {
+    (1..=v.ng as u8).find(|&gear| within_nmax(v, gear, speed)).expect("a second without a floor")
+}
+
+/// Gears lie in the trace's places, so that the passes speak of the paper's seconds.
+pub fn pass_a(v: &Vehicle, speeds: &[u16], holds: &[u8], trip: Trip, gears: &mut [u8]) {
+    for s in trip.first..=trip.last {
+        if s == trip.first || s == trip.last || holds[s] != 0 {
+            continue;
+        }
+        let (p, g, q) = (gears[s - 1] as i32, gears[s] as i32, gears[s + 1] as i32);
+        let (larger, smaller) = (p.max(q), p.min(q));
+        if larger == g - 1 && (smaller == g - 1 || smaller == g - 2) {
+            if floor(v, speeds[s]) as i32 <= g - 1 {
+                note(Event::PassA);
+                gears[s] = (g - 1) as u8;
+            } else {
+                note(Event::PassAFloor);
+            }
+        }
+    }
+}
+
+pub fn pass_b(v: &Vehicle, speeds: &[u16], holds: &[u8], trip: Trip, gears: &mut [u8]) {
+    for s in trip.first..=trip.last {
+        if s == trip.first || speeds[s - 1] >= speeds[s] || holds[s] != 0 {
+            continue;
+        }
+        let two_before_in_trip = s >= trip.first + 2;
+        let equal = two_before_in_trip && gears[s - 1] == gears[s - 2];
+        let ceiling = if equal { gears[s - 1] + 1 } else { gears[s - 1] };
+        if gears[s] > ceiling {
+            let least = floor(v, speeds[s]);
+            note(if least > ceiling { Event::PassBFloor } else { Event::PassB });
+            gears[s] = ceiling.max(least);
+        }
+    }
+}
+
+fn pass_c(speeds: &[u16], holds: &[u8], trip: Trip, gears: &mut [u8]) {
+    let in_tail = |s: usize| (s..=trip.last).all(|k| speeds[k] > speeds[k + 1]);
+    // The tail is short beside the trip: it is looked for from the end, then walked from the left.
+    let mut start = trip.last + 1;
+    while start > trip.first && speeds[start - 1] > speeds[start] {
+        start -= 1;
+    }
+    debug_assert!(start > trip.last || in_tail(start));
+    for s in start..=trip.last {
+        if s != trip.first && holds[s] == 0 && gears[s] == 1 {
+            note(Event::PassC);
+            gears[s] = 2;
+        }
+    }
+}
+
+/// The card bytes of one trip and of the standing second before it, written into `card`.
+fn work_trip(v: &Vehicle, speeds: &[u16], holds: &[u8], trip: Trip, card: &mut [u8]) {
+    let mut gears = vec![0u8; speeds.len()];
+    for s in trip.first..=trip.last {
+        gears[s] = first_choice(v, speeds, holds, s);
+    }
+    pass_a(v, speeds, holds, trip, &mut gears);
+    pass_b(v, speeds, holds, trip, &mut gears);
+    pass_c(speeds, holds, trip, &mut gears);
+    for s in trip.first..=trip.last {
+        let slow = engine(v, gears[s], speeds[s]) < 1000 * v.idle as i128;
+        let down = change(speeds, s) <= 0 && slow;
+        if down {
+            note(Event::ClutchMoving);
+        }
+        card[s] = gears[s] + if down { 16 } else { 0 };
+    }
+    card[trip.first - 1] = 16 + gears[trip.first];
+}
+
+// ---------------------------------------------------------------- checks
+
+fn lengths_good(speeds: usize, holds: usize, card: usize) -> Result<(), Refusal> {
+    if speeds == 0 || speeds > LONGEST {
+        return Err((1, 0));
+    }
+    if holds != speeds || card != speeds {
+        return Err((2, 0));
+    }
+    Ok(())
+}
+
+fn vehicle_good(v: &Vehicle) -> Result<(), Refusal> {
+    first_bad_field(v).map_or(Ok(()), |field| Err((3, field)))
+}
+
+/// Refusals 4 to 10 on the seconds from `from` to `to`, both included. For the whole working these are all seconds.
+fn seconds_good(v: &Vehicle, speeds: &[u16], holds: &[u8], from: usize, to: usize) -> Result<(), Refusal> {
+    refuse_first(4, from, to, |s| speeds[s] > 2000)?;
+    refuse_first(5, from + 1, to, |s| (speeds[s] as i32 - speeds[s - 1] as i32).abs() > 150)?;
+    // A trip that reaches past these seconds can only be one that reaches an end of the trace.
+    if moving(speeds[from]) {
+        return Err((6, from));
+    }
+    if moving(speeds[to]) {
+        return Err((6, to));
+    }
+    refuse_first(7, from, to, |s| holds[s] as u16 > v.ng)?;
+    refuse_first(8, from, to, |s| holds[s] != 0 && !moving(speeds[s]))?;
+    refuse_first(9, from, to, |s| holds[s] != 0 && !within_nmax(v, holds[s], speeds[s]))?;
+    refuse_first(10, from, to, |s| moving(speeds[s]) && holds[s] == 0 && fitting_gears(v, speeds, s).is_empty())
+}
+
+/// The lowest second wins.
+fn refuse_first(number: u32, from: usize, to: usize, bad: impl Fn(usize) -> bool) -> Result<(), Refusal> {
+    (from..=to).find(|&s| bad(s)).map_or(Ok(()), |s| Err((number, s)))
+}
+
+// ---------------------------------------------------------------- the whole working
+
+/// The card, or the refusal.
+pub fn work(v: &Vehicle, speeds: &[u16], holds: &[u8], card_length: usize) -> Result<Vec<u8>, Refusal> {
+    lengths_good(speeds.len(), holds.len(), card_length)?;
+    vehicle_good(v)?;
+    seconds_good(v, speeds, holds, 0, speeds.len() - 1)?;
+    let mut card = vec![0; speeds.len()];
+    for trip in trips(speeds) {
+        work_trip(v, speeds, holds, trip, &mut card);
+    }
+    Ok(card)
+}
+
+// ---------------------------------------------------------------- the quick way
+
+/// Holds and card afterwards, or the refusal, which leaves both as they were.
+pub fn hold(v: &Vehicle, speeds: &[u16], holds: &[u8], card: &[u8], second: usize, gear: u8) -> Result<(Vec<u8>, Vec<u8>), Refusal> {
+    lengths_good(speeds.len(), holds.len(), card.len())?;
+    vehicle_good(v)?;
+    if second >= speeds.len() {
+        return Err((11, second));
+    }
+    let mut holds = holds.to_vec();
+    let mut card = card.to_vec();
+    holds[second] = gear;
+    if !moving(speeds[second]) {
+        hold_standing(v, second, gear)?;
+        return Ok((holds, card));
+    }
+    let trip = trip_of(speeds, second);
+    let from = trip.first.saturating_sub(1);
+    let to = (trip.last + 1).min(speeds.len() - 1);
+    seconds_good(v, speeds, &holds, from, to)?;
+    work_trip(v, speeds, &holds, trip, &mut card);
+    Ok((holds, card))
+}
+
+/// Only the second itself is looked at.
+fn hold_standing(v: &Vehicle, second: usize, gear: u8) -> Result<(), Refusal> {
+    if gear == 0 {
+        note(Event::StandingCleared);
+        return Ok(());
+    }
+    Err((if gear as u16 > v.ng { 7 } else { 8 }, second))
+}
+
+// ---------------------------------------------------------------- the reader
+
+pub struct Job {
+    pub vehicle: Vehicle,
+    pub speeds: Vec<u16>,
+    pub holds: Vec<u8>,
+}
+
+struct Cursor<'a> {
+    bytes: &'a [u8],
+    at: usize,
+}
+
+impl Cursor<'_> {
+    /// One group: one to three bytes, least significant first.
+    fn group(&mut self) -> Result<u16, Refusal> {
+        let start = self.at;
+        let mut value: u32 = 0;
+        for k in 0..3 {
+            let Some(&byte) = self.bytes.get(start + k) else { return Err((12, self.bytes.len())) };
+            value += (byte as u32 % 128) * 128u32.pow(k as u32);
+            if byte < 128 {
+                let shortest = k == 0 || byte != 0;
+                self.at = start + k + 1;
+                return if shortest && value <= 65_535 { Ok(value as u16) } else { Err((13, start)) };
+            }
+        }
+        Err((13, start))
+    }
+}
+
+/// The first fault from left to right, or the job. The rooms are how many places are lent for speeds and for holds.
+pub fn read(bytes: &[u8], speeds_room: usize, holds_room: usize) -> Result<Job, Refusal> {
+    let mut c = Cursor { bytes, at: 0 };
+    if c.group()? != 1 {
+        return Err((14, 0));
+    }
+    let vehicle = read_vehicle(&mut c)?;
+    let count = c.group()? as usize;
+    if count == 0 || count > LONGEST {
+        return Err((1, 0));
+    }
+    if speeds_room < count || holds_room < count {
+        return Err((2, 0));
+    }
+    let speeds = (0..count).map(|_| c.group()).collect::<Result<Vec<u16>, Refusal>>()?;
+    let holds = read_holds(&mut c, count)?;
+    if c.at < bytes.len() {
+        return Err((16, c.at));
+    }
+    Ok(Job { vehicle, speeds, holds })
+}
+
+fn read_vehicle(c: &mut Cursor) -> Result<Vehicle, Refusal> {
+    let mut v = ZERO;
+    v.ng = c.group()?;
+    if !(2..=10).contains(&v.ng) {
+        return Err((3, 1));
+    }
+    for k in 0..v.ng as usize {
+        v.ratio[k] = c.group()?;
+    }
+    v.idle = c.group()?;
+    v.rated = c.group()?;
+    v.nmax = c.group()?;
+    v.f0 = c.group()?;
+    v.f1 = c.group()? as i32 - 5000;
+    v.f2 = c.group()?;
+    v.tm = c.group()?;
+    v.margin = c.group()?;
+    v.points = c.group()?;
+    if !(2..=64).contains(&v.points) {
+        return Err((3, 11));
+    }
+    for k in 0..v.points as usize {
+        v.n[k] = c.group()?;
+        v.p[k] = c.group()?;
+    }
+    Ok(v)
+}
+
+fn read_holds(c: &mut Cursor, count: usize) -> Result<Vec<u8>, Refusal> {
+    let mut holds = vec![0; count];
+    let mut before: Option<usize> = None;
+    for _ in 0..c.group()? {
+        let place = c.at;
+        let second = c.group()? as usize;
+        let rising = before.map_or(true, |earlier| second > earlier);
+        if !rising || second >= count {
+            return Err((15, place));
+        }
+        let gear = c.group()?;
+        if gear == 0 || gear > 255 {
+            return Err((15, place));
+        }
+        holds[second] = gear as u8;
+        before = Some(second);
+    }
+    Ok(holds)
+}
+
+// ---------------------------------------------------------------- the card program
+
+/// All that the card program prints for a job.
+pub fn printed(bytes: &[u8]) -> String {
+    let worked = read(bytes, LONGEST, LONGEST).and_then(|job| work(&job.vehicle, &job.speeds, &job.holds, job.speeds.len()).map(|card| (job, card)));
+    match worked {
+        Err((number, place)) => format!("refused {number} at {place}\n"),
+        Ok((job, card)) => card_text(&job.speeds, &card),
+    }
+}
+
+fn card_text(speeds: &[u16], card: &[u8]) -> String {
+    let mut text = String::from("second speed gear clutch\n");
+    for (s, (speed, byte)) in speeds.iter().zip(card).enumerate() {
+        let clutch = if *byte >= 16 { "down" } else { "up" };
+        text += &format!("{s} {}.{} {} {clutch}\n", speed / 10, speed % 10, byte % 16);
+    }
+    text
+}

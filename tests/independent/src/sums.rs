@@ -1,0 +1,65 @@
+//! The paper's sums, held against the reference before any case is run: a reference that misreads the paper is of no use.
+
+use crate::jobs;
+use crate::paper::{self, Trip};
+use crate::vehicle::car_z;
+
+pub fn check() {
+    one_second();
+    passes();
+    cards();
+    groups();
+    printed();
+}
+
+fn one_second() {
+    let z = car_z();
+    assert_eq!([1, 2, 3, 5].map(|gear| paper::minimum(&z, gear)), [800, 720, 1400, 1400]);
+    assert_eq!(paper::required(&z, 500, 0), 9_000_000_000_000);
+    assert_eq!(paper::required(&z, 500, 36), 78_525_000_000_000);
+    assert_eq!((paper::power(&z, 5, 500).q, paper::power(&z, 4, 500).q), (220_000_000, 290_000_000));
+    let choice = |speeds: &[u16]| paper::first_choice(&z, speeds, &vec![0; speeds.len()], 2);
+    assert_eq!(choice(&[0, 400, 500, 500]), 5);
+    assert_eq!(choice(&[0, 400, 499, 499]), 4);
+    assert_eq!(choice(&[0, 400, 500, 536]), 4);
+}
+
+fn passes() {
+    let z = car_z();
+    let trip = |length: usize| Trip { first: 1, last: length };
+    for (gears, after) in [([3, 4, 3], [3, 3, 3]), ([3, 4, 2], [3, 3, 2]), ([2, 4, 3], [2, 3, 3]), ([2, 4, 2], [2, 4, 2])] {
+        let mut row = [0, gears[0], gears[1], gears[2], 0];
+        paper::pass_a(&z, &[0, 100, 100, 100, 0], &[0; 5], trip(3), &mut row);
+        assert_eq!(row[1..4], after);
+    }
+    let mut row = [0, 1, 2, 3, 3, 3, 3, 3, 0];
+    paper::pass_b(&z, &[0, 20, 30, 40, 50, 60, 70, 80, 0], &[0; 9], trip(7), &mut row);
+    assert_eq!(row, [0, 1, 1, 2, 2, 3, 3, 3, 0]);
+}
+
+fn cards() {
+    let z = car_z();
+    let speeds = [0, 50, 150, 100, 0];
+    assert_eq!(paper::work(&z, &speeds, &[0; 5], 5), Ok(vec![17, 1, 2, 18, 0]));
+    assert_eq!(paper::work(&z, &speeds, &[0, 0, 3, 0, 0], 5), Ok(vec![17, 1, 19, 18, 0]));
+    assert_eq!(paper::hold(&z, &speeds, &[0; 5], &[17, 1, 2, 18, 0], 2, 3), Ok((vec![0, 0, 3, 0, 0], vec![17, 1, 19, 18, 0])));
+    assert_eq!(paper::work(&z, &[0], &[0], 1), Ok(vec![0]));
+    assert!(paper::work(&z, &[0, 150, 0], &[0; 3], 3).is_ok());
+    assert_eq!(paper::work(&z, &[0, 151, 0], &[0; 3], 3), Err((5, 1)));
+}
+
+fn groups() {
+    assert_eq!(jobs::group(12_000), [0xE0, 0x5D]);
+    assert_eq!(jobs::group(65_535), [0xFF, 0xFF, 3]);
+    let refusal = |bytes: &[u8]| paper::read(bytes, 9, 9).err();
+    assert_eq!(refusal(&[0x80, 0]), Some((13, 0)));
+    assert_eq!(refusal(&[0x80, 0x80, 4]), Some((13, 0)));
+    assert_eq!(refusal(&[0xFF, 0xFF, 3]), Some((14, 0)));
+    assert_eq!(refusal(&[]), Some((12, 0)));
+}
+
+fn printed() {
+    let job = jobs::groups(&car_z(), &[0, 50, 150, 100, 0], &[0; 5]).all.concat();
+    let text = "second speed gear clutch\n0 0.0 1 down\n1 5.0 1 up\n2 15.0 2 up\n3 10.0 2 down\n4 0.0 0 up\n";
+    assert_eq!(paper::printed(&job), text);
+}
