@@ -192,4 +192,4 @@ unfolding written
 begins {text} {out} {out′} {r} p =
     let n : r ≡ length text = omega (arith, p .after) in
     let w : out′ ≡ text ++ drop (length text) out = p .bytes ∙ rw zero-add at (sets-eq text out 0 (omega (arith, p .inside))) in
-    record { count = n; inside = p .inside; shown = rw (w, n) (take-append-seam text _); beyond = rw (w, n) (drop-append-seam text _) }
+    record { count = rw n; inside = rw (p .bytes, length-sets) (p .inside); shown = rw (w, n) (take-append-seam text _); beyond = rw (w, n) (drop-append-seam text _) }

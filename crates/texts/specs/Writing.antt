@@ -22,7 +22,7 @@ pub record Put (text out : List ℕ) (at r : ℕ) (out′ : List ℕ) : Type 0 w
 -- the memory begins with the text, r bytes long, and goes on as it was
 pub record Begins (text out : List ℕ) (r : ℕ) (out′ : List ℕ) : Type 0 where
   pub count : r ≡ length text
-  pub inside : r ≤ length out
+  pub inside : r ≤ length out′
   pub shown : take r out′ ≡ text
   pub beyond : drop r out′ ≡ drop r out
 

@@ -163,8 +163,7 @@ fn put_worked<'a>(
 
 // What the card program prints of a job, at the start of lent memory: its card or one refusal. No other byte is touched. A line has at most 20 bytes
 // and the heading 25, so that 40,985 are enough for the longest trace.
-pub fn answer(job: &[u8], out: &mut [u8]) -> usize
-    requires { ⌜ 40985 ≤ length (now out) ⌝ }
+pub fn answer(job: &[u8], out: &mut [u8; 40985]) -> usize
     ensures { λ r. ⌜ Begins (printed (now (job .entry))) (now (out .entry)) r (now (out .exit)) ⌝ }
 {
     let mut speeds = [0u16; 2048];

@@ -18,17 +18,14 @@ array-share-prefix-job c = search needs
 slice-aggregate-answer : tie.Need-slice-aggregate-answer
 slice-aggregate-answer c = search needs
 
-slice-aggregate-answer-2 : tie.Need-slice-aggregate-answer-2
-slice-aggregate-answer-2 c = search needs
-
 answer-requires : tie.Need-answer-requires
 answer-requires c κs = search needs
 
 array-share-prefix-out : tie.Need-array-share-prefix-out
-array-share-prefix-out c = search needs
+array-share-prefix-out c = c .answer .ensures .inside
 
 slice-aggregate-write-all : tie.Need-slice-aggregate-write-all
-slice-aggregate-write-all c = sym (length-take-le _ _ (search needs))
+slice-aggregate-write-all c = sym (length-take-le _ _ (c .before .answer .ensures .inside))
 
 write-all-requires : tie.Need-write-all-requires
 write-all-requires c κs = search needs
@@ -44,7 +41,6 @@ main-spec =
     read-full-requires
     array-share-prefix-job
     slice-aggregate-answer
-    slice-aggregate-answer-2
     answer-requires
     array-share-prefix-out
     slice-aggregate-write-all

@@ -45,7 +45,7 @@ put-worked-requires c κs =
     let q = p .read in
     let w = rooms (q .ensures) in
     let n : length (take (q .result .count) (q .last .1 .0)) ≡ q .result .count = length-take-le _ _ (w .speeds-fit) in
-    (rw n (w .few), (length-take-le _ _ (w .few) ∙ sym n, p .before .before .before .before .before .pre))
+    (rw n (w .few), (length-take-le _ _ (w .few) ∙ sym n, search needs))
 
 enum-known-judged : tie.Need-enum-known-judged
 enum-known-judged c = search needs
@@ -53,21 +53,15 @@ enum-known-judged c = search needs
 put-refusal-requires : tie.Need-put-refusal-requires
 put-refusal-requires c κs = search needs
 
-same-length : tie.Need-same-length
-same-length c = search needs
-
 returns : tie.Need-returns
 returns c =
-    let p = c .before .before .before .before .before .before .before .before .before in
-    begins (rw (printed-done (p .before .before .before .before .read .ensures) refl refl (p .enum-told .given .1)) at (c .before .before .before .put-worked .ensures))
-
-same-length-2 : tie.Need-same-length-2
-same-length-2 c = search needs
+    let p = c .before .before .before .before .before .before .before in
+    begins (rw (printed-done (p .before .before .before .before .read .ensures) refl refl (p .enum-told .given .1)) at (c .before .put-worked .ensures))
 
 returns-2 : tie.Need-returns-2
 returns-2 c =
-    let p = c .before .before .before .before .before in
-    begins (rw (printed-stop (p .before .before .before .before .read .ensures) refl refl (p .judged .given .1)) at (c .before .before .put-refusal .ensures))
+    let p = c .before .before .before in
+    begins (rw (printed-stop (p .before .before .before .before .read .ensures) refl refl (p .judged .given .1)) at (c .put-refusal .ensures))
 
 pub answer-spec : {M : Type 1} → statement M
 answer-spec =
@@ -86,7 +80,5 @@ answer-spec =
     put-worked-requires
     enum-known-judged
     put-refusal-requires
-    same-length
     returns
-    same-length-2
     returns-2)
