@@ -8,8 +8,8 @@
    - braking (E at most 0) asks for no power, so nothing is looked up; most power is kept along on the way down, so there is no second loop;
    - a job is parsed once, into buffers, copied when all of it has passed.
 
-   To see what each of these is worth, they can be left out one by one at compile time, which leaves the library's own plan in C: PLAIN_CHECK (each
-   second judged in full), PLAIN_CHOOSE (each gear from the top by products; a second loop for most power; no short way when braking), PLAIN_PASSES
+   To see what each of these is worth, they can be left out one by one at compile time, for the plain way in C: PLAIN_CHECK (each second
+   judged in full), PLAIN_CHOOSE (each gear from the top by products; a second loop for most power; no short way when braking), PLAIN_PASSES
    (first choices, A, B, C and bytes as five loops), PLAIN_READ (the job parsed twice). */
 #include "twin.h"
 #include <string.h>
