@@ -1,12 +1,26 @@
 /* What a driver's aid screen does: reads a job, works it, holds one second, and shows the seconds that changed.
-   usage: screen JOB SECOND GEAR */
+   usage: screen JOB SECOND GEAR
+   Exit status: 0 where the hold was taken, 1 where something was refused, 2 where the words are not these or the file cannot be opened. */
 #include "gearcard.h"
 
 #include <stdio.h>
-#include <stdlib.h>
 #include <string.h>
 
 static void show(size_t second, uint8_t byte) { printf("second %zu: gear %d, clutch %s\n", second, byte % 16, byte >= 16 ? "down" : "up"); }
+
+/* The number that a word of digits writes, where it is at most most (9 or more); answers whether it is. Nothing is cut to fit: a gear of 256 that
+   became 0 would clear the hold. */
+static int number(const char *word, size_t most, size_t *value) {
+  *value = 0;
+  if (*word == '\0') return 0;
+  for (; *word != '\0'; word++) {
+    if (*word < '0' || *word > '9') return 0;
+    size_t digit = (size_t)(*word - '0');
+    if (*value > (most - digit) / 10) return 0;
+    *value = *value * 10 + digit;
+  }
+  return 1;
+}
 
 /* Says a refusal, and whether there is one. */
 static int refused(const char *what, struct gearcard_verdict verdict) {
@@ -23,6 +37,15 @@ int main(int argc, char **argv) {
     fprintf(stderr, "usage: screen JOB SECOND GEAR\n");
     return 2;
   }
+  size_t second, gear;
+  if (!number(argv[2], SIZE_MAX, &second)) {
+    fprintf(stderr, "screen: %s is no second\n", argv[2]);
+    return 2;
+  }
+  if (!number(argv[3], UINT8_MAX, &gear)) {
+    fprintf(stderr, "screen: %s is no gear from 0 to 255\n", argv[3]);
+    return 2;
+  }
   FILE *file = fopen(argv[1], "rb");
   if (file == NULL) {
     perror(argv[1]);
@@ -36,9 +59,8 @@ int main(int argc, char **argv) {
   if (refused("trace", gearcard_work(read.vehicle, speeds, read.count, holds, read.count, card, read.count))) return 1;
 
   memcpy(before, card, read.count);
-  size_t second = strtoul(argv[2], NULL, 10);
-  uint8_t gear = (uint8_t)strtoul(argv[3], NULL, 10);
-  if (refused("hold", gearcard_hold(read.vehicle, speeds, read.count, holds, read.count, card, read.count, second, gear))) return 1;
+  struct gearcard_verdict held = gearcard_hold(read.vehicle, speeds, read.count, holds, read.count, card, read.count, second, (uint8_t)gear);
+  if (refused("hold", held)) return 1;
   for (size_t i = 0; i < read.count; i++)
     if (card[i] != before[i]) show(i, card[i]);
   return 0;

@@ -3,9 +3,10 @@
    A vehicle, a trace of speeds and its holds give a card: one byte a second, the gear, plus 16 where the clutch is down. Speeds are in tenths of
    km/h. A hold of 0 is no hold. docs/01-scope.md has the rules, the units and the bounds; README.md has the refusals for people.
 
-   Every function takes what it is given and answers: none asks anything of its caller but that each pointer points to as many initialised elements as
-   its length says (a length of 0 takes any aligned pointer that is not null), that nothing else writes them during the call, and that elements behind
-   a pointer without const overlap nothing else. The memory stays the caller's: nothing is kept after a call. A refusal changes no byte of it. */
+   Every function takes what it is given and answers: none asks anything of its caller but that each pointer is aligned for its type and not null, with
+   a length of 0 too, that it points to as many initialised elements as its length says (with a length of 0 to none: any such pointer will do), that
+   nothing else writes them during the call, and that elements behind a pointer without const overlap nothing else. The memory stays the caller's:
+   nothing is kept after a call. A refusal changes no byte of it. */
 #ifndef GEARCARD_H
 #define GEARCARD_H
 

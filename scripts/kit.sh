@@ -1,22 +1,106 @@
 # shellcheck shell=bash
-# For the scripts at the root, which source it and set top: proving only after a change, and the kit's tools for x86-64 programs.
+# For the scripts at the root, which source it and set top: one line where something fails, proving only after a change, and the kit's tools for x86-64
+# programs.
 # shellcheck disable=SC2154
 
-# proved FILE WORD..: rt's words, quietly, where FILE is missing or older than the crates. What rt prints is shown only where it fails.
+# fail TEXT: ends the command with status 2 and one line that says what failed.
+fail() {
+  printf '%s: %s\n' "${0##*/}" "$1" >&2
+  exit 2
+}
+
+# print TEXT: where standard output does not take it, a reader that has gone included, the command fails.
+print() {
+  trap '' PIPE
+  printf '%s\n' "$1" 2>/dev/null || fail 'standard output could not be written'
+}
+
+# offer_help WORD..: where the only word is --help, prints the comment at the head of the command and ends it.
+offer_help() {
+  if [ "$*" = --help ]; then
+    print "$(sed -n '2,/^[^#]/s/^# //p' "$0")"
+    exit 0
+  fi
+}
+
+unknown() { # WORD..
+  fail "it does not know what to do with '$*' (--help says what it takes)"
+}
+
+# progress CRATE LOG: how far rt is with CRATE and the crates below it, by what it has printed. A crate is being proved when all below it are.
+progress() {
+  awk -v crate="$1" -v seconds="$SECONDS" '
+    function visit(name,   below, n, k, waits) {
+      if (name in seen) return
+      seen[name]
+      all++
+      n = split(uses[name], below, " ")
+      for (k = 1; k <= n; k++) if (below[k] in uses) {
+        visit(below[k])
+        if (!(below[k] in proved)) waits = 1
+      }
+      if (name in proved) done++
+      else if (!waits) now = now (now == "" ? "proving " : ", ") name
+    }
+    /^#/ { next }
+    FILENAME == ARGV[1] { name = $1; sub(/:$/, "", name); $1 = ""; uses[name] = $0; next }
+    /^rt: [^ ]+ proved/ { proved[$2] }
+    END {
+      visit(crate)
+      printf "%s: %d of %d proved, ", now == "" ? "building " crate : now, done, all
+      if (seconds >= 60) printf "%d min ", seconds / 60
+      printf "%d s", seconds % 60
+    }' "$top/crates.txt" "$2"
+}
+
+# show_progress CRATE LOG: rewrites one line on the terminal each second, until standard input ends, and leaves nothing of it.
+show_progress() {
+  local columns line
+  trap '' INT
+  while :; do
+    columns=$(stty size <&2 2>/dev/null)
+    columns=${columns#* }
+    [ "${columns:-0}" -gt 0 ] || columns=80
+    line=$(progress "$@" 2>/dev/null)
+    printf '\r%s\033[K' "${line:0:columns-1}" >&2
+    read -rt 1 _
+    [ $? -gt 128 ] || break
+  done
+  printf '\r\033[K' >&2
+}
+
+# prove CRATE [WORD..]: rt check CRATE, then rt's words, which find it proved; rt check proves crates beside each other, its other words do not. What rt
+# prints is shown only where it fails. In a subshell, so that the trap is its own.
+prove() (
+  crate=$1
+  shift
+  log=$(mktemp) || exit 2
+  take_back() {
+    exec {line}>&-
+    wait
+  }
+  trap 'take_back; rm -f "$log"' EXIT
+  # An interrupt by itself would not wait until the line is gone.
+  trap 'take_back; rm -f "$log"; trap - EXIT INT; kill -s INT "$BASHPID"' INT
+  if [ -t 2 ]; then exec {line}> >(show_progress "$crate" "$log"); else exec {line}>/dev/null; fi
+  if ! (cd "$top" && rt check "$crate" && { [ $# -eq 0 ] || rt "$@"; }) </dev/null >"$log" 2>&1 {line}>&-; then
+    take_back
+    printf '%s: %s is not proved and built; rt says:\n' "${0##*/}" "$crate" >&2
+    cat "$log" >&2
+    exit 2
+  fi
+)
+
+# proved FILE CRATE [WORD..]: proves CRATE, and gives rt the words, where FILE is missing or older than the crates.
 proved() {
-  local file=$1 begun log
+  local file=$1 begun
   shift
   if [ -e "$file" ] && [ -z "$(find "$top/crates" "$top/crates.txt" -newer "$file" -print -quit)" ]; then return 0; fi
+  find_kit
   begun=$(date +%s.%N)
-  log=$(mktemp) || return 1
-  if ! (cd "$top" && rt "$@") </dev/null >"$log" 2>&1; then
-    cat "$log" >&2
-    rm -f "$log"
-    return 1
-  fi
-  rm -f "$log"
+  prove "$@" || exit 2
   # Dated from the start, so that what is edited while rt proves counts as a change.
-  touch -d "@$begun" "$file"
+  touch -cd "@$begun" "$file" || exit 2
 }
 
 # needs COMMAND PACKAGE..: from Debian's packages, where the command is missing.
@@ -30,14 +114,23 @@ needs() {
   fi
 }
 
-kit_tools() {
-  printf '%s/on/%s/toolchain\n' "$(dirname "$(dirname "$(rt doc)")")" "$(uname -m)"
+# find_kit: sets tools to the folder of the kit's tools for this machine. rt stands in the kit's bin/; only where it does not, as where a script
+# stands for it, is it asked, since that takes longer than all that ./gearcard does.
+tools=
+find_kit() {
+  local home
+  [ -z "$tools" ] || return 0
+  home=$(command -v rt) || fail 'the Rattle kit is missing: there is no command rt'
+  home=$(readlink -f "$home")
+  tools=${RATTLE_HOME:-${home%/bin/rt}}/on/$(uname -m)/toolchain
+  [ -d "$tools" ] || tools=$(dirname "$(dirname "$(rt doc)")")/on/$(uname -m)/toolchain
+  [ -d "$tools" ] || fail "the Rattle kit is missing: there is no folder $tools"
 }
 
 # kit_run PROGRAM WORD..: with the kit's C library; on another processor than x86-64 under the emulator that stands beside the kit's compiler.
 kit_run() {
-  local tools emulator
-  tools=$(kit_tools)
+  local emulator
+  find_kit
   emulator=$tools/bin/qemu-x86_64
   [ -x "$emulator" ] || emulator=
   exec ${emulator:+"$emulator"} "$tools/lib/ld-linux-x86-64.so.2" --library-path "$tools/lib" "$@"

@@ -20,15 +20,13 @@ use Rattle.rules.specs.declared.Answer.{Answer}
 use Rattle.rules.specs.Words.{at}
 use Rattle.rules.specs.Units.{moving, stop}
 use Rattle.rules.specs.Corrections.{gear-at, byte, card-at, card}
-use Rattle.rules.specs.Refusals.{Fault, said, room-fault, work-fault, left, work-card}
-use Rattle.rules.specs.Quick.{span-lo, second-fault, quick-fault, quick-holds, quick-card}
-use Rattle.rules.specs.Laws.Words.{at-table, length-table}
-use Rattle.rules.specs.Laws.Want.{PassesOthers, Wanting}
-use Rattle.rules.specs.Laws.Edits.{Out}
-use Rattle.rules.specs.Laws.Refusals.{said-once}
-use Rattle.rules.specs.Laws.Checks.{orelse-none, when-none, rooms-in}
-use Rattle.rules.specs.Laws.Quick.{accepted}
-use Rattle.rules.specs.Theorems.{want-of-a-gear, quick-as-whole, card-untouched, card-untouched-standing, holds-untouched, hold-shown}
+use Rattle.rules.specs.Refusals.{Fault, said, room-fault, work-fault, left, work-card, second-fault, edit-fault}
+use Rattle.rules.specs.Quick.{span-lo, quick-fault, quick-holds, quick-card}
+use Rattle.rules.specs.Vocabulary.{Wanting, PassesOthers, Out}
+use Rattle.rules.proofs.Laws.Words.{at-table, length-table}
+use Rattle.rules.proofs.Laws.Refusals.{said-once}
+use Rattle.rules.proofs.Laws.Checks.{orelse-none, when-none, rooms-in, accepted}
+use Rattle.rules.proofs.Theorems.{want-of-a-gear, quick-as-whole, card-untouched, card-untouched-standing, holds-untouched, hold-shown}
 use Rattle.cards.proofs.whole.work.Kinds as work-kinds
 use Rattle.cards.proofs.whole.work.Reads as work-reads
 use Rattle.cards.proofs.quick.hold.Kinds as hold-kinds
@@ -49,14 +47,14 @@ work-says κs a asked z ws p = record { answer = p .0; card-left = p .1 }
 -- ---- and that of `hold`
 
 -- an answer, and the holds and the card that are left
-pub record Held (car : Vehicle) (vs hs old : List ℕ) (s g : ℕ) (z : Answer) (ks new : List ℕ) : Type 0 where
+pub record HeldBy (car : Vehicle) (vs hs old : List ℕ) (s g : ℕ) (z : Answer) (ks new : List ℕ) : Type 0 where
   pub answer : said z ≡ quick-fault car vs hs old s g
   pub holds-left : ks ≡ quick-holds car vs hs old s g
   pub card-left : new ≡ quick-card car vs hs old s g
 
 pub hold-says : (κs : Lfts 3) (a : Dens κs hold-kinds.ps) → hold-reads.Asked κs a → (z : resT hold-kinds.r κs .Denot) (ws : Lasts (endedOf 3 hold-kinds.ps hold-kinds.r) κs a)
     → hold-reads.Learnt κs a z (atExit (endedOf 3 hold-kinds.ps hold-kinds.r) κs a ws)
-    → Held (a .0) (now (a .1 .0)) (now (a .1 .1 .0)) (now (a .1 .1 .1 .0)) (a .1 .1 .1 .1 .0) (a .1 .1 .1 .1 .1 .0) z (ws .1 .1 .0) (ws .1 .1 .1 .0)
+    → HeldBy (a .0) (now (a .1 .0)) (now (a .1 .1 .0)) (now (a .1 .1 .1 .0)) (a .1 .1 .1 .1 .0) (a .1 .1 .1 .1 .1 .0) z (ws .1 .1 .0) (ws .1 .1 .1 .0)
 hold-says κs a asked z ws p = record { answer = p .0; holds-left = p .1 .0; card-left = p .1 .1 }
 
 -- ---- Demand 1. Every input gets an answer (neither function asks anything of its caller), refused by number and place exactly where the
@@ -74,7 +72,7 @@ module _ {car : Vehicle} {vs hs old : List ℕ} {z : Answer} {new : List ℕ} (W
   unfolding work-card
   demand-1-untouched q e = W .card-left ∙ left-alone old (card car vs hs) (sym (W .answer) ∙ e)
 
-module _ {car : Vehicle} {vs hs old : List ℕ} {s g : ℕ} {z : Answer} {ks new : List ℕ} (H : Held car vs hs old s g z ks new) where
+module _ {car : Vehicle} {vs hs old : List ℕ} {s g : ℕ} {z : Answer} {ks new : List ℕ} (H : HeldBy car vs hs old s g z ks new) where
   pub demand-1-table-hold : said z ≡ quick-fault car vs hs old s g
   demand-1-table-hold = H .answer
 
@@ -107,7 +105,7 @@ unfolding quick-holds left
 accepted-holds car vs hs old s g e = rw e
 
 accepted-in : (car : Vehicle) (vs hs old : List ℕ) (s g : ℕ) → quick-fault car vs hs old s g ≡ none → s < length vs
-unfolding quick-fault second-fault
+unfolding quick-fault edit-fault second-fault
 accepted-in car vs hs old s g e =
     let a = orelse-none _ _ e in
     let b = orelse-none _ _ (a .1) in
@@ -129,7 +127,7 @@ pub record Right (car : Vehicle) (vs hs old : List ℕ) : Type 0 where
   pub accepted : work-fault car vs hs old ≡ none
   pub its-card : old ≡ card car vs hs
 
-module _ {car : Vehicle} {vs hs old : List ℕ} {s g : ℕ} {z : Answer} {ks new : List ℕ} (H : Held car vs hs old s g z ks new) where
+module _ {car : Vehicle} {vs hs old : List ℕ} {s g : ℕ} {z : Answer} {ks new : List ℕ} (H : HeldBy car vs hs old s g z ks new) where
   -- the very card, or the very refusal, that working the whole trace afresh would give
   pub demand-3-as-whole : Right car vs hs old → s < length vs → {y : Answer} {fresh : List ℕ} → Worked car vs (set hs s g) old y fresh → (z ≡ y) × (new ≡ fresh)
   demand-3-as-whole R l {y} W =
@@ -170,7 +168,7 @@ module _ {car : Vehicle} {vs hs old : List ℕ} {s g : ℕ} {z : Answer} {ks new
 -- a run of holds, one after the other
 pub data Run (car : Vehicle) (vs : List ℕ) : List ℕ → List ℕ → List ℕ → List ℕ → Type 0 where
   no-more : {hs old : List ℕ} → Run car vs hs old hs old
-  then : {hs old ks new ls last : List ℕ} {s g : ℕ} {z : Answer} → Held car vs hs old s g z ks new → Run car vs ks new ls last → Run car vs hs old ls last
+  then : {hs old ks new ls last : List ℕ} {s g : ℕ} {z : Answer} → HeldBy car vs hs old s g z ks new → Run car vs ks new ls last → Run car vs hs old ls last
 
 -- any sequence of quick edits from a right card ends in the right card of the final holds
 pub demand-3-run : {car : Vehicle} {vs hs old ks new : List ℕ} → Run car vs hs old ks new → Right car vs hs old → Right car vs ks new

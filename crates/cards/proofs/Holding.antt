@@ -18,40 +18,43 @@ use Rattle.rules.specs.declared.Answer.the-variants.{Done, Refused}
 use Rattle.rules.specs.Words.{at, patch}
 use Rattle.rules.specs.Units.{moving, start, stop}
 use Rattle.rules.specs.Corrections.{card-at}
-use Rattle.rules.specs.Refusals.{Fault, said, refuse-at, _orelse_, when, span-fault}
-use Rattle.rules.specs.Quick.{span-lo, span-hi, second-fault, standing-fault, hold-fault, quick-fault, reworked, quick-holds, quick-card}
-use Rattle.rules.specs.Laws.Words.{clash, by-order}
-use Rattle.rules.specs.Laws.Trips.{trip-of, stop-in}
+use Rattle.rules.specs.Refusals.{Fault, said, refuse-at, _orelse_, when, span-fault, second-fault, edit-fault}
+use Rattle.rules.specs.Quick.{span-lo, span-hi, standing-fault, own-fault, quick-fault, reworked, quick-holds, quick-card}
+use Rattle.rules.proofs.Laws.Words.{clash, by-order}
+use Rattle.rules.proofs.Laws.Trips.{trip-of, stop-in}
 use Rattle.gears.specs.declared.Numbers.{Numbers}
-use Rattle.gears.specs.Parts.{numbers-of}
-use Rattle.cards.specs.Rework.{Between}
-use Rattle.cards.specs.Checks.{Spanned}
-use Rattle.cards.proofs.Reworking.{between, ends-stand}
-use Rattle.cards.proofs.Working.{opening, Opened, after-opening, opening-first, said-none, left-old, left-new}
+use Rattle.gears.specs.Parts.{Counts, Has, Lent}
+use Rattle.cards.specs.Rework.{Between, Fitting}
+use Rattle.checks.specs.declared.Span.{Span}
+use Rattle.checks.specs.Checks.{Spanned}
+use Rattle.checks.proofs.Rows.{opening, Opened, after-opening, opening-first, said-none, left-old, left-new}
+use Rattle.cards.proofs.Reworking.{between, fitting, ends-stand}
+use Rattle.cards.proofs.Working.{spanned, its-parts}
 
 -- past the opening, at a second of the trace
-pub record Inside (car : Vehicle) (vs hs old : List ℕ) (s g : ℕ) : Type 0 where
+pub record InTrace (car : Vehicle) (vs hs old : List ℕ) (s g : ℕ) : Type 0 where
   pub opened : Opened car vs hs old
   pub inside : s < length vs
 
 -- at a standing second
 pub record Standing (car : Vehicle) (vs hs old : List ℕ) (s g : ℕ) : Type 0 where
-  pub place : Inside car vs hs old s g
-  pub under-ten : at vs s < 10
+  pub place : InTrace car vs hs old s g
+  pub stands : moving (at vs s) ≡ false
 
--- at a moving second, with its trip from a up to b and the span from lo up to hi
-pub record Moving (a b lo hi : ℕ) (car : Vehicle) (vs hs old : List ℕ) (s g : ℕ) : Type 0 where
-  pub place : Inside car vs hs old s g
-  pub ten-or-more : 10 ≤ at vs s
-  pub trip-from : a ≡ start vs s
-  pub trip-to : b ≡ stop vs s
-  pub span-from : lo ≡ a - 1
-  pub span-to : hi ≡ min (b + 1) (length vs)
+-- at a moving second, with its trip and the span around it
+pub record MovingSecond (trip span : Span) (car : Vehicle) (vs hs old : List ℕ) (s g : ℕ) : Type 0 where
+  pub place : InTrace car vs hs old s g
+  pub moves : moving (at vs s) ≡ true
+  pub trip-from : trip .lo ≡ start vs s
+  pub trip-to : trip .hi ≡ stop vs s
+  pub span-from : span .lo ≡ trip .lo - 1
+  pub span-to : span .hi ≡ min (trip .hi + 1) (length vs)
 
--- and what the checks of the span said
-pub record Checked (x : Answer) (a b lo hi : ℕ) (car : Vehicle) (vs hs old : List ℕ) (s g : ℕ) : Type 0 where
-  pub second : Moving a b lo hi car vs hs old s g
-  pub says : said x ≡ span-fault car vs (set hs s g) lo hi
+-- and what the checks of the span said, of every vehicle of these parts
+pub record Checked (x : Answer) (k : Numbers) (trip span : Span) (car : Vehicle) (vs hs old : List ℕ) (s g : ℕ) : Type 0 where
+  pub second : MovingSecond trip span car vs hs old s g
+  pub counts : Counts car k
+  pub says : (one : Vehicle) → Has one k (car .ratio) → said x ≡ span-fault one vs (set hs s g) (span .lo) (span .hi)
 
 module _ (car : Vehicle) (vs hs old : List ℕ) (s g : ℕ) where
   -- what it says, and leaves in the holds and in the card
@@ -68,18 +71,18 @@ module _ (car : Vehicle) (vs hs old : List ℕ) (s g : ℕ) where
   accepts e a b = (sym e, (a ∙ left-new hs (set hs s g) e, b ∙ left-new old (reworked car vs (set hs s g) old s) e))
 
   pub quick-opening : {x : Answer} {q : Refusal} → said x ≡ opening car vs hs old → x ≡ Refused q → Outcome (said x) hs old
-  unfolding quick-fault
-  quick-opening e h = refuses (opening-first car vs hs old (second-fault vs s orelse hold-fault car vs hs s g) e h) h
+  unfolding quick-fault edit-fault
+  quick-opening e h = refuses (opening-first car vs hs old (second-fault vs s orelse own-fault car vs hs s g) e h) h
 
   pub quick-outside : Opened car vs hs old → length vs ≤ s → Outcome (said (Refused (OutsideTrace s))) hs old
-  unfolding quick-fault second-fault when refuse-at _orelse_ said
-  quick-outside O h = refuses {x = Refused (OutsideTrace s)} (sym (after-opening (second-fault vs s orelse hold-fault car vs hs s g) O ∙ rw (le-ltb s (length vs) h))) refl
+  unfolding quick-fault edit-fault second-fault when refuse-at _orelse_ said
+  quick-outside O h = refuses {x = Refused (OutsideTrace s)} (sym (after-opening (second-fault vs s orelse own-fault car vs hs s g) O ∙ rw (le-ltb s (length vs) h))) refl
 
-module _ {car : Vehicle} {vs hs old : List ℕ} {s g : ℕ} (I : Inside car vs hs old s g) where
+module _ {car : Vehicle} {vs hs old : List ℕ} {s g : ℕ} (I : InTrace car vs hs old s g) where
   -- past the opening only the checks of the hold itself are left
-  quick-is : quick-fault car vs hs old s g ≡ hold-fault car vs hs s g
-  unfolding quick-fault second-fault when refuse-at _orelse_
-  quick-is = after-opening (second-fault vs s orelse hold-fault car vs hs s g) (I .opened) ∙ rw (lt-ltb s (length vs) (I .inside))
+  quick-is : quick-fault car vs hs old s g ≡ own-fault car vs hs s g
+  unfolding quick-fault edit-fault second-fault when refuse-at _orelse_
+  quick-is = after-opening (second-fault vs s orelse own-fault car vs hs s g) (I .opened) ∙ rw (lt-ltb s (length vs) (I .inside))
 
   pub in-holds : s < length hs
   in-holds = omega (arith, I .inside, I .opened .holds-long)
@@ -87,77 +90,89 @@ module _ {car : Vehicle} {vs hs old : List ℕ} {s g : ℕ} (I : Inside car vs h
 -- ---- a standing second
 
 module _ {car : Vehicle} {vs hs old : List ℕ} {s g : ℕ} (S : Standing car vs hs old s g) where
-  -- the test of the code is that of the rules
-  rests : moving (at vs s) ≡ false
-  unfolding moving
-  rests = lt-leb 10 (at vs s) (S .under-ten)
-
   -- and of those only the ones of a standing second
   standing-is : quick-fault car vs hs old s g ≡ standing-fault car s g
-  unfolding hold-fault
-  standing-is = quick-is (S .place) ∙ rw rests
+  unfolding own-fault
+  standing-is = quick-is (S .place) ∙ rw (S .stands)
 
   pub standing-refused : {x : Answer} {q : Refusal} → said x ≡ standing-fault car s g → x ≡ Refused q → Outcome car vs hs old s g (said x) hs old
   standing-refused e h = refuses car vs hs old s g (e ∙ sym standing-is) h
 
   pub standing-done : {x : Answer} → said x ≡ standing-fault car s g → x ≡ Done → Outcome car vs hs old s g (said Done) (set hs s g) old
   unfolding reworked
-  standing-done e h = accepts car vs hs old s g (standing-is ∙ said-none e h) refl (rw rests)
+  standing-done e h = accepts car vs hs old s g (standing-is ∙ said-none e h) refl (rw (S .stands))
 
 -- ---- a moving second
 
-module _ {a b lo hi : ℕ} {car : Vehicle} {vs hs old : List ℕ} {s g : ℕ} (M : Moving a b lo hi car vs hs old s g) where
-  -- the test of the code is that of the rules
-  moves : moving (at vs s) ≡ true
-  unfolding moving
-  moves = le-leb 10 (at vs s) (M .ten-or-more)
-
-  lo-is : lo ≡ span-lo vs s
+module _ {trip span : Span} {car : Vehicle} {vs hs old : List ℕ} {s g : ℕ} (M : MovingSecond trip span car vs hs old s g) where
+  lo-is : span .lo ≡ span-lo vs s
   unfolding span-lo
   lo-is = M .span-from ∙ ap (λ (x : ℕ). x - 1) (M .trip-from)
 
-  hi-is : hi ≡ span-hi vs s
+  hi-is : span .hi ≡ span-hi vs s
   unfolding span-hi
-  hi-is = M .span-to ∙ ap (λ (x : ℕ). min x (length vs)) (add-one b ∙ ap suc (M .trip-to))
+  hi-is = M .span-to ∙ ap (λ (x : ℕ). min x (length vs)) (add-one (trip .hi) ∙ ap suc (M .trip-to))
 
-  pub span-asked : {k : Numbers} → k ≡ numbers-of car → Spanned k vs hs lo hi
-  span-asked e =
-      let O = M .place .opened in
-      let t = trip-of vs s moves in
-      let c = stop-in vs s moves in
-      rw e (record { ng-to = O .bounds .ng-to; rated-from = omega (arith, O .bounds .rated-from); order = omega arith; inside = omega arith; rooms = O .holds-long })
+  pub span-asked : {k : Numbers} → Counts car k → Spanned k vs hs (span .lo) (span .hi)
+  span-asked K =
+      let t = trip-of vs s (M .moves) in
+      let c = stop-in vs s (M .moves) in
+      spanned K (M .place .opened) (omega (arith, M .span-from, M .span-to, M .trip-from, M .trip-to)) (omega (arith, M .span-to))
 
-module _ {x : Answer} {a b lo hi : ℕ} {car : Vehicle} {vs hs old : List ℕ} {s g : ℕ} (C : Checked x a b lo hi car vs hs old s g) where
+module _ {x : Answer} {k : Numbers} {trip span : Span} {car : Vehicle} {vs hs old : List ℕ} {s g : ℕ} (C : Checked x k trip span car vs hs old s g) where
   -- what the checks of the span said is what the quick way says
   quick-says : said x ≡ quick-fault car vs hs old s g
-  unfolding hold-fault
-  quick-says = let M = C .second in C .says ∙ sym (quick-is (M .place) ∙ rw (moves M, ← lo-is M, ← hi-is M))
+  unfolding own-fault
+  quick-says =
+      let M = C .second in
+      C .says car (record { counts = C .counts; ratios = refl }) ∙ sym (quick-is (M .place) ∙ rw (M .moves, ← lo-is M, ← hi-is M))
 
   pub span-refused : {q : Refusal} → x ≡ Refused q → Outcome car vs hs old s g (said x) hs old
   span-refused h = refuses car vs hs old s g quick-says h
 
+  -- the parts that are lent
+  pub span-parts : Lent car k (car .ratio) (car .n) (car .p)
+  span-parts = its-parts (C .counts) (C .second .place .opened)
+
   module _ (h : x ≡ Done) where
-    span-passed : span-fault car vs (set hs s g) lo hi ≡ none
-    span-passed = said-none (C .says) h
+    -- the checks passed, of every vehicle of these parts
+    module _ {one : Vehicle} {n p : List ℕ} (L : Lent one k (car .ratio) n p) where
+      span-passed : span-fault one vs (set hs s g) (span .lo) (span .hi) ≡ none
+      span-passed = said-none (C .says one (L .has)) h
 
-    -- a trip that passes reaches neither end of the trace
-    stands : (i : ℕ) → lo ≤ i → i < hi → moving (at vs i) ≡ true → (i ≡ 0) ⊎ (suc i ≡ length vs) → ⊥
-    stands i p q u o = clash u (ends-stand car vs (set hs s g) lo hi span-passed i p q o)
+      -- a trip that passes reaches neither end of the trace
+      no-end : (i : ℕ) → span .lo ≤ i → i < span .hi → moving (at vs i) ≡ true → (i ≡ 0) ⊎ (suc i ≡ length vs) → ⊥
+      no-end i a b u o = clash u (ends-stand one vs (set hs s g) (span .lo) (span .hi) span-passed i a b o)
 
-    pub span-between : Between car vs (set hs s g) old a b
-    span-between =
-        let M = C .second in
-        let O = M .place .opened in
-        let t = trip-of vs s (moves M) in
-        let c = stop-in vs s (moves M) in
-        let y = t .0 .some-second in
-        let before : 1 ≤ start vs s =
-        by-order 0 (start vs s) (λ w. w) (λ w. absurd (stands (start vs s) (omega arith) (omega arith) (t .0 .inside (start vs s) (omega arith) y) (inl (omega arith)))) in
-        let after : stop vs s < length vs =
-        by-order (stop vs s) (length vs) (λ w. w) (λ w. absurd (stands (stop vs s - 1) (omega arith) (omega arith) (t .0 .inside (stop vs s - 1) (omega arith) (omega arith)) (inr (omega arith)))) in
-        rw (M .trip-from, M .trip-to)
-        (between car vs (set hs s g) old lo hi (start vs s) (stop vs s) (O .bounds) (length-set hs s g ∙ O .holds-long) (O .card-long) (t .0) before after span-passed (omega arith) (omega arith))
+      -- where the trip and the span lie
+      span-lies : (span .lo < start vs s) × (stop vs s < span .hi) × (1 ≤ start vs s) × (stop vs s < length vs)
+      span-lies =
+          let M = C .second in
+          let t = trip-of vs s (M .moves) in
+          let c = stop-in vs s (M .moves) in
+          let y = t .0 .some-second in
+          let from : span .lo ≡ start vs s - 1 = omega (arith, M .span-from, M .trip-from) in
+          let to : span .hi ≡ min (stop vs s + 1) (length vs) = M .span-to ∙ rw (M .trip-to) in
+          let before : 1 ≤ start vs s =
+          by-order 0 (start vs s) (λ w. w) (λ w. absurd (no-end (start vs s) (omega arith) (omega arith) (t .0 .inside (start vs s) (omega arith) y) (inl (omega arith)))) in
+          let after : stop vs s < length vs =
+          by-order (stop vs s) (length vs) (λ w. w) (λ w. absurd (no-end (stop vs s - 1) (omega arith) (omega arith) (t .0 .inside (stop vs s - 1) (omega arith) (omega arith)) (inr (omega arith)))) in
+          (omega arith, omega arith, before, after)
 
-    pub span-done : {new : List ℕ} → new ≡ patch old (a - 1) b (card-at car vs (set hs s g)) → Outcome car vs hs old s g (said Done) (set hs s g) new
+      pub span-between : Between vs (set hs s g) old (trip .lo) (trip .hi)
+      span-between =
+          let M = C .second in
+          let O = M .place .opened in
+          let l = span-lies in
+          rw (M .trip-from, M .trip-to)
+          (between one vs (set hs s g) (span .lo) (span .hi) (start vs s) (stop vs s) span-passed (l .0) (l .1) old (length-set hs s g ∙ O .holds-long) (O .card-long) (trip-of vs s (M .moves) .0) (l .2) (l .3))
+
+      pub span-fitting : Fitting one vs (set hs s g) (trip .lo) (trip .hi)
+      span-fitting =
+          let M = C .second in
+          let l = span-lies in
+          rw (M .trip-from, M .trip-to) (fitting one vs (set hs s g) (span .lo) (span .hi) (start vs s) (stop vs s) span-passed (l .0) (l .1))
+
+    pub span-done : {new : List ℕ} → new ≡ patch old (trip .lo - 1) (trip .hi) (card-at car vs (set hs s g)) → Outcome car vs hs old s g (said Done) (set hs s g) new
     unfolding reworked span-lo
-    span-done c = let M = C .second in accepts car vs hs old s g (sym quick-says ∙ C .says ∙ span-passed) refl (c ∙ rw (moves M, M .trip-from, M .trip-to))
+    span-done c = let M = C .second in accepts car vs hs old s g (sym quick-says ∙ C .says car (span-parts .has) ∙ span-passed span-parts) refl (c ∙ rw (M .moves, M .trip-from, M .trip-to))

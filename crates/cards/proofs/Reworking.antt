@@ -15,18 +15,22 @@ use lib.ListN.{length, set, take, drop}
 use borrow.Author.Tests.{lt-ltb, ltb-false, eq-eqb, ne-eqb}
 use Rattle.rules.specs.declared.Vehicle.{Vehicle}
 use Rattle.rules.specs.Words.{if_then_else_, _and_, _or_, at, part, table, patch}
-use Rattle.rules.specs.Units.{moving, rise, start, stop}
+use Rattle.rules.specs.Units.{steepest, moving, rise, start, stop}
 use Rattle.rules.specs.Corrections.{gear-at, card-at, card}
 use Rattle.rules.specs.Refusals.{Check, speed, step, ends, over-ng, bad, span-fault}
-use Rattle.rules.specs.Laws.Words.{clash, by-test, by-order, both, or-left, or-right, at-part, length-part}
-use Rattle.rules.specs.Laws.Range.{natAbs-gap}
-use Rattle.rules.specs.Laws.Trips.{IsTrip, trip-of, stop-le, stop-to, stop-after, stop-in, stop-standing, standing-past}
-use Rattle.rules.specs.Laws.Vehicle.{InBounds}
-use Rattle.rules.specs.Laws.Checks.{passed}
-use Rattle.rules.specs.Laws.Cards.{Fit, fit-of, byte-gear}
-use Rattle.rules.specs.Laws.Span.{patch-in}
-use Rattle.rules.specs.Laws.Work.{trip-bytes, trip-is, length-patch, patch-none, patch-join, patch-join-back, patch-one, patch-all, patch-part}
-use Rattle.cards.specs.Rework.{Between, Passed, At}
+use Rattle.rules.specs.Vocabulary.{InBounds, IsTrip}
+use Rattle.rules.proofs.Laws.Words.{patch-in, clash, by-test, by-order, both, or-left, or-right, at-part, length-part}
+use Rattle.rules.proofs.Laws.Range.{natAbs-gap}
+use Rattle.rules.proofs.Laws.Trips.{trip-of, stop-le, stop-to, stop-after, stop-in, stop-standing, standing-past}
+use Rattle.rules.proofs.Laws.Checks.{passed}
+use Rattle.rules.proofs.Laws.Cards.{fit-of, byte-gear}
+use Rattle.gears.specs.declared.Numbers.{Numbers}
+use Rattle.gears.specs.Parts.{Counts}
+use Rattle.gears.proofs.Parts.{ng-of}
+use Rattle.trips.specs.Trip.{trip-bytes}
+use Rattle.trips.proofs.Bytes.{trip-is}
+use Rattle.cards.proofs.Patches.{length-patch, patch-none, patch-join, patch-join-back, patch-one, patch-part}
+use Rattle.cards.specs.Rework.{Between, Fitting, Range, Passes, At}
 use Rattle.trips.specs.Ready.{Ready}
 
 -- a standing second before a trip, and one before another standing second
@@ -39,30 +43,31 @@ unfolding card-at
 resting-card car vs hs i r m = rw (r, m)
 
 -- a step that passes is at most 150
-step-small : (car : Vehicle) (vs hs : List ℕ) (lo i : ℕ) → lo ≤ i → suc i < length vs → bad step car vs hs lo (suc i) ≡ false → natAbs (rise vs i) ≤ 150
+step-small : (car : Vehicle) (vs hs : List ℕ) (lo i : ℕ) → lo ≤ i → suc i < length vs → bad step car vs hs lo (suc i) ≡ false → natAbs (rise vs i) ≤ steepest
 unfolding bad rise _and_
 step-small car vs hs lo i a b e =
     let x : suc i - 1 ≡ i = omega arith in
     let f = rw (lt-ltb lo (suc i) (omega arith), x) at e in
-    rw (lt-ltb (suc i) (length vs) b) (natAbs-gap (at vs (suc i)) (at vs i) 150 (ltb-false _ _ (or-left _ _ f)) (ltb-false _ _ (or-right _ _ f)))
+    rw (lt-ltb (suc i) (length vs) b) (natAbs-gap (at vs (suc i)) (at vs i) steepest (ltb-false _ _ (or-left _ _ f)) (ltb-false _ _ (or-right _ _ f)))
 
 -- a trip between two standing seconds of a span that passes
-pub between : (car : Vehicle) (vs hs old : List ℕ) (lo hi a b : ℕ) → InBounds car → length hs ≡ length vs → length old ≡ length vs → IsTrip vs a b → 1 ≤ a → b < length vs
-    → span-fault car vs hs lo hi ≡ none → lo < a → b < hi → Between car vs hs old a b
-unfolding bad
-between car vs hs old lo hi a b C n r T before after e x y = record {
-  vehicle = C;
-  holds = n;
-  room = r;
-  trip = T;
-  before = before;
-  after = after;
-  speed-to = λ i p q. ltb-false _ _ (passed car vs hs lo hi e speed i (omega arith) (omega arith));
-  step-to = λ i p q. step-small car vs hs lo i (omega arith) (omega arith) (passed car vs hs lo hi e step (suc i) (omega arith) (omega arith));
-  fit = λ i p q. fit-of car vs hs lo hi e i (omega arith) (omega arith);
-}
+module _ (car : Vehicle) (vs hs : List ℕ) (lo hi a b : ℕ) (e : span-fault car vs hs lo hi ≡ none) (x : lo < a) (y : b < hi) where
+  pub between : (old : List ℕ) → length hs ≡ length vs → length old ≡ length vs → IsTrip vs a b → 1 ≤ a → b < length vs → Between vs hs old a b
+  unfolding bad
+  between old n r T before after = record {
+    holds = n;
+    room = r;
+    trip = T;
+    before = before;
+    after = after;
+    speed-to = λ i p q. ltb-false _ _ (passed car vs hs lo hi e speed i (omega arith) (omega arith));
+    step-to = λ i p q. step-small car vs hs lo i (omega arith) (omega arith) (passed car vs hs lo hi e step (suc i) (omega arith) (omega arith));
+  }
 
-module _ {car : Vehicle} {vs hs old : List ℕ} {a b : ℕ} (B : Between car vs hs old a b) where
+  pub fitting : Fitting car vs hs a b
+  fitting i p q = fit-of car vs hs lo hi e i (omega arith) (omega arith)
+
+module _ {vs hs old : List ℕ} {a b : ℕ} (B : Between vs hs old a b) where
   -- D of a second is the same seen from its trip
   rise-part : (j : ℕ) → a + j < b → rise (part vs a (suc b)) j ≡ rise vs (a + j)
   unfolding rise
@@ -80,9 +85,9 @@ module _ {car : Vehicle} {vs hs old : List ℕ} {a b : ℕ} (B : Between car vs 
       )
 
   -- what the work on the trip asks
-  pub ready : Ready car (part vs a (b + 1)) (part hs a b) (part old a b)
+  pub ready : {car : Vehicle} {k : Numbers} → Counts car k → Fitting car vs hs a b → Ready k (part vs a (b + 1)) (part hs a b) (part old a b)
   unfolding bad
-  ready =
+  ready K F =
       let x = B .trip .some-second in
       let l = B .after in
       let us : length (part vs a (suc b)) ≡ suc b - a = length-part vs a (suc b) l in
@@ -91,36 +96,36 @@ module _ {car : Vehicle} {vs hs old : List ℕ} {a b : ℕ} (B : Between car vs 
       rw add-one (record {
         lists = record { speeds = omega arith; gears = omega arith };
         pace = record {
-          vehicle = B .vehicle;
           speed = λ j h. rw (at-part vs a (suc b) j (omega arith)) (B .speed-to (a + j) (omega arith) (omega arith));
           step = λ j h. rw (rise-part j (omega arith)) (B .step-to (a + j) (omega arith) (omega arith));
         };
-        hold = λ j h. rw (at-part hs a b j (omega arith)) (ltb-false _ _ (B .fit (a + j) (omega arith) (omega arith) .hold-in-ng));
+        hold = λ j h. rw (at-part hs a b j (omega arith)) (rw (← ng-of K) (ltb-false _ _ (F (a + j) (omega arith) (omega arith) .hold-in-ng)));
         moves = λ j h. rw (at-part vs a (suc b) j (omega arith)) (B .trip .inside (a + j) (omega arith) (omega arith));
       })
 
-  -- the standing second before shows the gear of the trip's first second
-  shows-first : 16 + card-at car vs hs a % 16 ≡ card-at car vs hs (a - 1)
-  shows-first =
-      let x = B .trip .some-second in
-      let m : moving (at vs a) ≡ true = B .trip .inside a (omega arith) x in
-      let e : suc (a - 1) ≡ a = omega (arith, B .before) in
-      rw (byte-gear car vs hs (B .holds) a m (B .vehicle) (B .fit a (omega arith) x)) (sym (standing-card car vs hs (a - 1) (B .trip .before (a - 1) e) (rw e m) ∙ rw e))
+  module _ (car : Vehicle) (C : InBounds car) (F : Fitting car vs hs a b) where
+    -- the standing second before shows the gear of the trip's first second
+    shows-first : 16 + card-at car vs hs a % 16 ≡ card-at car vs hs (a - 1)
+    shows-first =
+        let x = B .trip .some-second in
+        let m : moving (at vs a) ≡ true = B .trip .inside a (omega arith) x in
+        let e : suc (a - 1) ≡ a = omega (arith, B .before) in
+        rw (byte-gear car vs hs (B .holds) a m C (F a (omega arith) x)) (sym (standing-card car vs hs (a - 1) (B .trip .before (a - 1) e) (rw e m) ∙ rw e))
 
-  -- the part put back, and the standing second before written
-  pub worked : (z : List ℕ) → z ≡ trip-bytes car (part vs a (b + 1)) (part hs a b)
-      → set (take a old ++ (z ++ drop b old)) (a - 1) (16 + at (take a old ++ (z ++ drop b old)) a % 16) ≡ patch old (a - 1) b (card-at car vs hs)
-  worked z q =
-      let f = card-at car vs hs in
-      let x = B .trip .some-second in
-      let l = B .after in
-      let r = B .room in
-      let o = B .before in
-      let e : suc (a - 1) ≡ a = omega arith in
-      let p : take a old ++ (z ++ drop b old) ≡ patch old a b f =
-      ap (λ (y : List ℕ). take a old ++ (y ++ drop b old)) (rw add-one at q ∙ trip-is car vs hs (B .trip) (B .holds) l) ∙ patch-part f old a b (omega arith) (omega arith) in
-      rw (p, patch-in old a b f a (omega arith) x (omega arith), shows-first)
-      (patch-one f (patch old a b f) (a - 1) ∙ rw e (patch-join-back f old (a - 1) a b (omega arith) (omega arith)))
+    -- the part put back, and the standing second before written
+    pub worked : (z : List ℕ) → z ≡ trip-bytes car (part vs a (b + 1)) (part hs a b)
+        → set (take a old ++ (z ++ drop b old)) (a - 1) (16 + at (take a old ++ (z ++ drop b old)) a % 16) ≡ patch old (a - 1) b (card-at car vs hs)
+    worked z q =
+        let f = card-at car vs hs in
+        let x = B .trip .some-second in
+        let l = B .after in
+        let r = B .room in
+        let o = B .before in
+        let e : suc (a - 1) ≡ a = omega arith in
+        let p : take a old ++ (z ++ drop b old) ≡ patch old a b f =
+        ap (λ (y : List ℕ). take a old ++ (y ++ drop b old)) (rw add-one at q ∙ trip-is car vs hs (B .trip) (B .holds) l) ∙ patch-part f old a b (omega arith) (omega arith) in
+        rw (p, patch-in old a b f a (omega arith) x (omega arith), shows-first)
+        (patch-one f (patch old a b f) (a - 1) ∙ rw e (patch-join-back f old (a - 1) a b (omega arith) (omega arith)))
 
 -- ---- a standing second with the trip that follows it
 
@@ -135,72 +140,98 @@ unfolding bad
 ends-stand car vs hs lo hi e i a b o =
     by-test (moving (at vs i)) (λ m. clash (both m (end-second i (length vs) o)) (passed car vs hs lo hi e ends i a b)) (λ m. m)
 
-module _ {car : Vehicle} {vs hs old : List ℕ} {i : ℕ} (A : At car vs hs old i) where
+-- a trip ends by the next standing second
+stops-by : (vs : List ℕ) (i hi : ℕ) → i < hi → moving (at vs hi) ≡ false → stop vs (suc i) ≤ hi
+stops-by vs i hi h r =
+    by-order hi (stop vs (suc i))
+    (λ l.
+    by-test (moving (at vs (suc i)))
+    (λ m. let t = trip-of vs (suc i) m in clash (t .0 .inside hi (omega arith) l) r)
+    (λ m. let e : stop vs (suc i) ≡ suc i = stop-standing vs (suc i) m in omega arith)) (λ l. l)
+
+module _ {vs hs old : List ℕ} {i : ℕ} (A : At vs hs old i) where
   -- no trip follows
-  pub rests : stop vs (i + 1) ≡ i + 1 → set old i 0 ≡ patch old i (stop vs (i + 1)) (card-at car vs hs)
-  rests e =
+  pub rests : (car : Vehicle) → stop vs (i + 1) ≡ i + 1 → set old i 0 ≡ patch old i (stop vs (i + 1)) (card-at car vs hs)
+  rests car e =
       let r : moving (at vs (suc i)) ≡ false =
       by-test (moving (at vs (suc i))) (λ m. let t = trip-of vs (suc i) m in absurd (omega (arith, rw add-one at e))) (λ m. m) in
       rw (e, add-one, ← resting-card car vs hs i (A .standing) r) (patch-one (card-at car vs hs) old i)
 
   -- one does
-  pub follows : (stop vs (i + 1) ≡ i + 1 → ⊥) → Between car vs hs old (i + 1) (stop vs (i + 1))
-  unfolding start
-  follows n =
-      let P = A .passed in
-      let m : moving (at vs (suc i)) ≡ true =
-      by-test (moving (at vs (suc i))) (λ m. m) (λ m. absurd (n (rw add-one (stop-standing vs (suc i) m)))) in
-      let t = trip-of vs (suc i) m in
-      let s : start vs (suc i) ≡ suc i = rw (A .standing) in
-      let T : IsTrip vs (suc i) (stop vs (suc i)) = rw s at (t .0) in
-      let b : stop vs (suc i) < length vs =
-      by-order (stop vs (suc i)) (length vs) (λ h. h) (λ h.
-      let c = stop-in vs (suc i) m in
-      let k : suc (length vs - 1) ≡ length vs = omega (arith, A .in-trace) in
-      clash (T .inside (length vs - 1) (omega arith) (omega arith)) (ends-stand car vs hs 0 (length vs) (P .checks) (length vs - 1) (omega arith) (omega arith) (inr k))) in
-      rw add-one (between car vs hs old 0 (length vs) (suc i) (stop vs (suc i)) (P .vehicle) (P .holds) (P .room) T (omega arith) b (P .checks) (omega arith) b)
+  module _ (n : stop vs (i + 1) ≡ i + 1 → ⊥) where
+    moves-on : moving (at vs (suc i)) ≡ true
+    moves-on = by-test (moving (at vs (suc i))) (λ m. m) (λ m. absurd (n (rw add-one (stop-standing vs (suc i) m))))
 
--- ---- every stretch, from left to right
+    its-trip : IsTrip vs (suc i) (stop vs (suc i))
+    unfolding start
+    its-trip = let s : start vs (suc i) ≡ suc i = rw (A .standing) in rw s at (trip-of vs (suc i) moves-on .0)
 
--- the card has been worked up to a standing second i, or the trace's end
-pub record Swept (car : Vehicle) (vs hs old new : List ℕ) (i : ℕ) : Type 0 where
-  pub within-trace : i ≤ length vs
+    in-range : stop vs (suc i) ≤ A .hi
+    in-range = stops-by vs i (A .hi) (A .until) (A .range .ends)
+
+    module _ (car : Vehicle) (P : Passes car vs hs (A .lo) (A .hi)) where
+      in-time : stop vs (suc i) < length vs
+      in-time =
+          by-order (stop vs (suc i)) (length vs) (λ h. h) (λ h.
+          let c = stop-in vs (suc i) moves-on in
+          let r = in-range in
+          let y = its-trip .some-second in
+          let k : suc (length vs - 1) ≡ length vs = omega (arith, A .in-trace) in
+          clash (its-trip .inside (length vs - 1) (omega arith) (omega arith))
+          (ends-stand car vs hs (A .lo) (min (suc (A .hi)) (length vs)) P (length vs - 1) (omega (arith, A .since)) (omega (arith, A .range .inside)) (inr k)))
+
+      pub follows : Between vs hs old (i + 1) (stop vs (i + 1))
+      follows =
+          let r = in-range in
+          let t = in-time in
+          rw add-one (between car vs hs (A .lo) (min (suc (A .hi)) (length vs)) (suc i) (stop vs (suc i)) P (omega (arith, A .since)) (omega arith) old (A .range .holds) (A .range .room) its-trip (omega arith) t)
+
+      pub follows-fit : Fitting car vs hs (i + 1) (stop vs (i + 1))
+      follows-fit =
+          let r = in-range in
+          let t = in-time in
+          rw add-one (fitting car vs hs (A .lo) (min (suc (A .hi)) (length vs)) (suc i) (stop vs (suc i)) P (omega (arith, A .since)) (omega arith))
+
+-- ---- every stretch of a range, from left to right
+
+-- the card has been worked from lo up to a standing second i, or the range's end
+pub record Swept (car : Vehicle) (vs hs old new : List ℕ) (lo hi i : ℕ) : Type 0 where
+  pub since : lo ≤ i
+  pub until : i ≤ hi
   pub standing : moving (at vs i) ≡ false
-  pub so-far : new ≡ patch old 0 i (card-at car vs hs)
+  pub so-far : new ≡ patch old lo i (card-at car vs hs)
   pub same-room : length new ≡ length old
 
-module _ {car : Vehicle} {vs hs old : List ℕ} (P : Passed car vs hs old) where
-  pub swept-none : Swept car vs hs old old 0
-  swept-none = record {
-    within-trace = omega arith;
-    standing = by-order 0 (length vs) (λ h. ends-stand car vs hs 0 (length vs) (P .checks) 0 (omega arith) h (inl refl)) (λ h. standing-past vs 0 h);
-    so-far = patch-none (card-at car vs hs) old 0;
-    same-room = refl;
-  }
+module _ {car : Vehicle} {vs hs old : List ℕ} {lo hi : ℕ} (P : Range vs hs old lo hi) where
+  pub swept-none : Swept car vs hs old old lo hi lo
+  swept-none = record { since = omega arith; until = P .order; standing = P .begins; so-far = patch-none (card-at car vs hs) old lo; same-room = refl }
 
-  module _ {new : List ℕ} {i : ℕ} (S : Swept car vs hs old new i) where
-    pub swept-at : i < length vs → At car vs hs new i
+  module _ {new : List ℕ} {i : ℕ} (S : Swept car vs hs old new lo hi i) where
+    unfoldable pub swept-at : i < hi → At vs hs new i
     swept-at h = record {
-      passed = record { vehicle = P .vehicle; holds = P .holds; room = S .same-room ∙ P .room; checks = P .checks };
-      in-trace = h;
+      lo = lo;
+      hi = hi;
+      range = record { holds = P .holds; room = S .same-room ∙ P .room; order = P .order; inside = P .inside; begins = P .begins; ends = P .ends };
+      since = S .since;
+      until = h;
       standing = S .standing;
+      in-trace = omega (arith, P .inside);
     }
 
-    pub swept-more : {j : ℕ} {next : List ℕ} → i < length vs → j ≡ stop vs (i + 1) → next ≡ patch new i (stop vs (i + 1)) (card-at car vs hs) → Swept car vs hs old next j
+    pub swept-more : {j : ℕ} {next : List ℕ} → i < hi → j ≡ stop vs (i + 1) → next ≡ patch new i (stop vs (i + 1)) (card-at car vs hs) → Swept car vs hs old next lo hi j
     swept-more {j} {next} h x y =
         let l = stop-le vs (i + 1) in
         rw x (record {
-          within-trace = stop-to vs (i + 1) (omega arith);
+          since = omega (arith, S .since);
+          until = rw add-one (stops-by vs i hi h (P .ends));
           standing = stop-after vs (i + 1);
-          so-far = y ∙ ap (λ (c : List ℕ). patch c i (stop vs (i + 1)) (card-at car vs hs)) (S .so-far) ∙ patch-join (card-at car vs hs) old 0 i (stop vs (i + 1)) (omega arith) (omega arith);
+          so-far = y ∙ ap (λ (c : List ℕ). patch c i (stop vs (i + 1)) (card-at car vs hs)) (S .so-far) ∙ patch-join (card-at car vs hs) old lo i (stop vs (i + 1)) (S .since) (omega arith);
           same-room = ap length y ∙ length-patch (card-at car vs hs) new i (stop vs (i + 1)) ∙ S .same-room;
         })
 
-    pub swept-less : i < length vs → length vs - stop vs (i + 1) < length vs - i
-    swept-less h = omega (arith, stop-le vs (i + 1))
+    pub swept-all : hi ≤ i → new ≡ patch old lo hi (card-at car vs hs)
+    swept-all h = let e : i ≡ hi = omega (arith, S .until) in rw e at (S .so-far)
 
-    pub swept-all : length vs ≤ i → new ≡ card car vs hs
-    unfolding card
-    swept-all h =
-        let e : i ≡ length old = omega (arith, S .within-trace, P .room) in
-        S .so-far ∙ rw (e, patch-all (card-at car vs hs) old, P .room)
+-- the next standing second is further on
+pub swept-less : (vs : List ℕ) (i hi : ℕ) → i < hi → hi - stop vs (i + 1) < hi - i
+swept-less vs i hi h = omega (arith, stop-le vs (i + 1))

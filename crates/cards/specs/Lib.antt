@@ -1,3 +1,1 @@
 pub mod Rework
-pub mod Checks
-pub mod Calm

@@ -3,15 +3,18 @@ ghost use mathlib.Core.Path.{_≡_};
 ghost use Prim.Native.Nat.{_+_, _-_, min};
 ghost use Rattle.rules.specs.Refusals.{said};
 ghost use Rattle.rules.specs.Quick.{standing-fault, quick-fault, quick-holds, quick-card};
-use crate::checks::check_span;
-use crate::opening::check_opening;
 use crate::rework::rework;
-use crate::trips_in::trip_start;
-use crate::trips_in::trip_stop;
+use checks::Hold;
+use checks::Span;
+use checks::check_opening;
+use checks::check_span;
+use checks::trip_start;
+use checks::trip_stop;
 use gears::numbers_of;
 use rules::Answer;
 use rules::Refusal;
 use rules::Vehicle;
+use rules::moving;
 
 // At a standing second: 0 is accepted; a gear is refused, by 7 if above ng, else by 8.
 fn check_standing(vehicle: Vehicle, second: usize, gear: u8) -> Answer
@@ -47,7 +50,7 @@ pub fn hold(
     if speeds.len() <= second {
         return Answer::Refused(Refusal::OutsideTrace(second));
     }
-    if speeds[second] < 10 {
+    if !moving(speeds[second]) {
         let standing = check_standing(vehicle, second, gear);
         let Answer::Done = standing else {
             return standing;
@@ -55,12 +58,20 @@ pub fn hold(
         holds[second] = gear;
         return Answer::Done;
     }
-    let a = trip_start(speeds, second);
-    let b = trip_stop(speeds, second);
-    let lo = span_from(a);
-    let hi = span_to(b, speeds.len());
+    let trip = Span {
+        lo: trip_start(speeds, second),
+        hi: trip_stop(speeds, second),
+    };
     let k = numbers_of(vehicle);
-    let span = check_span(k, &vehicle.ratio, speeds, holds, second, gear, lo, hi);
+    let asked = Hold { second, gear };
+    let span = check_span(
+        k,
+        &vehicle.ratio,
+        speeds,
+        holds,
+        asked,
+        around(trip, speeds.len()),
+    );
     let Answer::Done = span else {
         return span;
     };
@@ -73,21 +84,31 @@ pub fn hold(
         speeds,
         holds,
         card,
-        a,
-        b,
+        trip,
     );
     Answer::Done
 }
 
+// The seconds from the standing one before a trip to the standing one after, as far as the trace has them.
+fn around(trip: Span, seconds: usize) -> Span
+    ensures from { λ r. ⌜ r .lo ≡ trip .lo - 1 ⌝ }
+    ensures to { λ r. ⌜ r .hi ≡ min (trip .hi + 1) seconds ⌝ }
+{
+    Span {
+        lo: before(trip.lo),
+        hi: past(trip.hi, seconds),
+    }
+}
+
 // The second before, where there is one.
-fn span_from(a: usize) -> usize
+fn before(a: usize) -> usize
     ensures { λ r. ⌜ r ≡ a - 1 ⌝ }
 {
     if a == 0 { 0 } else { a - 1 }
 }
 
 // Past the second b, where there is one.
-fn span_to(b: usize, seconds: usize) -> usize
+fn past(b: usize, seconds: usize) -> usize
     ensures { λ r. ⌜ r ≡ min (b + 1) seconds ⌝ }
 {
     if b < seconds { b + 1 } else { seconds }

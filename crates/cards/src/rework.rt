@@ -1,16 +1,18 @@
 // The card, worked in place.
 ghost use mathlib.Core.Path.{_≡_};
 ghost use Prim.Native.Nat.{_+_, _-_};
+ghost use Rattle.rules.specs.declared.Vehicle.{Vehicle};
 ghost use Rattle.rules.specs.Words.{patch};
 ghost use Rattle.rules.specs.Units.{stop};
-ghost use Rattle.rules.specs.Corrections.{card-at, card as card-of};
-ghost use Rattle.gears.specs.Parts.{vehicle-of};
-ghost use Rattle.cards.specs.Rework.{Between, Passed, At};
-use crate::trips_in::trip_stop;
+ghost use Rattle.rules.specs.Corrections.{card-at};
+ghost use Rattle.gears.specs.Parts.{Lent, Parts};
+ghost use Rattle.cards.specs.Rework.{Between, Fitting, Range, Passes, At};
+use checks::Span;
+use checks::trip_stop;
 use gears::Numbers;
 use trips::work_trip;
 
-// The trip from a up to b, and the standing second before it, which shows the gear of the trip's first second.
+// The trip, and the standing second before it, which shows the gear of the trip's first second.
 pub fn rework<'a>(
     k: Numbers,
     ratio: &'a [u16; 10],
@@ -19,12 +21,13 @@ pub fn rework<'a>(
     speeds: &'a [u16],
     holds: &'a [u8],
     card: &mut [u8],
-    a: usize,
-    b: usize,
+    trip: Span,
 )
-    requires { ⌜ Between (vehicle-of k (now ratio) (now n) (now p)) (now speeds) (now holds) (now card) a b ⌝ }
-    ensures { λ r. ⌜ now (card .exit) ≡ patch (now (card .entry)) (a - 1) b (card-at (vehicle-of k (now (ratio .entry)) (now (n .entry)) (now (p .entry))) (now (speeds .entry)) (now (holds .entry))) ⌝ }
+    requires { ⌜ Parts k (now ratio) (now n) (now p) × Between (now speeds) (now holds) (now card) (trip .lo) (trip .hi) × ((car : Vehicle) → Lent car k (now ratio) (now n) (now p) → Fitting car (now speeds) (now holds) (trip .lo) (trip .hi)) ⌝ }
+    ensures { λ r. ⌜ ((car : Vehicle) → Lent car k (now (ratio .entry)) (now (n .entry)) (now (p .entry)) → now (card .exit) ≡ patch (now (card .entry)) (trip .lo - 1) (trip .hi) (card-at car (now (speeds .entry)) (now (holds .entry)))) ⌝ }
 {
+    let a = trip.lo;
+    let b = trip.hi;
     let after = b + 1;
     work_trip(
         k,
@@ -50,9 +53,9 @@ fn stretch<'a>(
     card: &mut [u8],
     i: usize,
 ) -> usize
-    requires { ⌜ At (vehicle-of k (now ratio) (now n) (now p)) (now speeds) (now holds) (now card) i ⌝ }
+    requires { ⌜ Parts k (now ratio) (now n) (now p) × ((here : At (now speeds) (now holds) (now card) i) × ((car : Vehicle) → Lent car k (now ratio) (now n) (now p) → Passes car (now speeds) (now holds) (here .lo) (here .hi))) ⌝ }
     ensures next { λ r. ⌜ r ≡ stop (now (speeds .entry)) (i + 1) ⌝ }
-    ensures worked { λ r. ⌜ now (card .exit) ≡ patch (now (card .entry)) i (stop (now (speeds .entry)) (i + 1)) (card-at (vehicle-of k (now (ratio .entry)) (now (n .entry)) (now (p .entry))) (now (speeds .entry)) (now (holds .entry))) ⌝ }
+    ensures worked { λ r. ⌜ ((car : Vehicle) → Lent car k (now (ratio .entry)) (now (n .entry)) (now (p .entry)) → now (card .exit) ≡ patch (now (card .entry)) i (stop (now (speeds .entry)) (i + 1)) (card-at car (now (speeds .entry)) (now (holds .entry)))) ⌝ }
 {
     let a = i + 1;
     let b = trip_stop(speeds, a);
@@ -60,11 +63,11 @@ fn stretch<'a>(
         card[i] = 0;
         return b;
     }
-    rework(k, ratio, n, p, speeds, holds, card, a, b);
+    rework(k, ratio, n, p, speeds, holds, card, Span { lo: a, hi: b });
     b
 }
 
-// Every stretch, from left to right.
+// Every stretch of a range, from left to right. The range begins with a standing second and ends before one, or with the trace.
 pub fn sweep<'a>(
     k: Numbers,
     ratio: &'a [u16; 10],
@@ -73,12 +76,13 @@ pub fn sweep<'a>(
     speeds: &'a [u16],
     holds: &'a [u8],
     card: &mut [u8],
+    range: Span,
 )
-    requires { ⌜ Passed (vehicle-of k (now ratio) (now n) (now p)) (now speeds) (now holds) (now card) ⌝ }
-    ensures { λ r. ⌜ now (card .exit) ≡ card-of (vehicle-of k (now (ratio .entry)) (now (n .entry)) (now (p .entry))) (now (speeds .entry)) (now (holds .entry)) ⌝ }
+    requires { ⌜ Parts k (now ratio) (now n) (now p) × Range (now speeds) (now holds) (now card) (range .lo) (range .hi) × ((car : Vehicle) → Lent car k (now ratio) (now n) (now p) → Passes car (now speeds) (now holds) (range .lo) (range .hi)) ⌝ }
+    ensures { λ r. ⌜ ((car : Vehicle) → Lent car k (now (ratio .entry)) (now (n .entry)) (now (p .entry)) → now (card .exit) ≡ patch (now (card .entry)) (range .lo) (range .hi) (card-at car (now (speeds .entry)) (now (holds .entry)))) ⌝ }
 {
-    let mut i = 0;
-    while i < speeds.len() {
+    let mut i = range.lo;
+    while i < range.hi {
         i = stretch(k, ratio, n, p, speeds, holds, card, i);
     }
 }

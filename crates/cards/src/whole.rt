@@ -1,9 +1,11 @@
 // The whole working.
 ghost use mathlib.Core.Path.{_≡_};
 ghost use Rattle.rules.specs.Refusals.{said, work-fault, work-card};
-use crate::checks::check_span;
-use crate::opening::check_opening;
 use crate::rework::sweep;
+use checks::Hold;
+use checks::Span;
+use checks::check_opening;
+use checks::check_span;
 use gears::numbers_of;
 use rules::Answer;
 use rules::Vehicle;
@@ -19,7 +21,13 @@ pub fn work<'a>(vehicle: Vehicle, speeds: &'a [u16], holds: &'a [u8], card: &mut
         return opening;
     };
     let k = numbers_of(vehicle);
-    let span = check_span(k, &vehicle.ratio, speeds, holds, seconds, 0, 0, seconds);
+    let all = Span { lo: 0, hi: seconds };
+    // no hold is asked for: a second past the trace leaves the holds as they are
+    let none = Hold {
+        second: seconds,
+        gear: 0,
+    };
+    let span = check_span(k, &vehicle.ratio, speeds, holds, none, all);
     let Answer::Done = span else {
         return span;
     };
@@ -31,6 +39,7 @@ pub fn work<'a>(vehicle: Vehicle, speeds: &'a [u16], holds: &'a [u8], card: &mut
         speeds,
         holds,
         card,
+        all,
     );
     Answer::Done
 }

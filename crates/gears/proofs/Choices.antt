@@ -15,19 +15,20 @@ use Rattle.rules.specs.declared.Vehicle.{Vehicle}
 use Rattle.rules.specs.Words.{if_then_else_, _and_, _or_, at, highest}
 use Rattle.rules.specs.Units.{low, ratio-of}
 use Rattle.rules.specs.Gears.{Place, minimum, engine, over-minimum, required, fits, power, enough, more, suits, beats, strongest, choose}
-use Rattle.rules.specs.Laws.Words.{clash, by-test, by-order, and-left, and-right, or-skip, highest-holds}
-use Rattle.rules.specs.Laws.Vehicle.{InBounds}
-use Rattle.rules.specs.Laws.Strongest.{fits-from, strongest-fits}
-use Rattle.rules.specs.Laws.Limits.{higher}
-use Rattle.rules.specs.Laws.Choice.{NoGear, choose-strongest, choose-highest, first-choice-plainly}
+use Rattle.rules.specs.Vocabulary.{InBounds, NoGear}
+use Rattle.rules.proofs.Laws.Words.{clash, by-test, by-order, and-left, and-right, or-skip, highest-holds}
+use Rattle.rules.proofs.Laws.Strongest.{fits-from, strongest-fits}
+use Rattle.rules.proofs.Laws.Limits.{higher}
+use Rattle.rules.proofs.Laws.Choice.{choose-strongest, choose-highest, first-choice-plainly}
 use Rattle.gears.specs.declared.Numbers.{Numbers}
 use Rattle.gears.specs.declared.Power as code
 use Rattle.gears.specs.declared.Best.{Best}
-use Rattle.gears.specs.Parts.{vehicle-of}
-use Rattle.gears.specs.Choosing.{power-of, Sized, enough-for, suits-for, Driven, Strongest, Bounded, only-first, may-fit}
+use Rattle.gears.specs.Parts.{Has, Lent}
+use Rattle.gears.specs.Choosing.{power-of, PowerSized, enough-for, suits-for, InGear, Strongest, only-first, next-down}
 use Rattle.gears.proofs.Powers.{turning-of, turning-enough, sized-of}
-use Rattle.gears.proofs.Speeds.{minimum-above, fits-not}
-use Rattle.gears.proofs.Down.{Down, start-under, start-below, stops, ends}
+use Rattle.gears.proofs.Speeds.{fits-not, fits-under}
+use Rattle.gears.proofs.Down.{Down, drops, again}
+use Rattle.gears.proofs.Parts.{low-is, margin-of, engine-of}
 
 -- the strongest of the gears up to g, by whether g beats the one of those below
 step : (car : Vehicle) (here : Place) (v g : ℕ) → 1 ≤ g
@@ -36,124 +37,104 @@ unfolding strongest
 step car here v zero h = absurd (not-suc-le-zero h)
 step car here v (suc k) h = let e : suc k - 1 ≡ k = omega arith in rw e
 
-module _ (car : Vehicle) (here : Place) (v g : ℕ) where
+module _ {car : Vehicle} {k : Numbers} {ratio n p : List ℕ} (L : Lent car k ratio n p) (here : Place) (v g : ℕ) where
   -- a gear that fits suits if its power is enough
   pub suits-power : {r : Bool} (e : ℤ) (a : code.Power) → fits car here v g ≡ true → power-of a ≡ power car v g
-      → r ≡ enough-for (car .margin) (power-of a) e → r ≡ suits-for car here v e g
+      → r ≡ enough-for (k .margin) (power-of a) e → r ≡ suits-for car here v e g
   unfolding suits-for _and_
-  suits-power e a f p h = h ∙ rw (f, p)
+  suits-power e a f q h = h ∙ rw (f, q, margin-of (L .has .counts))
 
   -- or if E is at most 0
-  pub suits-none : (d : Driven car g) (e : ℤ) → fits car here v g ≡ true → leZ e (pos 0) ≡ true → true ≡ suits-for car here v e g
+  pub suits-none : (d : InGear k g) (e : ℤ) → fits car here v g ≡ true → leZ e (pos 0) ≡ true → true ≡ suits-for car here v e g
   unfolding suits-for _and_
-  suits-none d e f h = rw (f, turning-enough car v g (turning-of car here v g d f) e h)
+  suits-none d e f h = rw (f, turning-enough L v g (turning-of (L .has) here v g d f) e h)
 
   -- one that does not fit does not suit
   pub unfit : (e : ℤ) → fits car here v g ≡ false → false ≡ suits-for car here v e g
   unfolding suits-for _and_
   unfit e f = rw f
 
-  module _ (d : Driven car g) (b : Best) (s : Strongest car here v (g - 1) b) where
+  module _ (d : InGear k g) (b : Best) (s : Strongest car here v (g - 1) b) where
     -- the same with the one of those below at hand
     strongest-step : strongest car here v g ≡ (if beats car here v g (b .gear) then g else b .gear)
     strongest-step = step car here v g (d .from) ∙ rw (s .is)
 
     -- the power of the strongest so far is within its bounds
-    pub best-sized : b .gear ≢ 0 → Sized (b .power)
-    best-sized n =
-        let r = strongest-fits car here v (g - 1) (λ z. n (s .is ∙ z)) in
+    pub best-sized : b .gear ≢ 0 → PowerSized (b .power)
+    best-sized o =
+        let r = strongest-fits car here v (g - 1) (λ z. o (s .is ∙ z)) in
         let t : fits car here v (b .gear) ≡ true = rw (s .is) (r .0) in
         let l : b .gear ≤ g - 1 = rw (s .is) (r .1) in
-        let o : 1 ≤ b .gear = fits-from car here v (b .gear) t in
-        sized-of car v (b .gear) (turning-of car here v (b .gear) (record { bounds = d .bounds; from = o; to = omega (arith, d .to) }) t) (b .power) (s .its-power n)
+        let from : 1 ≤ b .gear = fits-from car here v (b .gear) t in
+        sized-of L v (b .gear) (turning-of (L .has) here v (b .gear) (record { from = from; to = omega (arith, d .to) }) t) (b .power) (s .its-power o)
 
     -- a gear that does not fit leaves the strongest as it is
     pub stays-unfit : fits car here v g ≡ false → Strongest car here v g b
     unfolding beats _and_
     stays-unfit f = record { is = sym (strongest-step ∙ rw f); its-power = s .its-power }
 
-    module _ (a : code.Power) (f : fits car here v g ≡ true) (p : power-of a ≡ power car v g) where
+    module _ (a : code.Power) (f : fits car here v g ≡ true) (q : power-of a ≡ power car v g) where
       -- and so does one with less power
       pub stays : b .gear ≢ 0 → more (power-of (b .power)) (power-of a) ≡ true → Strongest car here v g b
       unfolding beats _and_ _or_
-      stays n m =
-          let m′ : more (power car v (b .gear)) (power car v g) ≡ true = rw (← s .its-power n, ← p) m in
-          record { is = sym (strongest-step ∙ rw (f, ne-eqb (b .gear) 0 n, m′)); its-power = s .its-power }
+      stays o m =
+          let m′ : more (power car v (b .gear)) (power car v g) ≡ true = rw (← s .its-power o, ← q) m in
+          record { is = sym (strongest-step ∙ rw (f, ne-eqb (b .gear) 0 o, m′)); its-power = s .its-power }
 
       -- the first gear that fits is the strongest
       pub becomes-first : b .gear ≡ 0 → Strongest car here v g (record { gear = g; power = a })
       unfolding beats _and_ _or_
-      becomes-first z = record { is = sym (strongest-step ∙ rw (f, eq-eqb (b .gear) 0 z)); its-power = λ n. p }
+      becomes-first z = record { is = sym (strongest-step ∙ rw (f, eq-eqb (b .gear) 0 z)); its-power = λ o. q }
 
       -- and so is a later one with no less power
       pub becomes : b .gear ≢ 0 → more (power-of (b .power)) (power-of a) ≡ false → Strongest car here v g (record { gear = g; power = a })
       unfolding beats _and_ _or_
-      becomes n m =
-          let m′ : more (power car v (b .gear)) (power car v g) ≡ false = rw (← s .its-power n, ← p) m in
-          record { is = sym (strongest-step ∙ rw (f, ne-eqb (b .gear) 0 n, m′)); its-power = λ o. p }
+      becomes o m =
+          let m′ : more (power car v (b .gear)) (power car v g) ≡ false = rw (← s .its-power o, ← q) m in
+          record { is = sym (strongest-step ∙ rw (f, ne-eqb (b .gear) 0 o, m′)); its-power = λ z. q }
 
 -- the loop over the gears from the lowest up: no gear yet, and one more
 pub none-yet : (car : Vehicle) (here : Place) (v : ℕ) (a : code.Power) → Strongest car here v 0 (record { gear = 0; power = a })
 unfolding strongest
 none-yet car here v a = record { is = refl; its-power = λ n. absurd (n refl) }
 
--- ---- the gears that may fit
+-- ---- the gears out of reach
 
--- the gears above second share one minimum
-same-minimum : (car : Vehicle) (g : ℕ) → 2 < g → minimum car 3 ≡ minimum car g
-same-minimum car g h =
-    minimum-above car 3 (omega arith) (λ z. omega arith) (λ z. omega arith)
-    ∙ sym (minimum-above car g (omega arith) (λ z. omega arith) (λ z. omega arith))
+-- where third gear's X is below the shared minimum, no gear from there on fits: ratios fall
+module _ {car : Vehicle} {k : Numbers} {ratio n p : List ℕ} (L : Lent car k ratio n p) (v : ℕ) {least : ℕ} (e : least ≡ 1000 * minimum car 3) (h : at ratio 2 * v < least) where
+  out-of-reach : (g : ℕ) → 2 < g → g ≤ car .ng → at ratio (g - 1) * v < least
+  out-of-reach g a b =
+      let d : 3 + (g - 3) ≡ g = omega arith in
+      let x : engine car g v ≤ engine car 3 v = rw d at (higher car (L .bounds) v 3 (g - 3) (omega (arith, low-is car)) (omega arith)) in
+      omega (arith, engine-of (L .has) g v, engine-of (L .has) 3 v)
 
--- a gear that fits may
-fits-may : (car : Vehicle) (here : Place) (v g : ℕ) → fits car here v g ≡ true → may-fit car v g ≡ true
-unfolding may-fit fits over-minimum low _or_
-fits-may car here v g t =
-    by-order 2 g
-    (λ h. rw (lt-leb g 2 h, same-minimum car g h) (or-skip _ _ (ne-eqb g 1 (λ z. omega arith)) (and-left _ _ (and-right _ _ t))))
-    (λ h. rw (le-leb g 2 h))
+  unsuited : (x : ℤ) (g : ℕ) → 2 < g → g ≤ car .ng → suits-for car (record { first-second = false }) v x g ≡ false
+  unsuited x g a b = sym (unfit L (record { first-second = false }) v g x (sym (fits-under (L .has) (record { first-second = false }) v g e a refl (out-of-reach g a b))))
 
--- the search for a gear that suits may begin at the highest of them
-pub start-reached : (car : Vehicle) (here : Place) (v : ℕ) (e : ℤ) {g : ℕ} → g ≡ highest (may-fit car v) (car .ng) → Down (suits-for car here v e) (car .ng) g
-unfolding suits-for
-start-reached car here v e h = rw h (start-below (suits-for car here v e) (may-fit car v) (λ g t. fits-may car here v g (and-left _ _ t)) (car .ng))
+  -- so the search may go on at second gear
+  pub skips : (x : ℤ) {g : ℕ} → g ≤ car .ng → 2 < g → Down (suits-for car (record { first-second = false }) v x) (car .ng) g → Down (suits-for car (record { first-second = false }) v x) (car .ng) 2
+  skips x b a inv = drops inv 2 (omega arith) (λ i c d. unsuited x i c (omega arith))
 
--- first or second gear, or one whose X is at least this
-abbrev pub attains : List ℕ → ℕ → ℕ → ℕ → Bool
-attains ratio v least g = leb g 2 or leb least (at ratio (g - 1) * v)
+-- the next gear down is below
+down-less : (t : Bool) (g : ℕ) → 1 ≤ g → next-down t g < g
+unfolding next-down _or_
+down-less true g h = omega arith
+down-less false g h = by-order 3 g (λ a. rw (lt-leb g 3 a) (omega arith)) (λ a. rw (le-leb g 3 a) (omega arith))
 
--- a gear above second whose X is below this
-pub attains-not : (ratio : List ℕ) (v least g : ℕ) → 2 < g → at ratio (g - 1) * v < least → attains ratio v least g ≡ false
-unfolding _or_
-attains-not ratio v least g h l = rw (lt-leb g 2 h, lt-leb _ _ l)
+pub down-of : (t : Bool) {g r : ℕ} → r ≡ next-down t g → 1 ≤ g → r < g
+down-of t {g} e h = rw e (down-less t g h)
 
--- where third gear's X is below this, so is that of every gear above: ratios fall
-pub third-below : (k : Numbers) (ratio : List ℕ) (v least : ℕ) → Bounded k ratio → at ratio 2 * v < least → Down (attains ratio v least) (k .ng) 2
-unfolding engine ratio-of low
-third-below k ratio v least b l =
-    start-under (attains ratio v least) (k .ng) 2 (b .bounds .ng-from)
-    (λ g h t. let e : 3 + (g - 3) ≡ g = omega arith in
-    let x : at ratio (g - 1) * v ≤ at ratio 2 * v = rw e at (higher (vehicle-of k ratio (b .n) (b .p)) (b .bounds) v 3 (g - 3) (omega arith) (omega arith)) in
-    attains-not ratio v least g h (lt-of-le-of-lt x l))
-
-module _ (k : Numbers) (ratio n p : List ℕ) (v : ℕ) {least : ℕ} (e : least ≡ 1000 * minimum (vehicle-of k ratio n p) 3) where
-  reached-is : {g : ℕ} → highest (attains ratio v least) (k .ng) ≡ g → g ≡ highest (may-fit (vehicle-of k ratio n p) v) (k .ng)
-  unfolding may-fit engine ratio-of
-  reached-is h = sym h ∙ ap (λ (m : ℕ). highest (attains ratio v m) (k .ng)) e
-
-  module _ (g : ℕ) (inv : Down (attains ratio v least) (k .ng) g) where
-    -- the highest gear that may fit is one above second
-    pub reached-here : 2 < g → least ≤ at ratio (g - 1) * v → g ≡ highest (may-fit (vehicle-of k ratio n p) v) (k .ng)
-    unfolding _or_
-    reached-here h l = reached-is (stops inv (omega arith) (rw (lt-leb g 2 h, le-leb _ _ l)))
-
-    -- or it is second gear, or one below where there are fewer
-    pub reached-low : g ≤ 2 → g ≡ highest (may-fit (vehicle-of k ratio n p) v) (k .ng)
-    unfolding _or_
-    reached-low h =
-        reached-is (by-order 0 g
-        (λ l. stops inv l (rw (le-leb g 2 h)))
-        (λ l. let z : g ≡ 0 = omega arith in ends inv z ∙ sym z))
+-- from a gear that does not suit the search goes on at the next one down
+module _ {car : Vehicle} {k : Numbers} {ratio n p : List ℕ} (L : Lent car k ratio n p) (v : ℕ) {least : ℕ} (e : least ≡ 1000 * minimum car 3) where
+  pub goes-down : (y : ℤ) {g r : ℕ} → r ≡ next-down (leb least (at ratio 2 * v)) g → 1 ≤ g → g ≤ car .ng → suits-for car (record { first-second = false }) v y g ≡ false
+      → Down (suits-for car (record { first-second = false }) v y) (car .ng) g → Down (suits-for car (record { first-second = false }) v y) (car .ng) r
+  unfolding next-down _or_
+  goes-down y {g} {r} d a b fails inv =
+      by-order (at ratio 2 * v) least
+      (λ l. by-order 3 g
+      (λ c. let z : r ≡ 2 = d ∙ rw (lt-leb least (at ratio 2 * v) l, lt-leb g 3 c) in rw z (skips L v e l y b (omega arith) inv))
+      (λ c. let z : r ≡ g - 1 = d ∙ rw (lt-leb least (at ratio 2 * v) l, le-leb g 3 c) in rw z (again inv a fails)))
+      (λ l. let z : r ≡ g - 1 = d ∙ rw (le-leb least (at ratio 2 * v) l) in rw z (again inv a fails))
 
 -- ---- the choice, where E is the required power
 
@@ -196,7 +177,7 @@ module _ (car : Vehicle) (b : InBounds car) (v : ℕ) where
   choice-first d =
       let plain = first-choice-plainly car begun v d b in
       by-test (fits car begun v 1)
-      (λ t. let n : choose car begun v d ≢ 0 = λ z. clash t (plain .none-fits z 1 (omega (arith, b .ng-from))) in
+      (λ t. let n : choose car begun v d ≢ 0 = λ z. clash t (plain .none-fits z 1 (omega (arith, b .low-ng, low-is car))) in
       rw t (sym (fits-first (choose car begun v d) (choice-fits car begun v d n))))
       (λ t. let no : NoGear car (fits car begun v) = λ g l. by-test (fits car begun v g) (λ u. clash (rw (fits-first g u) at u) t) (λ u. u) in
       rw t (sym (plain .choice-none no)))

@@ -2,8 +2,12 @@
 -- Assumes nothing.
 use mathlib.Core.Path.{refl, sym, _∙_}
 use mathlib.Core.List.{[]}
-use Rattle.rules.specs.Laws.Refusals.{said-once}
+use denote.Ref.{now}
+use Rattle.rules.proofs.Laws.Refusals.{said-once}
 use Rattle.once.specs.Determined.{Determined}
+use Rattle.gears.proofs.Parts.{built-has}
+use Rattle.gears.proofs.second.top.Kinds as top-kinds
+use Rattle.gears.proofs.second.top.Reads as top-reads
 use Rattle.gears.proofs.second.engine.Kinds as engine-kinds
 use Rattle.gears.proofs.second.engine.Reads as engine-reads
 use Rattle.gears.proofs.second.minimum.Kinds as minimum-kinds
@@ -37,26 +41,29 @@ use Rattle.gears.proofs.choice.choose.Reads as choose-reads
 use Rattle.gears.proofs.choice.first_choice.Kinds as first-choice-kinds
 use Rattle.gears.proofs.choice.first_choice.Reads as first-choice-reads
 
+pub top : Determined top-kinds.ps top-kinds.r top-reads.Asked top-reads.Learnt
+top κs a asked z z′ ws ws′ p q = (p ∙ sym q, refl)
+
 pub engine : Determined engine-kinds.ps engine-kinds.r engine-reads.Asked engine-reads.Learnt
 engine κs a asked z z′ ws ws′ p q = (p ∙ sym q, refl)
 
 pub minimum : Determined minimum-kinds.ps minimum-kinds.r minimum-reads.Asked minimum-reads.Learnt
-minimum κs a asked z z′ ws ws′ p q = (p .0 [] [] [] ∙ sym (q .0 [] [] []), refl)
+minimum κs a asked z z′ ws ws′ p q = let C = built-has (a .0) [] .counts in (p .0 _ C ∙ sym (q .0 _ C), refl)
 
 pub fits : Determined fits-kinds.ps fits-kinds.r fits-reads.Asked fits-reads.Learnt
-fits κs a asked z z′ ws ws′ p q = (p [] [] ∙ sym (q [] []), refl)
+fits κs a asked z z′ ws ws′ p q = let H = built-has (a .0) (now (a .1 .0)) in (p _ H ∙ sym (q _ H), refl)
 
 pub some-fits : Determined some-fits-kinds.ps some-fits-kinds.r some-fits-reads.Asked some-fits-reads.Learnt
-some-fits κs a asked z z′ ws ws′ p q = (p [] [] ∙ sym (q [] []), refl)
+some-fits κs a asked z z′ ws ws′ p q = let H = built-has (a .0) (now (a .1 .0)) in (p _ H ∙ sym (q _ H), refl)
 
 pub floor : Determined floor-kinds.ps floor-kinds.r floor-reads.Asked floor-reads.Learnt
-floor κs a asked z z′ ws ws′ p q = (p [] [] ∙ sym (q [] []), refl)
+floor κs a asked z z′ ws ws′ p q = let H = built-has (a .0) (now (a .1 .0)) in (p _ H ∙ sym (q _ H), refl)
 
 pub step-of : Determined step-of-kinds.ps step-of-kinds.r step-of-reads.Asked step-of-reads.Learnt
 step-of κs a asked z z′ ws ws′ p q = (p ∙ sym q, refl)
 
 pub required : Determined required-kinds.ps required-kinds.r required-reads.Asked required-reads.Learnt
-required κs a asked z z′ ws ws′ p q = (p [] [] [] ∙ sym (q [] [] []), refl)
+required κs a asked z z′ ws ws′ p q = let C = built-has (a .0) [] .counts in (p _ C ∙ sym (q _ C), refl)
 
 pub check-vehicle : Determined check-vehicle-kinds.ps check-vehicle-kinds.r check-vehicle-reads.Asked check-vehicle-reads.Learnt
 check-vehicle κs a asked z z′ ws ws′ p q = (said-once z z′ (p ∙ sym q), refl)
@@ -69,7 +76,8 @@ segment κs a asked z z′ ws ws′ p q = (p ∙ sym q, refl)
 
 -- a power is known by its Q and w
 pub power-at : Determined power-at-kinds.ps power-at-kinds.r power-at-reads.Asked power-at-reads.Learnt
-power-at κs a asked z z′ ws ws′ p q = (λ i. record { q = (p ∙ sym q) i .Q; w = (p ∙ sym q) i .w }, refl)
+power-at κs a asked z z′ ws ws′ p q =
+    let car = asked .0 .car in let L = asked .0 .lent in let e = p car L ∙ sym (q car L) in (λ i. record { q = e i .Q; w = e i .w }, refl)
 
 pub enough : Determined enough-kinds.ps enough-kinds.r enough-reads.Asked enough-reads.Learnt
 enough κs a asked z z′ ws ws′ p q = (p ∙ sym q, refl)
@@ -78,10 +86,10 @@ pub more : Determined more-kinds.ps more-kinds.r more-reads.Asked more-reads.Lea
 more κs a asked z z′ ws ws′ p q = (p ∙ sym q, refl)
 
 pub strongest : Determined strongest-kinds.ps strongest-kinds.r strongest-reads.Asked strongest-reads.Learnt
-strongest κs a asked z z′ ws ws′ p q = (p ∙ sym q, refl)
+strongest κs a asked z z′ ws ws′ p q = let car = asked .car in let L = asked .lent in (p car L ∙ sym (q car L), refl)
 
 pub choose : Determined choose-kinds.ps choose-kinds.r choose-reads.Asked choose-reads.Learnt
-choose κs a asked z z′ ws ws′ p q = (p ∙ sym q, refl)
+choose κs a asked z z′ ws ws′ p q = let car = asked .0 .car in let L = asked .0 .lent in (p car L ∙ sym (q car L), refl)
 
 pub first-choice : Determined first-choice-kinds.ps first-choice-kinds.r first-choice-reads.Asked first-choice-reads.Learnt
-first-choice κs a asked z z′ ws ws′ p q = (p ∙ sym q, refl)
+first-choice κs a asked z z′ ws ws′ p q = let car = asked .0 .car in let L = asked .0 .lent in (p car L ∙ sym (q car L), refl)

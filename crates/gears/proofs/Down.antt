@@ -6,7 +6,7 @@ use native.Mathlib.Omega.{arith}
 use mathlib.Core.Path.{_≡_, refl, _∙_}
 use mathlib.Core.Bool.{Bool, true, false}
 use Rattle.rules.specs.Words.{highest}
-use Rattle.rules.specs.Laws.Words.{clash, by-test, by-eq}
+use Rattle.rules.proofs.Laws.Words.{clash, by-test, by-eq}
 
 -- the places above g have been passed, and none of them holds
 pub record Down (p : ℕ → Bool) (top g : ℕ) : Type 0 where
@@ -16,27 +16,6 @@ pub record Down (p : ℕ → Bool) (top g : ℕ) : Type 0 where
 -- all places, to begin with
 pub start : {p : ℕ → Bool} {top : ℕ} → Down p top top
 start = record { under = le-refl _; same = refl }
-
--- those up to a place above which none passes
-pub start-under : (p : ℕ → Bool) (top g : ℕ) → g ≤ top → ((i : ℕ) → g < i → i ≤ top → p i ≡ false) → Down p top g
-unfolding highest
-start-under p zero g l h = let z : g ≡ 0 = omega arith in rw z start
-start-under p (suc k) g l h =
-    by-eq l
-    (λ z. rw z start)
-    (λ m. let inv = start-under p k g (omega arith) (λ i a b. h i a (omega arith)) in
-    record { under = l; same = rw (h (suc k) m (le-refl _)) (inv .same) })
-
--- those up to the highest that passes another test, if each place that passes this one passes that too
-pub start-below : (p q : ℕ → Bool) → ((g : ℕ) → p g ≡ true → q g ≡ true) → (top : ℕ) → Down p top (highest q top)
-unfolding highest
-start-below p q h zero = start
-start-below p q h (suc k) =
-    by-test (q (suc k))
-    (λ t. rw t start)
-    (λ t. let inv = start-below p q h k in
-    let no : p (suc k) ≡ false = by-test (p (suc k)) (λ u. clash (h (suc k) u) t) (λ u. u) in
-    rw t (record { under = omega (arith, inv .under); same = rw no (inv .same) }))
 
 -- a place that passes is the highest up to it
 highest-stops : (p : ℕ → Bool) (g : ℕ) → 0 < g → p g ≡ true → highest p g ≡ g
@@ -50,6 +29,15 @@ unfolding highest
 highest-again p zero h t = absurd (not-suc-le-zero h)
 highest-again p (suc g) h t = let e : suc g - 1 ≡ g = omega arith in rw (e, t)
 
+-- nor do those down to h
+highest-drops : (p : ℕ → Bool) (g h : ℕ) → h ≤ g → ((i : ℕ) → h < i → i ≤ g → p i ≡ false) → highest p g ≡ highest p h
+unfolding highest
+highest-drops p zero h a n = let z : h ≡ 0 = omega arith in rw z
+highest-drops p (suc g) h a n =
+    by-eq a
+    (λ e. rw e)
+    (λ l. rw (n (suc g) l (le-refl _)) (highest-drops p g h (omega arith) (λ i x y. n i x (omega arith))))
+
 module _ {p : ℕ → Bool} {top g : ℕ} (inv : Down p top g) where
   -- the place passes: it is the one asked for
   pub stops : 0 < g → p g ≡ true → highest p top ≡ g
@@ -58,6 +46,10 @@ module _ {p : ℕ → Bool} {top g : ℕ} (inv : Down p top g) where
   -- it does not: the next one down
   pub again : 0 < g → p g ≡ false → Down p top (g - 1)
   again h t = record { under = omega (arith, inv .under); same = inv .same ∙ highest-again p g h t }
+
+  -- none of the places down to another holds
+  pub drops : (h : ℕ) → h ≤ g → ((i : ℕ) → h < i → i ≤ g → p i ≡ false) → Down p top h
+  drops h a n = record { under = omega (arith, inv .under); same = inv .same ∙ highest-drops p g h a n }
 
   -- no place is left
   pub ends : g ≡ 0 → highest p top ≡ 0

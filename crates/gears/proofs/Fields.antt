@@ -21,7 +21,7 @@ use Rattle.rules.specs.declared.Answer.the-variants.{Done, Refused}
 use Rattle.rules.specs.Words.{if_then_else_, _and_, within}
 use Rattle.rules.specs.Units.{bounds, first-failed, bad-field}
 use Rattle.rules.specs.Refusals.{said, refuse-at, vehicle-fault}
-use Rattle.rules.specs.Laws.Words.{by-test}
+use Rattle.rules.proofs.Laws.Words.{by-test}
 
 -- ---- the chain
 

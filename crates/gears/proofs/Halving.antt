@@ -11,7 +11,7 @@ use borrow.Author.Tests.{le-leb}
 use Rattle.rules.specs.declared.Vehicle.{Vehicle}
 use Rattle.rules.specs.Words.{at}
 use Rattle.rules.specs.Gears.{reaches}
-use Rattle.rules.specs.Laws.Power.{segment-unique}
+use Rattle.rules.proofs.Laws.Power.{segment-unique}
 use Rattle.gears.specs.Choosing.{segment-in, segment-parts, Curve}
 
 -- lo is 0 or its lower end is below x, and hi reaches x

@@ -1,7 +1,7 @@
 -- What belongs to no one function: laws of the definitions as the code meets them, and that each contract allows one outcome.
+pub mod Parts
 pub mod Speeds
 pub mod Fields
-pub mod Requires
 pub mod Determined
 pub mod Halving
 pub mod Powers

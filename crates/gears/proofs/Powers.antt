@@ -5,19 +5,23 @@ use native.Mathlib.Nat.{le-trans, mul-assoc, mul-left-comm, mul-le-mul-left, max
 use native.Mathlib.Omega.{arith}
 use mathlib.Core.Path.{_≡_, sym, ap, _∙_, subst}
 use mathlib.Core.Bool.{true}
+use mathlib.Core.List.{List}
 use lib.IntN.{ℤ, pos, negℤ, natAbs, _+ℤ_, _-ℤ_, _*ℤ_, +ℤ-assoc}
 use lib.Signed.{leZ}
 use borrow.Author.Tests.{leb-true, le-leb}
 use Rattle.rules.specs.declared.Vehicle.{Vehicle}
 use Rattle.rules.specs.Words.{at}
-use Rattle.rules.specs.Units.{ratio-of}
 use Rattle.rules.specs.Gears.{Place, Power, engine, under-nmax, fits, between, on-segment, segment, power-speed, power}
-use Rattle.rules.specs.Laws.Words.{and-right}
-use Rattle.rules.specs.Laws.Integers.{+ℤ-*ℤ, neg-*ℤ, pos-sub, leZ-trans, leZ-scale}
-use Rattle.rules.specs.Laws.Power.{OnSegment, segment-holds}
-use Rattle.rules.specs.Laws.Sizes.{Q-size, w-size}
-use Rattle.gears.specs.Choosing.{segment-in, segment-parts, Curve, Segment, power-of, Turning, Sized, enough-for, Driven}
+use Rattle.rules.specs.Vocabulary.{OnSegment}
+use Rattle.rules.proofs.Laws.Words.{and-right}
+use Rattle.rules.proofs.Laws.Integers.{+ℤ-*ℤ, neg-*ℤ, pos-sub, leZ-trans, leZ-scale}
+use Rattle.rules.proofs.Laws.Power.{segment-holds}
+use Rattle.rules.proofs.Laws.Sizes.{Q-size, w-size}
+use Rattle.gears.specs.Choosing.{segment-in, segment-parts, Curve, Segment, power-of, Turning, PowerSized, enough-for, InGear}
+use Rattle.gears.specs.Parts.{Has, Lent}
+use Rattle.gears.specs.declared.Numbers.{Numbers}
 use Rattle.gears.specs.declared.Power as code
+use Rattle.gears.proofs.Parts.{idle-of, nmax-of, points-of, engine-of}
 
 -- ---- no power is too little while coasting or braking
 
@@ -35,52 +39,55 @@ Q-pos p1 p2 w t h =
 enough-none : (e : ℤ) → leZ e (pos 0) ≡ true → (w m q : ℕ) → 0 < w → leZ (e *ℤ pos w) (pos m *ℤ pos q *ℤ pos 3240000) ≡ true
 enough-none e h w m q l = leZ-trans (e *ℤ pos w) (pos 0 *ℤ pos w) (pos (m * q * 3240000)) (leZ-scale e (pos 0) w l ∙ h) (le-leb (0 * w) (m * q * 3240000) (omega arith))
 
-module _ (car : Vehicle) (v g : ℕ) where
+module _ {car : Vehicle} {k : Numbers} {ratio n p : List ℕ} (L : Lent car k ratio n p) (v g : ℕ) where
   -- the engine speed at which power is read
-  pub speed-is : {x y : ℕ} → x ≡ max y (1000 * car .idle) → y ≡ at (car .ratio) (g - 1) * v → x ≡ power-speed car v g
-  unfolding power-speed engine ratio-of
-  speed-is e f = e ∙ ap (λ y. max y (1000 * car .idle)) f
+  pub speed-is : {x y : ℕ} → x ≡ max y (1000 * k .idle) → y ≡ at ratio (g - 1) * v → x ≡ power-speed car v g
+  unfolding power-speed
+  speed-is e f = e ∙ rw (f, engine-of (L .has) g v, idle-of (L .has .counts))
+
+  segment-of : (x : ℕ) → segment car x ≡ segment-in n (k .points) x
+  segment-of x = segment-parts car x ∙ rw (L .speeds, points-of (L .has .counts))
 
   -- the power on the segment found is the gear's
-  pub power-is : {x s : ℕ} → x ≡ power-speed car v g → s ≡ segment-in (car .n) (car .points) x
-      → between (at (car .n) s) (at (car .p) s) (at (car .n) (suc s)) (at (car .p) (suc s)) x ≡ power car v g
+  pub power-is : {x s : ℕ} → x ≡ power-speed car v g → s ≡ segment-in n (k .points) x
+      → between (at n s) (at p s) (at n (suc s)) (at p (suc s)) x ≡ power car v g
   unfolding power on-segment
-  power-is e f = rw (f, e, segment-parts car (power-speed car v g))
+  power-is e f = rw (f, ← e, segment-of, L .speeds, L .powers)
 
-  module _ (t : Turning car v g) where
+  module _ (t : Turning k ratio v g) where
     -- that speed is at most nmax
     speed-to : power-speed car v g ≤ 1000 * car .nmax
     unfolding power-speed
-    speed-to = max-le (t .under) (omega (arith, t .bounds .rated-from, t .bounds .nmax-from))
+    speed-to = max-le (rw (engine-of (L .has) g v, nmax-of (L .has .counts)) (t .under)) (omega (arith, L .bounds .rated-from, L .bounds .nmax-from))
 
     -- it lies on the segment found
     pub turning-on : OnSegment car (power-speed car v g) (segment car (power-speed car v g))
     unfolding power-speed
-    turning-on = segment-holds car (t .bounds) (power-speed car v g) (le-max-right (engine car g v) (1000 * car .idle)) speed-to
+    turning-on = segment-holds car (L .bounds) (power-speed car v g) (le-max-right (engine car g v) (1000 * car .idle)) speed-to
 
     -- the search can be made
-    pub turning-curve : {x : ℕ} → x ≡ power-speed car v g → Curve (car .n) (car .points) x
-    turning-curve e = record {
-      from = t .bounds .points-from;
-      to = t .bounds .points-to;
-      rises = t .bounds .n-rises;
-      below = rw e (le-trans speed-to (mul-le-mul-left 1000 (t .bounds .last-point)));
-    }
+    pub turning-curve : {x : ℕ} → x ≡ power-speed car v g → Curve n (k .points) x
+    turning-curve e = rw (← L .speeds, ← points-of (L .has .counts)) (record {
+      from = L .bounds .points-from;
+      to = L .bounds .points-to;
+      rises = L .bounds .n-rises;
+      below = rw e (le-trans speed-to (mul-le-mul-left 1000 (L .bounds .last-point)));
+    })
 
     -- and so can the reading of what it finds
-    pub turning-segment : {x s : ℕ} → x ≡ power-speed car v g → s ≡ segment-in (car .n) (car .points) x → Segment x s
+    pub turning-segment : {x s : ℕ} → x ≡ power-speed car v g → s ≡ segment-in n (k .points) x → Segment x s
     turning-segment e f =
-        let on = rw (segment-parts car (power-speed car v g)) at turning-on in
-        rw (f, e) (record { next = omega (arith, on .next-point, t .bounds .points-to); small = omega (arith, speed-to, t .bounds .nmax-to) })
+        let on = turning-on in
+        rw (f, ← segment-of, e) (record { next = omega (arith, on .next-point, L .bounds .points-to); small = omega (arith, speed-to, L .bounds .nmax-to) })
 
     -- a power that is the gear's is within its bounds
-    pub sized-of : (a : code.Power) → power-of a ≡ power car v g → Sized a
+    pub sized-of : (a : code.Power) → power-of a ≡ power car v g → PowerSized a
     unfolding power
     sized-of a e =
         let x = power-speed car v g in
         record {
-          q-in = subst (λ (z : Power). natAbs (z .Q) ≤ 10000000000) (sym e) (Q-size car (t .bounds) x (segment car x) turning-on);
-          w-in = subst (λ (z : Power). natAbs (z .w) ≤ 1000) (sym e) (w-size car (t .bounds) x (segment car x) turning-on);
+          q-in = subst (λ (z : Power). natAbs (z .Q) ≤ 10000000000) (sym e) (Q-size car (L .bounds) x (segment car x) turning-on);
+          w-in = subst (λ (z : Power). natAbs (z .w) ≤ 1000) (sym e) (w-size car (L .bounds) x (segment car x) turning-on);
         }
 
     -- no power is too little for an E of at most 0
@@ -90,15 +97,19 @@ module _ (car : Vehicle) (v g : ℕ) where
         let x = power-speed car v g in
         let s = segment car x in
         let on = turning-on in
-        let rise = t .bounds .n-rises s (on .next-point) in
+        let rise = L .bounds .n-rises s (on .next-point) in
         rw (
-          pos-sub 100 (car .margin) (omega (arith, t .bounds .margin-to)),
+          pos-sub 100 (car .margin) (omega (arith, L .bounds .margin-to)),
           pos-sub (at (car .n) (suc s)) (at (car .n) s) (omega arith),
           pos-sub x (1000 * at (car .n) s) (on .from),
           Q-pos (at (car .p) s) (at (car .p) (suc s)) (at (car .n) (suc s) - at (car .n) s) (x - 1000 * at (car .n) s) (omega (arith, on .to)),
         ) (enough-none e h _ _ _ (omega arith))
 
 -- a gear that fits turns the engine no faster than nmax
-pub turning-of : (car : Vehicle) (here : Place) (v g : ℕ) → Driven car g → fits car here v g ≡ true → Turning car v g
+pub turning-of : {car : Vehicle} {k : Numbers} {ratio : List ℕ} → Has car k ratio → (here : Place) (v g : ℕ) → InGear k g → fits car here v g ≡ true → Turning k ratio v g
 unfolding fits under-nmax
-turning-of car here v g b t = record { bounds = b .bounds; from = b .from; to = b .to; under = leb-true _ _ (and-right _ _ (and-right _ _ t)) }
+turning-of {car} H here v g b t = record {
+  from = b .from;
+  to = b .to;
+  under = rw (engine-of H g v, nmax-of (H .counts)) at (leb-true (engine car g v) (1000 * car .nmax) (and-right _ _ (and-right _ _ t)));
+}

@@ -11,14 +11,12 @@ use lib.IntN.{ℤ, pos, natAbs, _-ℤ_, _*ℤ_}
 use lib.Signed.{leZ}
 use Rattle.rules.specs.declared.Vehicle.{Vehicle}
 use Rattle.rules.specs.Words.{if_then_else_, _and_, _or_, at, first}
-use Rattle.rules.specs.Gears.{Place, Power, engine, minimum, fits, power, strongest, choose, reaches, segment}
-use Rattle.rules.specs.Units.{rise}
+use Rattle.rules.specs.Gears.{Place, Power, fits, power, strongest, choose, reaches, segment}
+use Rattle.rules.specs.Units.{fastest, steepest, rise}
 use Rattle.rules.specs.Corrections.{here, first-choice}
-use Rattle.rules.specs.Laws.Vehicle.{InBounds}
 use Rattle.gears.specs.declared.Numbers.{Numbers}
 use Rattle.gears.specs.declared.Power as code
 use Rattle.gears.specs.declared.Best.{Best}
-use Rattle.gears.specs.Parts.{vehicle-of}
 
 -- ---- the curve
 
@@ -52,17 +50,16 @@ pub record Segment (x s : ℕ) : Type 0 where
 abbrev pub power-of : code.Power → Power
 power-of r = record { Q = r .q; w = r .w }
 
--- a gear of a vehicle in bounds that turns the engine no faster than nmax
-pub record Turning (car : Vehicle) (v g : ℕ) : Type 0 where
-  pub bounds : InBounds car
+-- a gear that turns the engine no faster than nmax
+pub record Turning (k : Numbers) (ratio : List ℕ) (v g : ℕ) : Type 0 where
   pub from : 1 ≤ g
-  pub to : g ≤ car .ng
-  pub under : engine car g v ≤ 1000 * car .nmax
+  pub to : g ≤ k .ng
+  pub under : at ratio (g - 1) * v ≤ 1000 * k .nmax
 
 -- ---- the choice
 
 -- a power within its bounds
-pub record Sized (r : code.Power) : Type 0 where
+pub record PowerSized (r : code.Power) : Type 0 where
   pub q-in : natAbs (r .q) ≤ 10000000000
   pub w-in : natAbs (r .w) ≤ 1000
 
@@ -73,7 +70,7 @@ most-E = 4890000000000000
 -- a margin, a power and an E within their bounds
 pub record Weighed (margin : ℕ) (a : code.Power) (e : ℤ) : Type 0 where
   pub margin-to : margin ≤ 50
-  pub sized : Sized a
+  pub sized : PowerSized a
   pub e-in : natAbs e ≤ most-E
 
 -- a power is enough for E
@@ -84,36 +81,28 @@ enough-for margin a e = leZ (e *ℤ a .w) ((pos 100 -ℤ pos margin) *ℤ a .Q *
 unfoldable pub suits-for : Vehicle → Place → ℕ → ℤ → ℕ → Bool
 suits-for car here v e g = fits car here v g and enough-for (car .margin) (power car v g) e
 
--- a gear of a vehicle in bounds
-pub record Driven (car : Vehicle) (g : ℕ) : Type 0 where
-  pub bounds : InBounds car
+-- one of the gears
+pub record InGear (k : Numbers) (g : ℕ) : Type 0 where
   pub from : 1 ≤ g
-  pub to : g ≤ car .ng
+  pub to : g ≤ k .ng
 
 -- of the gears up to j the strongest, with its power where there is one
 pub record Strongest (car : Vehicle) (here : Place) (v j : ℕ) (b : Best) : Type 0 where
   pub is : b .gear ≡ strongest car here v j
   pub its-power : b .gear ≢ 0 → power-of (b .power) ≡ power car v (b .gear)
 
--- a vehicle in bounds, a speed and a step in bounds
-pub record Driving (car : Vehicle) (v : ℕ) (d : ℤ) : Type 0 where
-  pub bounds : InBounds car
-  pub v-to : v ≤ 2000
-  pub d-in : natAbs d ≤ 150
-
--- the numbers and the ratios of a vehicle in bounds, whatever its curve
-pub record Bounded (k : Numbers) (ratio : List ℕ) : Type 0 where
-  pub n : List ℕ
-  pub p : List ℕ
-  pub bounds : InBounds (vehicle-of k ratio n p)
+-- a speed and a step in bounds
+pub record Pace (v : ℕ) (d : ℤ) : Type 0 where
+  pub v-to : v ≤ fastest
+  pub d-in : natAbs d ≤ steepest
 
 -- the choice at a trip's first second: first gear if it fits, otherwise 0
 unfoldable pub only-first : Vehicle → ℕ → ℕ
 only-first car v = if fits car (record { first-second = true }) v 1 then 1 else 0
 
--- first or second gear, or one that turns the engine at the minimum speed of the gears above them
-unfoldable pub may-fit : Vehicle → ℕ → ℕ → Bool
-may-fit car v g = leb g 2 or leb (1000 * minimum car 3) (engine car g v)
+-- the gear to look at after gear g: second gear, where no gear above it is in reach, else the one below g
+unfoldable pub next-down : Bool → ℕ → ℕ
+next-down reached g = if reached or leb g 3 then g - 1 else 2
 
 -- the first choice: the held gear if there is one, otherwise the rules' choice; 0 where no gear fits
 unfoldable pub first-of : Vehicle → Place → ℕ → ℤ → ℕ → ℕ

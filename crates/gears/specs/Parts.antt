@@ -1,26 +1,12 @@
--- The vehicle that a struct of numbers and three lent arrays are the parts of.
+-- A vehicle in parts: what its numbers and its lent arrays say of it. A contract that does not look at a part holds for every vehicle that has the
+-- others.
 -- Assumes nothing.
 use Prim.Native.Nat.{ℕ}
+use mathlib.Core.Path.{_≡_}
 use mathlib.Core.List.{List}
 use Rattle.rules.specs.declared.Vehicle.{Vehicle}
+use Rattle.rules.specs.Vocabulary.{InBounds}
 use Rattle.gears.specs.declared.Numbers.{Numbers}
-
-abbrev pub vehicle-of : Numbers → List ℕ → List ℕ → List ℕ → Vehicle
-vehicle-of k ratio n p = record {
-  ng = k .ng;
-  ratio = ratio;
-  idle = k .idle;
-  rated = k .rated;
-  nmax = k .nmax;
-  f0 = k .f0;
-  f1 = k .f1;
-  f2 = k .f2;
-  tm = k .tm;
-  margin = k .margin;
-  points = k .points;
-  n = n;
-  p = p;
-}
 
 -- a vehicle's numbers
 abbrev pub numbers-of : Vehicle → Numbers
@@ -36,3 +22,24 @@ numbers-of car = record {
   margin = car .margin;
   points = car .points;
 }
+
+-- the vehicle has these numbers
+pub record Counts (car : Vehicle) (k : Numbers) : Type 0 where
+  pub numbers : numbers-of car ≡ k
+
+-- the vehicle has these numbers and ratios
+pub record Has (car : Vehicle) (k : Numbers) (ratio : List ℕ) : Type 0 where
+  pub counts : Counts car k
+  pub ratios : car .ratio ≡ ratio
+
+-- a vehicle in bounds that has these numbers, ratios and points
+pub record Lent (car : Vehicle) (k : Numbers) (ratio n p : List ℕ) : Type 0 where
+  pub has : Has car k ratio
+  pub speeds : car .n ≡ n
+  pub powers : car .p ≡ p
+  pub bounds : InBounds car
+
+-- these are the parts of a vehicle in bounds
+pub record Parts (k : Numbers) (ratio n p : List ℕ) : Type 0 where
+  pub car : Vehicle
+  pub lent : Lent car k ratio n p

@@ -2,6 +2,7 @@
 -- Assumes nothing.
 use Prim.Native.Nat.{ℕ, _≤_}
 use lib.IntN.{ℤ, natAbs}
+use Rattle.rules.specs.Units.{fastest, steepest}
 use Rattle.gears.specs.declared.Numbers.{Numbers}
 
 -- a gear that the array of ratios has a place for
@@ -36,5 +37,5 @@ pub record Load (k : Numbers) (v : ℕ) (d : ℤ) : Type 0 where
   pub f1-in : natAbs (k .f1) ≤ 5000
   pub f2-to : k .f2 ≤ 20000
   pub tm-to : k .tm ≤ 4000
-  pub v-to : v ≤ 2000
-  pub d-in : natAbs d ≤ 150
+  pub v-to : v ≤ fastest
+  pub d-in : natAbs d ≤ steepest

@@ -1,13 +1,15 @@
 // The first choice of one second.
 ghost use mathlib.Core.Path.{_≡_};
-ghost use mathlib.Core.List.{List};
-ghost use Prim.Native.Nat.{ℕ, _-_, _≤_};
+ghost use mathlib.Core.Bool.{false};
+ghost use Prim.Native.Nat.{_-_, _*_, _≤_};
+ghost use lib.Dec.{leb};
 ghost use lib.IntN.{natAbs};
-ghost use Rattle.rules.specs.Words.{highest};
-ghost use Rattle.rules.specs.Gears.{more, strongest, choose};
-ghost use Rattle.rules.specs.Laws.Vehicle.{InBounds};
-ghost use Rattle.gears.specs.Parts.{vehicle-of};
-ghost use Rattle.gears.specs.Choosing.{power-of, Sized, most-E, Weighed, enough-for, suits-for, Driven, Strongest, Driving, Bounded, only-first, may-fit, first-of};
+ghost use Rattle.rules.specs.Words.{at};
+ghost use Rattle.rules.specs.declared.Vehicle.{Vehicle};
+ghost use Rattle.rules.specs.Gears.{minimum, fits, more, strongest, choose};
+ghost use Rattle.gears.specs.Parts.{Counts, Has, Lent, Parts};
+ghost use Rattle.gears.specs.Second.{GearOf};
+ghost use Rattle.gears.specs.Choosing.{power-of, PowerSized, most-E, Weighed, enough-for, suits-for, InGear, Strongest, Pace, only-first, next-down, first-of};
 use crate::Best;
 use crate::Numbers;
 use crate::Power;
@@ -16,6 +18,7 @@ use crate::second::engine;
 use crate::second::fits;
 use crate::second::minimum;
 use crate::second::required;
+use crate::second::top;
 
 // Whether a power is enough for E. E keeps its sign: negative while braking.
 pub fn enough(margin: u16, a: Power, e: i64) -> bool
@@ -27,27 +30,42 @@ pub fn enough(margin: u16, a: Power, e: i64) -> bool
 
 // Whether the first of two powers is more than the second.
 pub fn more(a: Power, b: Power) -> bool
-    requires { ⌜ Sized a × Sized b ⌝ }
+    requires { ⌜ PowerSized a × PowerSized b ⌝ }
     ensures { λ r. ⌜ r ≡ more (power-of a) (power-of b) ⌝ }
 {
     b.q * a.w < a.q * b.w
 }
 
-// Whether a gear fits and has enough power for E.
+// Whether a gear fits at a later second of a trip. Third gear and those above share one minimum, of engine speed `least`.
+fn fits_later(k: Numbers, ratio: &[u16; 10], v: u16, least: u64, g: usize) -> bool
+    requires { ⌜ GearOf k g × ((car : Vehicle) → Counts car k → least ≡ 1000 * minimum car 3) ⌝ }
+    ensures { λ r. ⌜ ((car : Vehicle) → Has car k (now (ratio .entry)) → r ≡ fits car (record { first-second = false }) v g) ⌝ }
+{
+    if g <= 2 {
+        return fits(k, ratio, false, v, g);
+    }
+    let x = engine(ratio, g, v);
+    if x < least {
+        return false;
+    }
+    x <= top(k)
+}
+
+// Whether a gear fits at a later second and has enough power for E.
 fn suits<'a>(
     k: Numbers,
     ratio: &'a [u16; 10],
     n: &'a [u16; 64],
     p: &'a [u16; 64],
-    first_second: bool,
     v: u16,
     e: i64,
+    least: u64,
     g: usize,
 ) -> bool
-    requires { ⌜ Driven (vehicle-of k (now ratio) (now n) (now p)) g × (natAbs e ≤ most-E) ⌝ }
-    ensures { λ r. ⌜ r ≡ suits-for (vehicle-of k (now (ratio .entry)) (now (n .entry)) (now (p .entry))) (record { first-second = «first_second» }) v e g ⌝ }
+    requires { ⌜ Parts k (now ratio) (now n) (now p) × InGear k g × (natAbs e ≤ most-E) × ((car : Vehicle) → Counts car k → least ≡ 1000 * minimum car 3) ⌝ }
+    ensures { λ r. ⌜ ((car : Vehicle) → Lent car k (now (ratio .entry)) (now (n .entry)) (now (p .entry)) → r ≡ suits-for car (record { first-second = false }) v e g) ⌝ }
 {
-    if fits(k, ratio, first_second, v, g) {
+    if fits_later(k, ratio, v, least, g) {
         // every power is enough while coasting or braking
         if e <= 0 {
             return true;
@@ -69,8 +87,8 @@ fn stronger<'a>(
     v: u16,
     g: usize,
 ) -> Best
-    requires { ⌜ Driven (vehicle-of k (now ratio) (now n) (now p)) g × Strongest (vehicle-of k (now ratio) (now n) (now p)) (record { first-second = «first_second» }) v (g - 1) best ⌝ }
-    ensures { λ r. ⌜ Strongest (vehicle-of k (now (ratio .entry)) (now (n .entry)) (now (p .entry))) (record { first-second = «first_second» }) v g r ⌝ }
+    requires { ⌜ Parts k (now ratio) (now n) (now p) × InGear k g × ((car : Vehicle) → Lent car k (now ratio) (now n) (now p) → Strongest car (record { first-second = «first_second» }) v (g - 1) best) ⌝ }
+    ensures { λ r. ⌜ ((car : Vehicle) → Lent car k (now (ratio .entry)) (now (n .entry)) (now (p .entry)) → Strongest car (record { first-second = «first_second» }) v g r) ⌝ }
 {
     if fits(k, ratio, first_second, v, g) {
         let a = power_at(k, ratio, n, p, v, g);
@@ -95,8 +113,8 @@ pub fn strongest<'a>(
     first_second: bool,
     v: u16,
 ) -> usize
-    requires { ⌜ InBounds (vehicle-of k (now ratio) (now n) (now p)) ⌝ }
-    ensures { λ r. ⌜ r ≡ strongest (vehicle-of k (now (ratio .entry)) (now (n .entry)) (now (p .entry))) (record { first-second = «first_second» }) v (k .ng) ⌝ }
+    requires { ⌜ Parts k (now ratio) (now n) (now p) ⌝ }
+    ensures { λ r. ⌜ ((car : Vehicle) → Lent car k (now (ratio .entry)) (now (n .entry)) (now (p .entry)) → r ≡ strongest car (record { first-second = «first_second» }) v (k .ng)) ⌝ }
 {
     let mut best = Best {
         gear: 0,
@@ -113,7 +131,7 @@ pub fn strongest<'a>(
 // The choice at a trip's first second: first gear, the only one that may fit; 0 where it does not.
 fn only_first(k: Numbers, ratio: &[u16; 10], v: u16) -> usize
     requires { ⌜ k .idle ≤ k .rated ⌝ }
-    ensures { λ r. ⌜ ((n p : List ℕ) → r ≡ only-first (vehicle-of k (now (ratio .entry)) n p) v) ⌝ }
+    ensures { λ r. ⌜ ((car : Vehicle) → Has car k (now (ratio .entry)) → r ≡ only-first car v) ⌝ }
 {
     if fits(k, ratio, true, v, 1) {
         return 1;
@@ -121,27 +139,21 @@ fn only_first(k: Numbers, ratio: &[u16; 10], v: u16) -> usize
     0
 }
 
-// The highest gear whose minimum speed is reached, or second gear: none above it fits. Third gear and those above share one minimum.
-fn reached(k: Numbers, ratio: &[u16; 10], v: u16) -> usize
-    requires { ⌜ Bounded k (now ratio) ⌝ }
-    ensures { λ r. ⌜ ((n p : List ℕ) → r ≡ highest (may-fit (vehicle-of k (now (ratio .entry)) n p) v) (k .ng)) ⌝ }
+// The next gear to look at below g. Where third gear does not reach the minimum that it shares with those above, none of them does.
+fn below(ratio: &[u16; 10], v: u16, least: u64, g: usize) -> usize
+    requires { ⌜ 1 ≤ g ⌝ }
+    ensures { λ r. ⌜ r ≡ next-down (leb least (at (now (ratio .entry)) 2 * v)) g ⌝ }
 {
-    let least = 1000 * minimum(k, 3);
-    // where third gear is below it, so is every gear above
-    if engine(ratio, 3, v) < least {
-        return 2;
-    }
-    let mut g = k.ng as usize;
-    while 2 < g {
-        if least <= engine(ratio, g, v) {
-            return g;
+    if 3 < g {
+        if engine(ratio, 3, v) < least {
+            return 2;
         }
-        g -= 1;
+        return g - 1;
     }
-    g
+    g - 1
 }
 
-// The rules' choice: from the highest gear that may fit down the first that fits and has enough power, or the fallback.
+// The rules' choice: from the top gear down the first that fits and has enough power, or the fallback.
 pub fn choose<'a>(
     k: Numbers,
     ratio: &'a [u16; 10],
@@ -151,23 +163,24 @@ pub fn choose<'a>(
     v: u16,
     d: i64,
 ) -> usize
-    requires { ⌜ Driving (vehicle-of k (now ratio) (now n) (now p)) v d ⌝ }
-    ensures { λ r. ⌜ r ≡ choose (vehicle-of k (now (ratio .entry)) (now (n .entry)) (now (p .entry))) (record { first-second = «first_second» }) v d ⌝ }
+    requires { ⌜ Parts k (now ratio) (now n) (now p) × Pace v d ⌝ }
+    ensures { λ r. ⌜ ((car : Vehicle) → Lent car k (now (ratio .entry)) (now (n .entry)) (now (p .entry)) → r ≡ choose car (record { first-second = «first_second» }) v d) ⌝ }
 {
     // a trip begins in first gear, whatever power it has
     if first_second {
         return only_first(k, ratio, v);
     }
     let e = required(k, v, d);
-    let mut g = reached(k, ratio, v);
+    let least = 1000 * minimum(k, 3);
+    let mut g = k.ng as usize;
     loop {
         if g == 0 {
             break strongest(k, ratio, n, p, first_second, v);
         }
-        if suits(k, ratio, n, p, first_second, v, e, g) {
+        if suits(k, ratio, n, p, v, e, least, g) {
             break g;
         }
-        g -= 1;
+        g = below(ratio, v, least, g);
     }
 }
 
@@ -182,8 +195,8 @@ pub fn first_choice<'a>(
     d: i64,
     hold: u8,
 ) -> u8
-    requires { ⌜ Driving (vehicle-of k (now ratio) (now n) (now p)) v d ⌝ }
-    ensures { λ r. ⌜ r ≡ first-of (vehicle-of k (now (ratio .entry)) (now (n .entry)) (now (p .entry))) (record { first-second = «first_second» }) v d hold ⌝ }
+    requires { ⌜ Parts k (now ratio) (now n) (now p) × Pace v d ⌝ }
+    ensures { λ r. ⌜ ((car : Vehicle) → Lent car k (now (ratio .entry)) (now (n .entry)) (now (p .entry)) → r ≡ first-of car (record { first-second = «first_second» }) v d hold) ⌝ }
 {
     if hold == 0 {
         return choose(k, ratio, n, p, first_second, v, d) as u8;

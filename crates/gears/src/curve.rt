@@ -3,7 +3,8 @@ ghost use mathlib.Core.Path.{_≡_};
 ghost use Prim.Native.Nat.{suc, _*_, _≤_, max};
 ghost use Rattle.rules.specs.Words.{at};
 ghost use Rattle.rules.specs.Gears.{between, power};
-ghost use Rattle.gears.specs.Parts.{vehicle-of};
+ghost use Rattle.rules.specs.declared.Vehicle.{Vehicle};
+ghost use Rattle.gears.specs.Parts.{Lent, Parts};
 ghost use Rattle.gears.specs.Choosing.{Signed, segment-in, Curve, Segment, power-of, Turning};
 use crate::Numbers;
 use crate::Power;
@@ -70,8 +71,8 @@ pub fn power_at<'a>(
     v: u16,
     g: usize,
 ) -> Power
-    requires { ⌜ Turning (vehicle-of k (now ratio) (now n) (now p)) v g ⌝ }
-    ensures { λ r. ⌜ power-of r ≡ power (vehicle-of k (now (ratio .entry)) (now (n .entry)) (now (p .entry))) v g ⌝ }
+    requires { ⌜ Parts k (now ratio) (now n) (now p) × Turning k (now ratio) v g ⌝ }
+    ensures { λ r. ⌜ ((car : Vehicle) → Lent car k (now (ratio .entry)) (now (n .entry)) (now (p .entry)) → power-of r ≡ power car v g) ⌝ }
 {
     let x = power_speed(k.idle, engine(ratio, g, v));
     let s = segment(n, k.points, x);

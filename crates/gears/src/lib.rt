@@ -16,6 +16,7 @@ pub use second::floor;
 pub use second::minimum;
 pub use second::some_fits;
 pub use second::step_of;
+pub use second::top;
 
 // The vehicle's numbers, without its arrays.
 pub struct Numbers {

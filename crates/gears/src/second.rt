@@ -1,14 +1,14 @@
 // One second of a trip: engine speed, minimum speed, which gears fit, the floor, the step D and the required power E.
 ghost use mathlib.Core.Path.{_≡_};
 ghost use mathlib.Core.Bool.{not};
-ghost use mathlib.Core.List.{List};
-ghost use Prim.Native.Nat.{ℕ, _+_, _-_, _*_, _≤_};
+ghost use Prim.Native.Nat.{_+_, _-_, _*_, _≤_};
 ghost use lib.Dec.{eqb};
 ghost use lib.IntN.{pos, _-ℤ_};
 ghost use Rattle.rules.specs.Words.{at, highest};
 ghost use Rattle.rules.specs.Gears.{minimum, fits, required};
 ghost use Rattle.rules.specs.Corrections.{floor};
-ghost use Rattle.gears.specs.Parts.{vehicle-of};
+ghost use Rattle.rules.specs.declared.Vehicle.{Vehicle};
+ghost use Rattle.gears.specs.Parts.{Counts, Has};
 ghost use Rattle.gears.specs.Second.{Gear, Lowest, GearOf, Geared, Load};
 use crate::Numbers;
 
@@ -30,7 +30,7 @@ pub fn engine(ratio: &[u16; 10], g: usize, v: u16) -> u64
 // The minimum speed of a gear, rounded to the nearest whole, halves up.
 pub fn minimum(k: Numbers, g: usize) -> u64
     requires { ⌜ Lowest k g ⌝ }
-    ensures speed { λ r. ⌜ ((ratio n p : List ℕ) → r ≡ minimum (vehicle-of k ratio n p) g) ⌝ }
+    ensures speed { λ r. ⌜ ((car : Vehicle) → Counts car k → r ≡ minimum car g) ⌝ }
     ensures small { λ r. ⌜ r ≤ 131070 ⌝ }
 {
     let idle = wide(k.idle);
@@ -43,7 +43,7 @@ pub fn minimum(k: Numbers, g: usize) -> u64
 }
 
 // The engine speed X of nmax, which no gear may pass.
-fn top(k: Numbers) -> u64
+pub fn top(k: Numbers) -> u64
     ensures { λ r. ⌜ r ≡ 1000 * k .nmax ⌝ }
 {
     1000 * wide(k.nmax)
@@ -52,7 +52,7 @@ fn top(k: Numbers) -> u64
 // Whether a gear fits.
 pub fn fits(k: Numbers, ratio: &[u16; 10], first: bool, v: u16, g: usize) -> bool
     requires { ⌜ GearOf k g ⌝ }
-    ensures { λ r. ⌜ ((n p : List ℕ) → r ≡ fits (vehicle-of k (now (ratio .entry)) n p) (record { first-second = first }) v g) ⌝ }
+    ensures { λ r. ⌜ ((car : Vehicle) → Has car k (now (ratio .entry)) → r ≡ fits car (record { first-second = first }) v g) ⌝ }
 {
     let x = engine(ratio, g, v);
     if top(k) < x {
@@ -70,7 +70,7 @@ pub fn fits(k: Numbers, ratio: &[u16; 10], first: bool, v: u16, g: usize) -> boo
 // Whether some gear fits, by engine speed alone.
 pub fn some_fits(k: Numbers, ratio: &[u16; 10], first: bool, v: u16) -> bool
     requires { ⌜ Geared k ⌝ }
-    ensures { λ r. ⌜ ((n p : List ℕ) → r ≡ not (eqb (highest (fits (vehicle-of k (now (ratio .entry)) n p) (record { first-second = first }) v) (k .ng)) 0)) ⌝ }
+    ensures { λ r. ⌜ ((car : Vehicle) → Has car k (now (ratio .entry)) → r ≡ not (eqb (highest (fits car (record { first-second = first }) v) (k .ng)) 0)) ⌝ }
 {
     let ng = k.ng as usize;
     let mut g: usize = 1;
@@ -86,7 +86,7 @@ pub fn some_fits(k: Numbers, ratio: &[u16; 10], first: bool, v: u16) -> bool
 // The floor: the lowest gear whose X is at most 1000 x nmax; ng + 1 where there is none.
 pub fn floor(k: Numbers, ratio: &[u16; 10], v: u16) -> usize
     requires { ⌜ k .ng ≤ 10 ⌝ }
-    ensures { λ r. ⌜ ((n p : List ℕ) → r ≡ floor (vehicle-of k (now (ratio .entry)) n p) v) ⌝ }
+    ensures { λ r. ⌜ ((car : Vehicle) → Has car k (now (ratio .entry)) → r ≡ floor car v) ⌝ }
 {
     let ng = k.ng as usize;
     let most = top(k);
@@ -110,7 +110,7 @@ pub fn step_of(this: u16, next: u16) -> i64
 // Required power E, negative while braking.
 pub fn required(k: Numbers, v: u16, d: i64) -> i64
     requires { ⌜ Load k v d ⌝ }
-    ensures { λ r. ⌜ ((ratio n p : List ℕ) → r ≡ required (vehicle-of k ratio n p) v d) ⌝ }
+    ensures { λ r. ⌜ ((car : Vehicle) → Counts car k → r ≡ required car v d) ⌝ }
 {
     let v = v as i64;
     9_000_000 * (k.f0 as i64) * v

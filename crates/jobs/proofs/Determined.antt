@@ -4,7 +4,7 @@ use Prim.Native.Nat.{ℕ}
 use native.Mathlib.Omega.{arith}
 use mathlib.Core.Path.{_≡_, refl, sym, _∙_, ap}
 use Rattle.once.specs.Determined.{Determined}
-use Rattle.rules.specs.Laws.Refusals.{refusal-once, said-once}
+use Rattle.rules.proofs.Laws.Refusals.{refusal-once, said-once}
 use Rattle.rules.specs.Refusals.{Fault}
 use Rattle.jobs.specs.declared.Group.{Group}
 use Rattle.jobs.specs.declared.Group.the-variants as group-is
@@ -27,6 +27,7 @@ pub read : Determined read-kinds.ps read-kinds.r read-reads.Asked read-reads.Lea
 read κs a asked z z′ ws ws′ p q = (
   λ i. record {
     answer = said-once (z .answer) (z′ .answer) (p .answered ∙ sym (q .answered)) i;
+    version = (p .the-version ∙ sym (q .the-version)) i;
     vehicle = (p .the-vehicle ∙ sym (q .the-vehicle)) i;
     count = (p .the-count ∙ sym (q .the-count)) i;
   },

@@ -4,4 +4,5 @@ pub mod Ways
 pub mod Loops
 pub mod Whole
 pub mod Rooms
+pub mod Demands
 pub mod Determined

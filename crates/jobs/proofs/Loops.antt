@@ -1,166 +1,167 @@
--- The reader's loops. Each invariant says that what is left to read, from here, is what was asked; the laws are the loop's ways on.
+-- The reader's loops. The invariant says that what is left to read, from here, is what was asked; the laws are the loop's ways on.
 -- Assumes nothing.
-use Prim.Native.Nat.{ℕ, zero, suc, _+_, _-_, _<_, _≤_}
+use Prim.Native.Nat.{ℕ, suc, _+_, _-_, _<_, _≤_}
+use Prim.{Unit, tt}
 use native.Mathlib.Numerals.{add-one}
 use native.Mathlib.Omega.{arith}
-use mathlib.Core.Path.{_≡_, sym, ap, _∙_}
-use mathlib.Core.Bool.{Bool, true}
-use mathlib.Core.List.{List, [], _∷_, append-nil}
-use lib.ListN.{length, set}
-use lib.Seq.{sets, sets-eq, drop-length, getD-set-same, getD-set-other, ext-getD}
+use mathlib.Core.Path.{_≡_, sym, _∙_}
+use mathlib.Core.Bool.{true}
+use mathlib.Core.List.{List, [], _∷_}
 use lib.Dec.{leb, ltb}
-use borrow.Author.Tests.{ltb-true}
-use native.Mathlib.Nat.{not-suc-le-zero, zero-add}
-use Rattle.rules.specs.Words.{_and_, within, at, table}
-use Rattle.rules.specs.Laws.Words.{by-eq, and-right, length-table, at-table}
-use Rattle.rules.specs.Laws.Vehicle.{within-hi}
+use lib.ListN.{length, set}
+use lib.Seq.{sets}
 use Rattle.rules.specs.Refusals.{Fault}
-use Rattle.rules.specs.Job.{Read, got, refused, hand-on, give, group, groups, holds-read}
-use Rattle.jobs.specs.Stages.{Comes, filling, skipping, hold-read, judging}
-use Rattle.jobs.proofs.Steps.{joined, went, passed, same-value}
+use Rattle.rules.specs.Words.{_and_, within}
+use Rattle.rules.specs.Groups.{Read, got, refused, hand-on, _>>=_, _>>_, give, demand, group}
+use Rattle.rules.specs.Forms.{Form, value, checked, _then_, row-read, row, many}
+use Rattle.rules.specs.Job.{hold, rising, put}
+use Rattle.rules.proofs.Laws.Forms.{says-now, value-sound}
+use Rattle.rules.proofs.Laws.Gathers.{HoldFits, takes-hold, hold-sound}
+use Rattle.jobs.specs.Stages.{Comes, used}
+use Rattle.jobs.proofs.Steps.{joined, went, passed, use-as-is, many-length}
+use Rattle.jobs.proofs.Ways.{all-filled}
 
-pub groups-length : (job : List ℕ) (k i : ℕ) {vs : List ℕ} {j : ℕ} → groups job k i ≡ got vs j → length vs ≡ k
-unfolding groups hand-on
-groups-length job zero i e = ap length (sym (same-value e))
-groups-length job (suc k) i e =
-    went (group job i) _ e (λ v j _ e.
-    went (groups job k j) _ e (λ vs l came e. ap length (sym (same-value e)) ∙ ap suc (groups-length job k j came)))
+-- ---- k parts in a row, of which i are read: `keep` is what becomes of the others
 
--- ---- k groups, of which i are read: `keep` is what becomes of the others
-pub record Groups {A : Type 0} (job : List ℕ) (k i next : ℕ) (keep : List ℕ → A) (R : Read A) : Type 0 where
-  pub rest : hand-on (groups job (k - i) next) (λ vs. give (keep vs)) ≡ R
+pub record Row {A S B : Type 0} (part : S → Form A) (move : S → A → S) (job : List ℕ) (k i : ℕ) (s : S) (next : ℕ) (keep : List A → B) (R : Read B) : Type 0 where
+  pub left : hand-on (row-read part move (k - i) s job next) (λ l. give (keep l)) ≡ R
 
-pub fill-begins : (job : List ℕ) (k : ℕ) (room : List ℕ) (next : ℕ) → Groups job k 0 next (sets room 0) (filling job k room next)
-unfolding filling
-fill-begins job k room next = let z : k - 0 ≡ k = omega arith in record { rest = rw z }
+pub row-begins : {A S B : Type 0} (part : S → Form A) (move : S → A → S) (job : List ℕ) (k : ℕ) (s : S) (next : ℕ) (keep : List A → B)
+    → Row part move job k 0 s next keep (used keep (row part move s k) job next)
+unfolding used row
+row-begins part move job k s next keep = let z : k - 0 ≡ k = omega arith in record { left = rw z }
 
-pub skip-begins : (job : List ℕ) (k next : ℕ) → Groups job k 0 next (λ vs. true) (skipping job k next)
-unfolding skipping
-skip-begins job k next = let z : k - 0 ≡ k = omega arith in record { rest = rw z }
-
-module _ {A : Type 0} {job : List ℕ} {k i next : ℕ} {keep : List ℕ → A} {R : Read A} (p : Groups job k i next keep R) where
+module _ {A S B : Type 0} {part : S → Form A} {move : S → A → S} {job : List ℕ} {k i : ℕ} {s : S} {next : ℕ} {keep : List A → B} {R : Read B} (p : Row part move job k i s next keep R) where
   pub ends : k ≤ i → got (keep []) next ≡ R
-  unfolding hand-on groups
-  ends h = let z : k - i ≡ 0 = omega arith in rw z at (p .rest)
+  unfolding hand-on row-read
+  ends h = let z : k - i ≡ 0 = omega arith in rw z at (p .left)
 
-  pub stops : i < k → {f : Fault} → refused f ≡ group job next → refused f ≡ R
-  unfolding hand-on groups
-  stops h e = let z : k - i ≡ suc (k - suc i) = omega arith in rw (z, ← e) at (p .rest)
+  module _ (h : i < k) where
+    more : k - i ≡ suc (k - suc i)
+    more = omega arith
 
-  pub again : i < k → {v after : ℕ} → got v after ≡ group job next → Groups job k (i + 1) after (λ vs. keep (v ∷ vs)) R
-  unfolding hand-on groups
-  again h {v} {after} e =
-      let z : k - i ≡ suc (k - suc i) = omega arith in
-      record { rest = rw add-one (sym (joined (groups job (k - suc i) after) (λ vs. give (v ∷ vs)) (λ vs. give (keep vs))) ∙ (rw (z, ← e) at (p .rest))) }
+    pub stops : {f : Fault} → refused f ≡ part s .read job next → refused f ≡ R
+    unfolding hand-on row-read
+    stops e = rw (more, ← e) at (p .left)
 
-  -- where all of it comes, the next group does
-  pub comes-here : i < k → Comes R → Comes (group job next)
-  unfolding groups
-  comes-here h r =
-      let z : k - i ≡ suc (k - suc i) = omega arith in
-      went (groups job (k - i) next) _ (p .rest ∙ r .comes) (λ vs j e _.
-      went (group job next) _ (rw z at e) (λ v l e _. record { what = v; end = l; comes = e }))
+    pub again : {a : A} {after : ℕ} → got a after ≡ part s .read job next → Row part move job k (i + 1) (move s a) after (λ l. keep (a ∷ l)) R
+    unfolding hand-on row-read
+    again {a} {after} e = record {
+      left = rw add-one (sym (joined (row-read part move (k - suc i) (move s a) job after) (λ l. give (a ∷ l)) (λ l. give (keep l))) ∙ (rw (more, ← e) at (p .left)));
+    }
 
--- groups that fill a room are all that is left in it
-pub fill-comes : (job : List ℕ) (k i : ℕ) (room : List ℕ) → Comes (groups job k i) → Comes (filling job k room i)
-unfolding filling hand-on
-fill-comes job k i room c = record { what = sets room 0 (c .what); end = c .end; comes = rw (c .comes) }
+    -- where all of it comes, the next part does
+    pub comes-here : Comes R → Comes (part s .read job next)
+    unfolding row-read
+    comes-here r =
+        went (row-read part move (k - i) s job next) _ (p .left ∙ r .comes) (λ l j e _.
+        went (part s .read job next) _ (rw more at e) (λ a m e _. record { what = a; end = m; comes = e }))
 
-pub all-filled : (job room : List ℕ) (i : ℕ) {room′ : List ℕ} {j : ℕ} → got room′ j ≡ filling job (length room) room i → got room′ j ≡ groups job (length room) i
-unfolding filling hand-on
-all-filled job room i e =
-    went (groups job (length room) i) _ (sym e) (λ vs l come e.
-    let n : length vs ≡ length room = groups-length job (length room) i come in
-    let all : sets room 0 vs ≡ vs = (rw (zero-add, n, drop-length) at (sets-eq vs room 0 (omega arith))) ∙ append-nil vs in
-    rw (come, ← all) (sym e))
+-- what is put to use comes where what is read does
+pub used-comes : {A B : Type 0} (f : A → B) (part : Form A) (job : List ℕ) (i : ℕ) → Comes (part .read job i) → Comes (used f part job i)
+unfolding used hand-on
+used-comes f part job i c = record { what = f (c .what); end = c .end; comes = rw (c .comes) }
 
--- ---- holds, of which i are read: only judged, and put into a room
+-- ---- parts of one form
 
-pub record Judging (job : List ℕ) (k i next count place : ℕ) (R : Read Bool) : Type 0 where
-  pub rest : judging job (k - i) next count place ≡ R
+abbrev pub Many : {A B : Type 0} → Form A → List ℕ → ℕ → ℕ → ℕ → (List A → B) → Read B → Type 0
+Many part job k i next keep R = Row (λ (s : Unit {0}). part) (λ s a. s) job k i tt next keep R
 
-pub judge-begins : (job : List ℕ) (k count place : ℕ) → Judging job k 0 0 count place (judging job k 0 count place)
-judge-begins job k count place = let z : k - 0 ≡ k = omega arith in record { rest = rw z }
+pub many-begins : {A B : Type 0} (part : Form A) (job : List ℕ) (k next : ℕ) (keep : List A → B) → Many part job k 0 next keep (used keep (many part k) job next)
+unfolding many
+many-begins part job k next keep = row-begins (λ (s : Unit {0}). part) (λ s a. s) job k tt next keep
 
-module _ {job : List ℕ} {k i next count place : ℕ} {R : Read Bool} (p : Judging job k i next count place R) where
-  pub judge-ends : k ≤ i → got true place ≡ R
-  unfolding judging
-  judge-ends h = let z : k - i ≡ 0 = omega arith in rw z at (p .rest)
+-- the values in a row, where a group is at hand
+module _ {B : Type 0} {job : List ℕ} {k i next : ℕ} {keep : List ℕ → B} {R : Read B} (p : Many value job k i next keep R) (h : i < k) where
+  pub value-stops : {f : Fault} → refused f ≡ group job next → refused f ≡ R
+  unfolding value
+  value-stops e = stops p h e
 
-  pub judge-stops : i < k → {f : Fault} → refused f ≡ hold-read job next count place → refused f ≡ R
-  unfolding judging hand-on
-  judge-stops h e = let z : k - i ≡ suc (k - suc i) = omega arith in rw (z, ← e) at (p .rest)
+  pub value-again : {v after : ℕ} → got v after ≡ group job next → Many value job k (i + 1) after (λ vs. keep (v ∷ vs)) R
+  unfolding value
+  value-again e = again p h e
 
-  pub judge-again : i < k → {s g after : ℕ} → got (record { second = s; gear = g }) after ≡ hold-read job next count place → Judging job k (i + 1) (s + 1) count after R
-  unfolding judging hand-on
-  judge-again h {s} e =
-      let z : k - i ≡ suc (k - suc i) = omega arith in
-      record { rest = rw (add-one i, add-one s) (rw (z, ← e) at (p .rest)) }
+  pub value-comes : Comes R → Comes (group job next)
+  unfolding value
+  value-comes r = comes-here p h r
 
-pub record Putting (job : List ℕ) (k i count place : ℕ) (room : List ℕ) (R : Read (List ℕ)) : Type 0 where
-  pub next : ℕ
-  pub rest : holds-read job (k - i) next count room place ≡ R
+-- values that fill a room are all that is left in it
+pub filled-all : (job room : List ℕ) (i : ℕ) {room′ : List ℕ} {j : ℕ} → got room′ j ≡ used (sets room 0) (many value (length room)) job i → got room′ j ≡ many value (length room) .read job i
+filled-all job room i e = e ∙ use-as-is (many value (length room)) job i (λ l k come. all-filled room l (many-length value-sound job (length room) i come))
 
-pub put-begins : (job : List ℕ) (k count place : ℕ) (room : List ℕ) → Putting job k 0 count place room (holds-read job k 0 count room place)
-put-begins job k count place room = let z : k - 0 ≡ k = omega arith in record { next = 0; rest = rw z }
+-- ---- holds
 
-module _ {job : List ℕ} {k i count place : ℕ} {room : List ℕ} {R : Read (List ℕ)} (p : Putting job k i count place room R) where
-  pub put-ends : k ≤ i → got room place ≡ R
-  unfolding holds-read
-  put-ends h = let z : k - i ≡ 0 = omega arith in rw z at (p .rest)
+abbrev pub Holds : {B : Type 0} → ℕ → List ℕ → ℕ → ℕ → ℕ → ℕ → (List (ℕ × ℕ) → B) → Read B → Type 0
+Holds count job k i next place keep R = Row (hold count) (λ next h. suc (h .0)) job k i next place keep R
 
-  module _ (h : i < k) (r : Comes R) where
-    left : holds-read job (suc (k - suc i)) (p .next) count room place ≡ got (r .what) (r .end)
-    left = let z : k - i ≡ suc (k - suc i) = omega arith in (rw z at (p .rest)) ∙ r .comes
+pub holds-begin : {B : Type 0} (count : ℕ) (job : List ℕ) (k place : ℕ) (keep : List (ℕ × ℕ) → B) → Holds count job k 0 0 place keep (used keep (rising count k) job place)
+unfolding rising
+holds-begin count job k place keep = row-begins (hold count) (λ next h. suc (h .0)) job k 0 place keep
 
-    pub second-comes : Comes (group job place)
-    unfolding holds-read hand-on
-    second-comes = went (group job place) _ left (λ s j e _. record { what = s; end = j; comes = e })
+-- a hold that comes: its second and its gear do, one after the other, and are in their bounds
+module _ (job : List ℕ) (count next i : ℕ) where
+  hold-steps : hold count next .read job i ≡ (do
+    s ← group job
+    demand (leb next s and ltb s count) 15 i
+    g ← group job
+    demand (within 1 255 g) 15 i
+    give (s, g)) i
+  unfolding hold checked _then_ value hand-on
+  hold-steps = simp joined
 
-    module _ {s j : ℕ} (e : got s j ≡ group job place) where
-      pub second-in : s < count
-      unfolding holds-read hand-on
-      second-in = passed (leb (p .next) s and ltb s count) _ _ _ _ (rw (← e) at left) (λ t _. ltb-true _ _ (and-right _ _ t))
+  module _ (c : Comes (hold count next .read job i)) where
+    pub second-comes : Comes (group job i)
+    second-comes = went (group job i) _ (sym hold-steps ∙ c .comes) (λ s j e _. record { what = s; end = j; comes = e })
+
+    module _ {s j : ℕ} (e : got s j ≡ group job i) where
+      after-second : {P : Type 0} → (hand-on (group job j) (λ g j. hand-on (demand (within 1 255 g) 15 i j) (λ _. give (s, g))) ≡ got (c .what) (c .end) → leb next s and ltb s count ≡ true → P) → P
+      unfolding hand-on
+      after-second f = passed (leb next s and ltb s count) _ _ _ _ (rw (← e) at (sym hold-steps ∙ c .comes)) (λ t x. f x t)
 
       pub gear-comes : Comes (group job j)
-      unfolding holds-read hand-on
-      gear-comes =
-          passed (leb (p .next) s and ltb s count) _ _ _ _ (rw (← e) at left) (λ _ x.
-          went (group job j) _ x (λ g l f _. record { what = g; end = l; comes = f }))
+      gear-comes = after-second (λ x _. went (group job j) _ x (λ g l f _. record { what = g; end = l; comes = f }))
+
+      pub hold-comes : {g l : ℕ} → got g l ≡ group job j → got (s, g) l ≡ hold count next .read job i
+      unfolding hand-on demand
+      hold-comes {g} f =
+          after-second (λ x t.
+          passed (within 1 255 g) _ _ _ _ (rw (← f) at x) (λ u _. rw (hold-steps, ← e, t, ← f, u)))
+
+pub hold-fits : (job : List ℕ) (count next i : ℕ) {s g j : ℕ} → got (s, g) j ≡ hold count next .read job i → HoldFits count next (s, g)
+hold-fits job count next i e = takes-hold count next _ (says-now (sym e) (hold-sound count next .one-form job i) .taken)
+
+-- ---- holds put into a room; what the next second must rise from is not kept
+
+pub record Putting (count : ℕ) (job : List ℕ) (k i place : ℕ) (room : List ℕ) (R : Read (List ℕ)) : Type 0 where
+  pub next : ℕ
+  pub left : Holds count job k i next place (λ hs. put hs room) R
+
+pub put-begins : (count : ℕ) (job : List ℕ) (k place : ℕ) (room : List ℕ) → Putting count job k 0 place room (used (λ hs. put hs room) (rising count k) job place)
+put-begins count job k place room = record { next = 0; left = holds-begin count job k place (λ hs. put hs room) }
+
+module _ {count : ℕ} {job : List ℕ} {k i place : ℕ} {room : List ℕ} {R : Read (List ℕ)} (p : Putting count job k i place room R) where
+  pub put-ends : k ≤ i → got room place ≡ R
+  unfolding put
+  put-ends h = ends (p .left) h
+
+  module _ (h : i < k) (r : Comes R) where
+    here : Comes (hold count (p .next) .read job place)
+    here = comes-here (p .left) h r
+
+    pub put-second : Comes (group job place)
+    put-second = second-comes job count (p .next) place here
+
+    module _ {s j : ℕ} (e : got s j ≡ group job place) where
+      pub put-gear : Comes (group job j)
+      put-gear = gear-comes job count (p .next) place here e
 
       module _ {g l : ℕ} (f : got g l ≡ group job j) where
-        pub gear-in : g ≤ 255
-        unfolding holds-read hand-on
-        gear-in =
-            passed (leb (p .next) s and ltb s count) _ _ _ _ (rw (← e) at left) (λ _ x.
-            passed (within 1 255 g) _ _ _ _ (rw (← f) at x) (λ t _. within-hi 1 255 g t))
+        the-hold : got (s, g) l ≡ hold count (p .next) .read job place
+        the-hold = hold-comes job count (p .next) place here e f
 
-        pub put-again : Putting job k (i + 1) count l (set room s g) R
-        unfolding holds-read hand-on
-        put-again = record {
-          next = suc s;
-          rest = rw add-one
-              (passed (leb (p .next) s and ltb s count) _ _ _ _ (rw (← e) at left) (λ _ x.
-              passed (within 1 255 g) _ _ _ _ (rw (← f) at x) (λ _ y. y))
-              ∙ sym (r .comes));
-        }
+        pub put-fits : HoldFits count (p .next) (s, g)
+        put-fits = hold-fits job count (p .next) place the-hold
 
--- ---- a list whose first k places are those of a table
-
-pub record Tabled (f : ℕ → ℕ) (k : ℕ) (l : List ℕ) : Type 0 where
-  pub before : (j : ℕ) → j < k → at l j ≡ f j
-
-pub tabled-none : {f : ℕ → ℕ} {l : List ℕ} → Tabled f 0 l
-tabled-none = record { before = λ j h. absurd (not-suc-le-zero h) }
-
-pub tabled-more : {f : ℕ → ℕ} {k : ℕ} {l : List ℕ} → Tabled f k l → k < length l → Tabled f (k + 1) (set l k (f k))
-tabled-more {f} {k} {l} t h = record {
-  before = λ j b. by-eq {i = j} {j = k} (omega arith)
-      (λ e. rw e (getD-set-same l k (f k) 0 h))
-      (λ m. getD-set-other l k j (f k) 0 (omega arith) ∙ t .before j m);
-}
-
-pub tabled-all : {f : ℕ → ℕ} {k : ℕ} {l : List ℕ} → Tabled f k l → length l ≡ k → l ≡ table f 0 k
-tabled-all {f} {k} {l} t h =
-    ext-getD 0 l (table f 0 k) (h ∙ sym (length-table f 0 k))
-    (λ i b. t .before i (omega arith) ∙ sym (at-table f 0 k i (omega arith) ∙ rw zero-add))
+        pub put-again : Putting count job k (i + 1) l (set room s g) R
+        unfolding put
+        put-again = record { next = suc s; left = again (p .left) h the-hold }

@@ -2,12 +2,15 @@
 -- Assumes nothing.
 use Prim.Native.Nat.{ℕ}
 use native.Mathlib.Omega.{arith}
-use mathlib.Core.Path.{_≡_, refl, sym}
+use mathlib.Core.Path.{_≡_, refl, sym, _∙_}
 use mathlib.Core.Bool.{Bool, true, false}
 use mathlib.Core.List.{List, []}
+use lib.ListN.{length}
 use Rattle.rules.specs.Refusals.{Fault}
-use Rattle.rules.specs.Job.{Read, got, refused, Reader, hand-on, give, demand}
-use Rattle.jobs.specs.Stages.{Comes}
+use Rattle.rules.specs.Groups.{Read, got, refused, Reader, hand-on, give, demand}
+use Rattle.rules.specs.Forms.{Form, row, many}
+use Rattle.rules.proofs.Laws.Forms.{says-now, Sound, many-sound}
+use Rattle.jobs.specs.Stages.{Comes, used}
 
 -- two readings one after the other, and a third
 pub joined : {A B C : Type 0} (m : Read A) (f : A → Reader B) (g : B → Reader C) → hand-on (hand-on m f) g ≡ hand-on m (λ a j. hand-on (f a j) g)
@@ -45,19 +48,52 @@ comes-by {a = a} {j = j} e = record { what = a; end = j; comes = sym e }
 pub never : {A : Type 0} {m : Read A} {f : Fault} → m ≡ refused f → Comes m → ⊥
 never e c = let d = c .comes in let z : _≡_ {A = ℕ} 0 1 = cc in absurd (omega arith)
 
+-- ---- what was read, put to use
+
+-- it may be put to use otherwise, where that gives the same of what was read
+pub use-as : {A B : Type 0} {f g : A → B} (part : Form A) (job : List ℕ) (i : ℕ) → ((a : A) (j : ℕ) → part .read job i ≡ got a j → f a ≡ g a)
+    → used f part job i ≡ used g part job i
+unfolding used
+use-as part job i h = ext (part .read job i) (λ a j e. rw (h a j e))
+
+give-on : {A : Type 0} (m : Read A) → hand-on m (λ a. give a) ≡ m
+unfolding hand-on
+give-on (got a j) = refl
+give-on (refused f) = refl
+
+-- where it is put to use as it is, it is what was read
+pub use-as-is : {A : Type 0} {f : A → A} (part : Form A) (job : List ℕ) (i : ℕ) → ((a : A) (j : ℕ) → part .read job i ≡ got a j → f a ≡ a)
+    → used f part job i ≡ part .read job i
+unfolding used
+use-as-is part job i h = ext (part .read job i) (λ a j e. rw (h a j e)) ∙ give-on (part .read job i)
+
+-- as many parts are read as were asked
+pub many-length : {A : Type 0} {part : Form A} → Sound part → (job : List ℕ) (k i : ℕ) {l : List A} {j : ℕ} → many part k .read job i ≡ got l j → length l ≡ k
+unfolding many row
+many-length {part} s job k i e = says-now e (many-sound s k .one-form job i) .taken .1
+
 -- ---- what was only judged
 
--- the values that come, none in a refusal
-abbrev pub values : Read (List ℕ) → List ℕ
-values (got vs j) = vs
+-- what comes, nothing in a refusal
+abbrev pub values : {A : Type 0} → Read (List A) → List A
+values (got l j) = l
 values (refused f) = []
 
-pub judged-stops : (m : Read (List ℕ)) {f : Fault} → refused f ≡ hand-on m (λ x. give true) → refused f ≡ m
-unfolding hand-on
-judged-stops (got vs j) e = let z : _≡_ {A = ℕ} 0 1 = cc in absurd (omega arith)
-judged-stops (refused x) e = cc
+module _ {A : Type 0} (part : Form (List A)) (job : List ℕ) (i : ℕ) where
+  stops-of : (m : Read (List A)) {f : Fault} → refused f ≡ hand-on m (λ x. give true) → refused f ≡ m
+  unfolding hand-on
+  stops-of (got l j) e = let z : _≡_ {A = ℕ} 0 1 = cc in absurd (omega arith)
+  stops-of (refused x) e = cc
 
-pub judged-comes : (m : Read (List ℕ)) {k : ℕ} → got true k ≡ hand-on m (λ x. give true) → got (values m) k ≡ m
-unfolding hand-on
-judged-comes (got vs j) {k} e = let same : k ≡ j = cc in rw same
-judged-comes (refused x) e = let z : _≡_ {A = ℕ} 0 1 = cc in absurd (omega arith)
+  comes-of : (m : Read (List A)) {k : ℕ} → got true k ≡ hand-on m (λ x. give true) → got (values m) k ≡ m
+  unfolding hand-on
+  comes-of (got l j) {k} e = let same : k ≡ j = cc in rw same
+  comes-of (refused x) e = let z : _≡_ {A = ℕ} 0 1 = cc in absurd (omega arith)
+
+  pub judged-stops : {f : Fault} → refused f ≡ used (λ x. true) part job i → refused f ≡ part .read job i
+  unfolding used
+  judged-stops e = stops-of (part .read job i) e
+
+  pub judged-comes : {k : ℕ} → got true k ≡ used (λ x. true) part job i → got (values (part .read job i)) k ≡ part .read job i
+  unfolding used
+  judged-comes e = comes-of (part .read job i) e

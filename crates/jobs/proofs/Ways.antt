@@ -1,33 +1,32 @@
 -- What the stages answer, one law for each way through them.
 -- Assumes nothing.
 use Prim.Native.Nat.{ℕ, zero, suc, _+_, _-_, _*_, _%_, _<_, _≤_}
+use native.Mathlib.Nat.{zero-add}
 use native.Mathlib.Omega.{arith}
 use mathlib.Core.Path.{_≡_, refl, sym, ap, _∙_}
 use mathlib.Core.Bool.{Bool, true, false}
-use mathlib.Core.List.{List}
-use lib.ListN.{length, set, replicate}
+use mathlib.Core.List.{List, map, append-nil}
+use lib.ListN.{length, drop, replicate, length-map, length-replicate}
+use lib.Seq.{sets, sets-eq, drop-length}
 use lib.Dec.{leb, ltb}
-use borrow.Author.Tests.{le-leb, lt-leb, lt-ltb, le-ltb, leb-true, ltb-true, eq-eqb, ne-eqb, eqb-false, not-true}
+use borrow.Author.Tests.{le-leb, lt-leb, lt-ltb, le-ltb, leb-true, ltb-true, eqb-false, not-true}
 use Rattle.rules.specs.declared.Vehicle.{Vehicle}
-use Rattle.rules.specs.declared.Refusal.{Refusal}
-use Rattle.rules.specs.declared.Refusal.the-variants.{TraceLength, VehicleField, BadVersion, BadHold}
-use Rattle.rules.specs.Words.{_and_, within, at, table}
+use Rattle.rules.specs.Words.{_and_, within, at}
 use Rattle.rules.specs.Refusals.{Fault}
-use Rattle.rules.specs.Job.{Read, got, refused, hand-on, _>>=_, _>>_, give, demand, early, group-if, group, groups, holds-read}
-use Rattle.rules.specs.Laws.Reading.{ends-first, ends-second, two-bad, ends-third, three-of, good, three-if}
-use Rattle.rules.specs.Laws.Words.{by-test, by-order, and-left, and-right}
-use Rattle.rules.specs.Laws.Vehicle.{within-lo, within-hi}
-use Rattle.jobs.specs.Reader.{fault}
-use Rattle.jobs.specs.Stages.{reached, Comes, Gears, Points, bounded, filling, gearbox-read, curve-read, car-of, car-read, skipping, hold-read, judging, whole-read}
-use Rattle.jobs.specs.declared.Place.{Place}
-use Rattle.jobs.specs.declared.Place.the-variants as place-is
-use Rattle.jobs.proofs.Steps.{joined, ext, went, passed, same-value, never, values, judged-stops, judged-comes}
+use Rattle.rules.specs.Groups.{Read, got, refused, hand-on, _>>=_, give, demand, early, group-if, group}
+use Rattle.rules.specs.Forms.{Form, value, checked, bounded, _then_, seen, many, counted}
+use Rattle.rules.specs.Job.{version, gearbox, numbers, point, curve, hold, padded, vehicle-of, vehicle}
+use Rattle.rules.proofs.Laws.Reading.{ends-first, ends-second, two-bad, ends-third, three-of, good, three-if}
+use Rattle.rules.proofs.Laws.Words.{by-test, by-order, and-left, and-right, both}
+use Rattle.rules.proofs.Laws.Vehicle.{within-lo, within-hi}
+use Rattle.rules.proofs.Laws.Forms.{says-now, Sound, value-sound, bounded-sound}
+use Rattle.rules.proofs.Laws.Jobs.{point-sound}
+use Rattle.jobs.specs.Stages.{reached, Comes, used, into, gears, columns, car-of}
+use Rattle.jobs.specs.declared.Came.{Came}
+use Rattle.jobs.specs.declared.Came.the-variants as came-is
+use Rattle.jobs.proofs.Steps.{joined, ext, never, use-as-is, many-length}
 
 -- ---- tests
-
-pub both-hold : (a b : Bool) → a ≡ true → b ≡ true → a and b ≡ true
-unfolding _and_
-both-hold a b x y = rw (x, y)
 
 pub fails : (t : Bool) → (t ≡ true → ⊥) → t ≡ false
 fails true n = absurd (n refl)
@@ -35,36 +34,32 @@ fails false n = refl
 
 pub in-range : (lo hi v : ℕ) → lo ≤ v → v ≤ hi → within lo hi v ≡ true
 unfolding within
-in-range lo hi v x y = both-hold _ _ (le-leb _ _ x) (le-leb _ _ y)
+in-range lo hi v x y = both (le-leb _ _ x) (le-leb _ _ y)
 
 pub out-of-range : (lo hi v : ℕ) → (lo ≤ v → v ≤ hi → ⊥) → within lo hi v ≡ false
 out-of-range lo hi v n = fails _ (λ t. n (within-lo lo hi v t) (within-hi lo hi v t))
 
 -- ---- a value within bounds
 
-module _ (job : List ℕ) (lo hi : ℕ) (r : Refusal) (i : ℕ) where
-  pub bounded-stops : {f : Fault} → refused f ≡ group job i → refused f ≡ bounded job lo hi r i
-  unfolding bounded hand-on
+module _ (job : List ℕ) (lo hi no spot i : ℕ) where
+  pub bounded-stops : {f : Fault} → refused f ≡ group job i → refused f ≡ bounded lo hi no spot .read job i
+  unfolding bounded checked value hand-on
   bounded-stops e = rw (← e)
 
   module _ {v j : ℕ} (e : got v j ≡ group job i) where
-    pub bounded-refuses : (lo ≤ v → v ≤ hi → ⊥) → refused (fault r) ≡ bounded job lo hi r i
-    unfolding bounded hand-on demand
+    pub bounded-refuses : (lo ≤ v → v ≤ hi → ⊥) → refused (record { no = no; spot = spot }) ≡ bounded lo hi no spot .read job i
+    unfolding bounded checked value hand-on demand
     bounded-refuses n = rw (← e, out-of-range lo hi v n)
 
-    pub bounded-gives : lo ≤ v → v ≤ hi → got v j ≡ bounded job lo hi r i
-    unfolding bounded hand-on demand
+    pub bounded-gives : lo ≤ v → v ≤ hi → got v j ≡ bounded lo hi no spot .read job i
+    unfolding bounded checked value hand-on demand
     bounded-gives x y = rw (← e, in-range lo hi v x y)
 
-pub bounded-in : (job : List ℕ) (lo hi : ℕ) (r : Refusal) (i : ℕ) {v j : ℕ} → got v j ≡ bounded job lo hi r i → (lo ≤ v) × (v ≤ hi)
-unfolding bounded hand-on
-bounded-in job lo hi r i {v} e =
-    went (group job i) _ (sym e) (λ u j _ e.
-    passed (within lo hi u) _ _ _ _ e (λ t e.
-    let same : u ≡ v = same-value e in
-    let a = within-lo lo hi u t in
-    let b = within-hi lo hi u t in
-    (omega arith, omega arith)))
+  pub bounded-in : {v j : ℕ} → got v j ≡ bounded lo hi no spot .read job i → (lo ≤ v) × (v ≤ hi)
+  unfolding bounded checked
+  bounded-in {v} e =
+      let t = says-now (sym e) (bounded-sound lo hi no spot .one-form job i) .taken .1 in
+      (within-lo lo hi v t, within-hi lo hi v t)
 
 -- ---- a group that comes
 
@@ -110,158 +105,147 @@ three-is a b c x y z w = omega arith
 -- ---- a hold
 
 module _ (job : List ℕ) (next count i : ℕ) (some-second : 1 ≤ count) where
-  rising : (s : ℕ) → leb next s and ltb s count ≡ within next (count - 1) s
+  in-trace : (s : ℕ) → leb next s and ltb s count ≡ within next (count - 1) s
   unfolding within
-  rising s = ap (λ (t : Bool). leb next s and t)
+  in-trace s = ap (λ (t : Bool). leb next s and t)
       (by-order s count
       (λ l. lt-ltb s count l ∙ sym (le-leb s (count - 1) (omega arith)))
       (λ l. let m : count - 1 < s = omega arith in le-ltb s count l ∙ sym (lt-leb _ _ m)))
 
-  hold-is : hold-read job next count i ≡ (do
-    s ← bounded job next (count - 1) (BadHold i)
-    g ← bounded job 1 255 (BadHold i)
-    give (record { second = s; gear = g })) i
-  unfolding hold-read bounded hand-on
-  hold-is = simp (rising, joined)
+  hold-is : hold count next .read job i ≡ (do
+    s ← bounded next (count - 1) 15 i .read job
+    g ← bounded 1 255 15 i .read job
+    give (s, g)) i
+  unfolding hold bounded checked _then_ value hand-on
+  hold-is = simp (in-trace, joined)
 
-  pub second-stops : {f : Fault} → refused f ≡ bounded job next (count - 1) (BadHold i) i → refused f ≡ hold-read job next count i
+  pub second-stops : {f : Fault} → refused f ≡ bounded next (count - 1) 15 i .read job i → refused f ≡ hold count next .read job i
   unfolding hand-on
   second-stops e = rw (hold-is, ← e)
 
-  module _ {s j : ℕ} (e : got s j ≡ bounded job next (count - 1) (BadHold i) i) where
-    pub gear-stops : {f : Fault} → refused f ≡ bounded job 1 255 (BadHold i) j → refused f ≡ hold-read job next count i
+  module _ {s j : ℕ} (e : got s j ≡ bounded next (count - 1) 15 i .read job i) where
+    pub gear-stops : {f : Fault} → refused f ≡ bounded 1 255 15 i .read job j → refused f ≡ hold count next .read job i
     unfolding hand-on
     gear-stops f = rw (hold-is, ← e, ← f)
 
-    pub hold-gives : {g k : ℕ} → got g k ≡ bounded job 1 255 (BadHold i) j → got (record { second = s; gear = g }) k ≡ hold-read job next count i
+    pub hold-gives : {g k : ℕ} → got g k ≡ bounded 1 255 15 i .read job j → got (s, g) k ≡ hold count next .read job i
     unfolding hand-on
     hold-gives f = rw (hold-is, ← e, ← f)
 
--- ---- what was read, put to use, and how far reading came
+-- ---- a point
 
-pub reached-on : {A B : Type 0} (p : Place) (a : A) (f : A → B) {m : Read A} → reached p a ≡ m → reached p (f a) ≡ hand-on m (λ x. give (f x))
+module _ (job : List ℕ) (i : ℕ) where
+  pub n-stops : {f : Fault} → refused f ≡ group job i → refused f ≡ point .read job i
+  unfolding point _then_ value hand-on
+  n-stops e = rw (← e)
+
+  module _ {n j : ℕ} (e : got n j ≡ group job i) where
+    pub p-stops : {f : Fault} → refused f ≡ group job j → refused f ≡ point .read job i
+    unfolding point _then_ value hand-on
+    p-stops g = rw (← e, ← g)
+
+    pub point-gives : {p k : ℕ} → got p k ≡ group job j → got (n, p) k ≡ point .read job i
+    unfolding point _then_ value hand-on
+    point-gives g = rw (← e, ← g)
+
+-- ---- what is read into zeros
+
+zeros-left : (k n : ℕ) → drop {A = ℕ} k (replicate n 0) ≡ replicate (n - k) 0
+zeros-left zero n = let z : n - 0 ≡ n = omega arith in rw z
+zeros-left (suc k) zero = let z : 0 - suc k ≡ 0 = omega arith in rw z
+zeros-left (suc k) (suc n) = let z : suc n - suc k ≡ n - k = omega arith in rw z (zeros-left k n)
+
+into-zeros : (k : ℕ) (vs : List ℕ) → length vs ≤ k → sets (replicate k 0) 0 vs ≡ padded k vs
+unfolding padded
+into-zeros k vs h = sets-eq vs (replicate k 0) 0 (rw length-replicate (omega arith)) ∙ rw (zero-add, zeros-left (length vs) k)
+
+pub all-filled : (room vs : List ℕ) → length vs ≡ length room → sets room 0 vs ≡ vs
+all-filled room vs n = (rw (zero-add, n, drop-length) at (sets-eq vs room 0 (omega arith))) ∙ append-nil vs
+
+-- ---- the vehicle's parts
+
+-- what was read, put to use, and how far reading came
+pub reached-on : {A B : Type 0} (p : Came) (a : A) (f : A → B) {m : Read A} → reached p a ≡ m → reached p (f a) ≡ hand-on m (λ x. give (f x))
 unfolding hand-on
-reached-on (place-is.At j) a f e = rw (← e)
-reached-on (place-is.Fault x) a f e = rw (← e)
+reached-on (came-is.To j) a f e = rw (← e)
+reached-on (came-is.Fault x) a f e = rw (← e)
+
+-- a count, and so many parts, put to use
+module _ {A B : Type 0} (count : Form ℕ) (part : Form A) (job : List ℕ) (i : ℕ) (f : List A → B) where
+  pub counted-stops : {x : Fault} → refused x ≡ count .read job i → refused x ≡ used f (counted count (many part)) job i
+  unfolding used counted seen _then_ hand-on
+  counted-stops e = rw (← e)
+
+  module _ {v j : ℕ} (e : got v j ≡ count .read job i) where
+    counted-on : used f (many part v) job j ≡ used f (counted count (many part)) job i
+    unfolding used counted seen _then_ hand-on
+    counted-on = rw (← e) (simp joined)
+
+    -- the parts were put into rooms, of which the use is made
+    pub counted-reached : Sound part → {C : Type 0} (g : List A → C) (h : C → B) → ((l : List A) → length l ≡ v → h (g l) ≡ f l)
+        → (p : Came) (x : C) → reached p x ≡ used g (many part v) job j → reached p (h x) ≡ used f (counted count (many part)) job i
+    unfolding used hand-on
+    counted-reached s g h same p x r =
+        reached-on p x h r
+        ∙ (joined (many part v .read job j) (λ l. give (g l)) (λ x. give (h x))
+        ∙ (ext (many part v .read job j) (λ l k come. rw (same l (many-length s job v j come))) ∙ counted-on))
 
 module _ (job : List ℕ) (i : ℕ) where
-  pub gearbox-stops : {f : Fault} → refused f ≡ bounded job 2 10 (VehicleField 1) i → refused f ≡ gearbox-read job i
-  unfolding gearbox-read hand-on
-  gearbox-stops e = rw (← e)
+  pub gearbox-stops : {f : Fault} → refused f ≡ bounded 2 10 3 1 .read job i → refused f ≡ used gears gearbox job i
+  unfolding gearbox
+  gearbox-stops e = counted-stops _ value job i gears e
 
-  pub gearbox-on : {v j : ℕ} → got v j ≡ bounded job 2 10 (VehicleField 1) i → (p : Place) (room : List ℕ)
-      → reached p room ≡ filling job v (replicate 10 0) j → reached p (record { ng = v; ratio = room }) ≡ gearbox-read job i
-  unfolding gearbox-read hand-on
-  gearbox-on {v} e p room h = rw (← e) (reached-on p room (λ x. record { ng = v; ratio = x }) h)
+  pub gearbox-on : {v j : ℕ} → got v j ≡ bounded 2 10 3 1 .read job i → (p : Came) (room : List ℕ)
+      → reached p room ≡ used (sets (replicate 10 0) 0) (many value v) job j → reached p (v, room) ≡ used gears gearbox job i
+  unfolding gearbox
+  gearbox-on {v} e p room h =
+      let few = bounded-in job 2 10 3 1 i e .1 in
+      counted-reached _ value job i gears e value-sound (sets (replicate 10 0) 0) (λ x. (v, x))
+      (λ l n. rw (into-zeros 10 l (omega arith), n)) p room h
 
-  pub curve-stops : {f : Fault} → refused f ≡ bounded job 2 64 (VehicleField 11) i → refused f ≡ curve-read job i
-  unfolding curve-read hand-on
-  curve-stops e = rw (← e)
+  pub curve-stops : {f : Fault} → refused f ≡ bounded 2 64 3 11 .read job i → refused f ≡ used columns curve job i
+  unfolding curve
+  curve-stops e = counted-stops _ point job i columns e
 
-  pub curve-on : {v j : ℕ} → got v j ≡ bounded job 2 64 (VehicleField 11) i → (p : Place) (room : List ℕ)
-      → reached p room ≡ filling job (2 * v) (replicate 128 0) j
-      → reached p (record { points = v; n = table (λ k. at room (2 * k + 0)) 0 64; p = table (λ k. at room (2 * k + 1)) 0 64 }) ≡ curve-read job i
-  unfolding curve-read hand-on
-  curve-on {v} e p room h = rw (← e) (reached-on p room (λ x. record { points = v; n = table (λ k. at x (2 * k + 0)) 0 64; p = table (λ k. at x (2 * k + 1)) 0 64 }) h)
+  pub curve-on : {v j : ℕ} → got v j ≡ bounded 2 64 3 11 .read job i → (p : Came) (rooms : List ℕ × List ℕ)
+      → reached p rooms ≡ used (into (replicate 64 0) (replicate 64 0) 0) (many point v) job j → reached p (v, rooms) ≡ used columns curve job i
+  unfolding curve
+  curve-on {v} e p rooms h =
+      let few = bounded-in job 2 64 3 11 i e .1 in
+      counted-reached _ point job i columns e point-sound (into (replicate 64 0) (replicate 64 0) 0) (λ x. (v, x))
+      (λ l n. rw (into-zeros 64 (map (λ x. x .0) l) (rw length-map (omega arith)), into-zeros 64 (map (λ x. x .1) l) (rw length-map (omega arith)), n)) p rooms h
+
+-- ---- the version and the vehicle
+
+abbrev pub head : Form (ℕ × Vehicle)
+head = version then λ v. vehicle
+
+eight-filled : (job : List ℕ) (i : ℕ) → used (sets (replicate 8 0) 0) (many value 8) job i ≡ numbers .read job i
+unfolding numbers
+eight-filled job i = use-as-is (many value 8) job i (λ l k come. all-filled (replicate 8 0) l (many-length value-sound job 8 i come))
+
+-- the vehicle as its parts are read
+vehicle-is : (job : List ℕ) (i : ℕ) → vehicle .read job i
+    ≡ hand-on (used gears gearbox job i) (λ b j. hand-on (numbers .read job j) (λ ns k. hand-on (used columns curve job k) (λ c. give (car-of b ns c))))
+unfolding vehicle vehicle-of seen _then_ used hand-on
+vehicle-is job i = simp joined
 
 module _ (job : List ℕ) (i : ℕ) where
-  pub version-stops : {f : Fault} → refused f ≡ bounded job 1 1 BadVersion i → refused f ≡ car-read job i
-  unfolding car-read hand-on
+  pub version-stops : {f : Fault} → refused f ≡ bounded 1 1 14 0 .read job i → refused f ≡ head .read job i
+  unfolding version _then_ hand-on
   version-stops e = rw (← e)
 
-  module _ {v j : ℕ} (e : got v j ≡ bounded job 1 1 BadVersion i) where
-    pub gears-stop : {f : Fault} → refused f ≡ gearbox-read job j → refused f ≡ car-read job i
-    unfolding car-read hand-on
-    gears-stop g = rw (← e, ← g)
+  module _ {v j : ℕ} (e : got v j ≡ bounded 1 1 14 0 .read job i) where
+    pub gears-stop : {f : Fault} → refused f ≡ used gears gearbox job j → refused f ≡ head .read job i
+    unfolding version _then_ hand-on
+    gears-stop g = rw (← e, vehicle-is, ← g)
 
-    module _ {b : Gears} {k : ℕ} (g : got b k ≡ gearbox-read job j) where
-      pub numbers-stop : {f : Fault} → refused f ≡ filling job 8 (replicate 8 0) k → refused f ≡ car-read job i
-      unfolding car-read hand-on
-      numbers-stop n = rw (← e, ← g, ← n)
+    module _ {b : ℕ × List ℕ} {k : ℕ} (g : got b k ≡ used gears gearbox job j) where
+      pub numbers-stop : {f : Fault} → refused f ≡ used (sets (replicate 8 0) 0) (many value 8) job k → refused f ≡ head .read job i
+      unfolding version _then_ hand-on
+      numbers-stop n = rw (← e, vehicle-is, ← g, ← eight-filled, ← n)
 
-      pub car-on : {ns : List ℕ} {l : ℕ} → got ns l ≡ filling job 8 (replicate 8 0) k → (p : Place) (c : Points)
-          → reached p c ≡ curve-read job l → reached p (car-of b ns c) ≡ car-read job i
-      unfolding car-read hand-on
-      car-on {ns} n p c h = rw (← e, ← g, ← n) (reached-on p c (λ x. car-of b ns x) h)
-
--- ---- holds are judged as they are read
-
-pub holds-more : (job : List ℕ) (k next count : ℕ) (hs : List ℕ) (i : ℕ)
-    → holds-read job (suc k) next count hs i ≡ hand-on (hold-read job next count i) (λ h. holds-read job k (suc (h .second)) count (set hs (h .second) (h .gear)))
-unfolding holds-read hold-read hand-on
-holds-more job k next count hs i = simp joined
-
-judged : (job : List ℕ) (k next count : ℕ) (hs : List ℕ) (i : ℕ)
-    → judging job k next count i ≡ hand-on (holds-read job k next count hs i) (λ x. give true)
-unfolding judging holds-read hand-on
-judged job zero next count hs i = refl
-judged job (suc k) next count hs i =
-    ext (hold-read job next count i) (λ h j _. judged job k (suc (h .second)) count (set hs (h .second) (h .gear)) j)
-    ∙ sym (rw holds-more (joined (hold-read job next count i) _ _))
-
-judged-kept : (job : List ℕ) (k count i : ℕ) → judging job k 0 count i ≡ hand-on (holds-read job k 0 count (replicate count 0) i) (λ x. give true)
-judged-kept job k count i = judged job k 0 count (replicate count 0) i
-
-pub judge-comes : (job : List ℕ) (k count i : ℕ) {j : ℕ} → got true j ≡ judging job k 0 count i
-    → got (values (holds-read job k 0 count (replicate count 0) i)) j ≡ holds-read job k 0 count (replicate count 0) i
-judge-comes job k count i e = judged-comes _ (e ∙ judged-kept job k count i)
-
-judge-refuses : (job : List ℕ) (k count i : ℕ) {f : Fault} → refused f ≡ judging job k 0 count i → refused f ≡ holds-read job k 0 count (replicate count 0) i
-judge-refuses job k count i e = judged-stops _ (e ∙ judged-kept job k count i)
-
--- ---- speeds are judged as they are read
-
-pub skip-comes : (job : List ℕ) (k i : ℕ) {j : ℕ} → got true j ≡ skipping job k i → got (values (groups job k i)) j ≡ groups job k i
-unfolding skipping
-skip-comes job k i e = judged-comes _ e
-
-skip-refuses : (job : List ℕ) (k i : ℕ) {f : Fault} → refused f ≡ skipping job k i → refused f ≡ groups job k i
-unfolding skipping
-skip-refuses job k i e = judged-stops _ e
-
--- ---- the whole job
-
-module _ (job : List ℕ) (a b i : ℕ) where
-  pub car-stops : {f : Fault} → refused f ≡ car-read job i → refused f ≡ whole-read job a b i
-  unfolding whole-read hand-on
-  car-stops e = rw (← e)
-
-  module _ {car : Vehicle} {j : ℕ} (c : got car j ≡ car-read job i) where
-    pub count-stops : {f : Fault} → refused f ≡ bounded job 1 2048 TraceLength j → refused f ≡ whole-read job a b i
-    unfolding whole-read hand-on
-    count-stops e = rw (← c, ← e)
-
-    module _ {n t : ℕ} (d : got n t ≡ bounded job 1 2048 TraceLength j) where
-      pub no-room : (n ≤ a → n ≤ b → ⊥) → refused (record { no = 2; spot = 0 }) ≡ whole-read job a b i
-      unfolding whole-read hand-on demand
-      no-room h =
-          let r : leb n a and leb n b ≡ false = fails _ (λ r. h (leb-true _ _ (and-left _ _ r)) (leb-true _ _ (and-right _ _ r))) in
-          rw (← c, ← d, r)
-
-      module _ (x : n ≤ a) (y : n ≤ b) where
-        room : leb n a and leb n b ≡ true
-        room = both-hold _ _ (le-leb _ _ x) (le-leb _ _ y)
-
-        pub speeds-stop : {f : Fault} → refused f ≡ skipping job n t → refused f ≡ whole-read job a b i
-        unfolding whole-read hand-on demand
-        speeds-stop e = rw (← c, ← d, room, ← skip-refuses job n t e)
-
-        module _ {k : ℕ} (s : got true k ≡ skipping job n t) where
-          pub number-stops : {f : Fault} → refused f ≡ group job k → refused f ≡ whole-read job a b i
-          unfolding whole-read hand-on demand
-          number-stops e = rw (← c, ← d, room, ← skip-comes job n t s, ← e)
-
-          module _ {h l : ℕ} (g : got h l ≡ group job k) where
-            pub holds-stop : {f : Fault} → refused f ≡ judging job h 0 n l → refused f ≡ whole-read job a b i
-            unfolding whole-read hand-on demand
-            holds-stop e = rw (← c, ← d, room, ← skip-comes job n t s, ← g, ← judge-refuses job h n l e)
-
-            module _ {z : ℕ} (q : got true z ≡ judging job h 0 n l) where
-              pub more-bytes : (z ≡ length job → ⊥) → refused (record { no = 16; spot = z }) ≡ whole-read job a b i
-              unfolding whole-read hand-on demand
-              more-bytes e = rw (← c, ← d, room, ← skip-comes job n t s, ← g, ← judge-comes job h n l q, ne-eqb _ _ e)
-
-              pub whole-gives : z ≡ length job
-                  → got (record { vehicle = car; speeds = values (groups job n t); holds = values (holds-read job h 0 n (replicate n 0) l) }) z ≡ whole-read job a b i
-              unfolding whole-read hand-on demand
-              whole-gives e = rw (← c, ← d, room, ← skip-comes job n t s, ← g, ← judge-comes job h n l q, eq-eqb _ _ e)
+      pub car-on : {ns : List ℕ} {l : ℕ} → got ns l ≡ used (sets (replicate 8 0) 0) (many value 8) job k → (p : Came) (c : ℕ × (List ℕ × List ℕ))
+          → reached p c ≡ used columns curve job l → reached p (v, car-of b ns c) ≡ head .read job i
+      unfolding version _then_ hand-on
+      car-on {ns} n p c h = rw (← e, vehicle-is, ← g, ← eight-filled, ← n) (reached-on p c (λ x. (v, car-of b ns x)) h ∙ simp joined)

@@ -6,7 +6,8 @@ use mathlib.Core.List.{List}
 use lib.ListN.{length}
 use Rattle.rules.specs.declared.Refusal.{Refusal}
 use Rattle.rules.specs.Refusals.{Fault, number, place, said}
-use Rattle.rules.specs.Job.{Read, got, refused, Job, job-read, read-fault, job-of, filled}
+use Rattle.rules.specs.Groups.{Read, got, refused}
+use Rattle.rules.specs.Job.{Job, job-read, read-fault, job-of, filled}
 use Rattle.jobs.specs.declared.Group.{Group}
 use Rattle.jobs.specs.declared.Group.the-variants as group-is
 use Rattle.jobs.specs.declared.Reading.{Reading}
@@ -22,11 +23,12 @@ told (group-is.Fault f) = refused (fault f)
 
 -- what is read of a job into these rooms
 unfoldable pub reading : List ℕ → List ℕ → List ℕ → Read Job
-reading job speeds holds = job-read job (length speeds) (length holds) 0
+reading job speeds holds = job-read job (length speeds) (length holds)
 
--- the answer r, and the rooms as they are left, are what is read: in a refusal a blank vehicle, no seconds, and rooms as they were
+-- the answer r, and the rooms as they are left, are what is read: in a refusal version 0, a blank vehicle, no seconds, and rooms as they were
 pub record ReadAs (job speeds holds : List ℕ) (r : Reading) (speeds′ holds′ : List ℕ) : Type 0 where
   pub answered : said (r .answer) ≡ read-fault (reading job speeds holds)
+  pub the-version : r .version ≡ job-of (reading job speeds holds) .version
   pub the-vehicle : r .vehicle ≡ job-of (reading job speeds holds) .vehicle
   pub the-count : r .count ≡ length (job-of (reading job speeds holds) .speeds)
   pub speeds-left : speeds′ ≡ filled speeds (job-of (reading job speeds holds) .speeds)

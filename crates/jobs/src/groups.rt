@@ -3,12 +3,15 @@ ghost use mathlib.Core.Path.{_≡_};
 ghost use mathlib.Core.Bool.{true};
 ghost use Prim.Native.Nat.{_≤_};
 ghost use lib.ListN.{length};
-ghost use Rattle.rules.specs.Job.{got, group, groups};
+ghost use Rattle.rules.specs.Refusals.{number, place};
+ghost use Rattle.rules.specs.Groups.{got, group};
+ghost use Rattle.rules.specs.Forms.{value, bounded, many};
 ghost use Rattle.jobs.specs.Reader.{told};
-ghost use Rattle.jobs.specs.Stages.{reached, Comes, bounded, filling, skipping};
+ghost use lib.Seq.{sets};
+ghost use Rattle.jobs.specs.Stages.{reached, Comes, used};
+use crate::Came;
 use crate::Group;
 use crate::Judged;
-use crate::Place;
 use rules::Refusal;
 
 // A group: seven bits a byte, least significant first, the top bit set when more follow; one to three bytes, shortest form only.
@@ -52,7 +55,7 @@ pub fn group_at(job: &[u8], at: usize) -> Group
 
 // A group from lo to hi; another is refused as the caller says.
 pub fn bounded(job: &[u8], at: usize, lo: u16, hi: u16, refusal: Refusal) -> Group
-    ensures { λ r. ⌜ told r ≡ bounded (now (job .entry)) lo hi refusal at ⌝ }
+    ensures { λ r. ⌜ told r ≡ bounded lo hi (number refusal) (place refusal) .read (now (job .entry)) at ⌝ }
 {
     let g = group_at(job, at);
     let Group::Value(v, next) = g else {
@@ -68,39 +71,39 @@ pub fn bounded(job: &[u8], at: usize, lo: u16, hi: u16, refusal: Refusal) -> Gro
 }
 
 // So many groups, into the start of a room of the reader's own.
-pub fn fill(job: &[u8], at: usize, count: usize, values: &mut [u16]) -> Place
+pub fn fill(job: &[u8], at: usize, count: usize, values: &mut [u16]) -> Came
     requires { ⌜ count ≤ length (now values) ⌝ }
-    ensures { λ r. ⌜ reached r (now (values .exit)) ≡ filling (now (job .entry)) count (now (values .entry)) at ⌝ }
+    ensures { λ r. ⌜ reached r (now (values .exit)) ≡ used (sets (now (values .entry)) 0) (many value count) (now (job .entry)) at ⌝ }
 {
     let mut next = at;
     let mut i = 0;
     while i < count {
         let g = group_at(job, next);
         let Group::Value(v, after) = g else {
-            return g.place();
+            return g.came();
         };
         values[i] = v;
         next = after;
         i += 1;
     }
-    Place::At(next)
+    Came::To(next)
 }
 
 // So many groups, judged and not kept.
-pub fn skip(job: &[u8], at: usize, count: usize) -> Place
-    ensures { λ r. ⌜ reached r true ≡ skipping (now (job .entry)) count at ⌝ }
+pub fn skip(job: &[u8], at: usize, count: usize) -> Came
+    ensures { λ r. ⌜ reached r true ≡ used (λ vs. true) (many value count) (now (job .entry)) at ⌝ }
 {
     let mut next = at;
     let mut i = 0;
     while i < count {
         let g = group_at(job, next);
         let Group::Value(_, after) = g else {
-            return g.place();
+            return g.came();
         };
         next = after;
         i += 1;
     }
-    Place::At(next)
+    Came::To(next)
 }
 
 // A group that was judged, so nothing is left to test but how long it is.
@@ -134,8 +137,8 @@ pub fn judged_at(job: &[u8], at: usize) -> Judged
 
 // A room is filled with speeds that were judged; answers the place after them.
 pub fn put_speeds(job: &[u8], at: usize, room: &mut [u16]) -> usize
-    requires { ⌜ Comes (groups (now job) (length (now room)) at) ⌝ }
-    ensures { λ r. ⌜ got (now (room .exit)) r ≡ groups (now (job .entry)) (length (now (room .entry))) at ⌝ }
+    requires { ⌜ Comes (many value (length (now room)) .read (now job) at) ⌝ }
+    ensures { λ r. ⌜ got (now (room .exit)) r ≡ many value (length (now (room .entry))) .read (now (job .entry)) at ⌝ }
 {
     let mut next = at;
     let mut i = 0;

@@ -3,18 +3,19 @@ ghost use mathlib.Core.Path.{_≡_};
 ghost use mathlib.Core.Bool.{true};
 ghost use Prim.Native.Nat.{_≤_};
 ghost use lib.ListN.{length, replicate};
-ghost use Rattle.rules.specs.Job.{got, holds-read};
-ghost use Rattle.jobs.specs.Stages.{reached, Comes, judging};
+ghost use Rattle.rules.specs.Groups.{got};
+ghost use Rattle.rules.specs.Job.{rising, put};
+ghost use Rattle.jobs.specs.Stages.{reached, Comes, used};
+use crate::Came;
 use crate::Group;
-use crate::Place;
 use crate::groups::bounded;
 use crate::groups::judged_at;
 use rules::Refusal;
 
 // So many holds, judged and not kept: each second from `next` on and before `count`, judged before its gear is read.
-pub fn judge_holds(job: &[u8], at: usize, holds: usize, count: u16) -> Place
+pub fn judge_holds(job: &[u8], at: usize, holds: usize, count: u16) -> Came
     requires { ⌜ 1 ≤ count ⌝ }
-    ensures { λ r. ⌜ reached r true ≡ judging (now (job .entry)) holds 0 count at ⌝ }
+    ensures { λ r. ⌜ reached r true ≡ used (λ hs. true) (rising count holds) (now (job .entry)) at ⌝ }
 {
     let last = count - 1;
     let mut place = at;
@@ -23,17 +24,17 @@ pub fn judge_holds(job: &[u8], at: usize, holds: usize, count: u16) -> Place
     while i < holds {
         let s = bounded(job, place, next, last, Refusal::BadHold(place));
         let Group::Value(second, then) = s else {
-            return s.place();
+            return s.came();
         };
         let g = bounded(job, then, 1, 255, Refusal::BadHold(place));
         let Group::Value(_, after) = g else {
-            return g.place();
+            return g.came();
         };
         place = after;
         next = second + 1;
         i += 1;
     }
-    Place::At(place)
+    Came::To(place)
 }
 
 // No hold at any second.
@@ -49,8 +50,8 @@ fn clear(room: &mut [u8])
 
 // A room is filled with holds that were judged, and 0 where there is none; answers the place after them.
 pub fn put_holds(job: &[u8], at: usize, holds: usize, room: &mut [u8]) -> usize
-    requires { ⌜ Comes (holds-read (now job) holds 0 (length (now room)) (replicate (length (now room)) 0) at) ⌝ }
-    ensures { λ r. ⌜ got (now (room .exit)) r ≡ holds-read (now (job .entry)) holds 0 (length (now (room .entry))) (replicate (length (now (room .entry))) 0) at ⌝ }
+    requires { ⌜ Comes (rising (length (now room)) holds .read (now job) at) ⌝ }
+    ensures { λ r. ⌜ got (now (room .exit)) r ≡ used (λ hs. put hs (replicate (length (now (room .entry))) 0)) (rising (length (now (room .entry))) holds) (now (job .entry)) at ⌝ }
 {
     clear(room);
     let mut place = at;

@@ -1,7 +1,7 @@
 // The job reader of document 01: the first fault from left to right, and nothing written where there is one.
 ghost use mathlib.Core.Path.{_≡_};
 ghost use Rattle.jobs.specs.Reader.{ReadAs};
-ghost use Rattle.jobs.specs.Stages.{group-place, place-answer, nothing};
+ghost use Rattle.jobs.specs.Stages.{group-came, came-answer, nothing};
 
 mod groups;
 mod holds;
@@ -14,6 +14,7 @@ use groups::skip;
 use holds::judge_holds;
 use holds::put_holds;
 use rules::Answer;
+use rules::LONGEST;
 use rules::Refusal;
 use rules::Vehicle;
 use vehicle::blank;
@@ -26,8 +27,8 @@ pub enum Group {
 }
 
 // How far reading came: the place after what was read, or why not.
-enum Place {
-    At(usize),
+enum Came {
+    To(usize),
     Fault(Refusal),
 }
 
@@ -37,62 +38,65 @@ struct Judged {
     next: usize,
 }
 
-// The gears, the curve and the whole vehicle, each with how far reading came.
+// The gears, the curve, and the version with the whole vehicle, each with how far reading came.
 struct Gearbox {
-    at: Place,
+    at: Came,
     ng: u16,
     ratio: [u16; 10],
 }
 
 struct Curve {
-    at: Place,
+    at: Came,
     points: u16,
     n: [u16; 64],
     p: [u16; 64],
 }
 
 struct Car {
-    at: Place,
+    at: Came,
+    version: u16,
     vehicle: Vehicle,
 }
 
-// What the reader answers; where it refuses, the vehicle is of zeros and the count 0.
+// What the reader answers; where it refuses, the version is 0, the vehicle of zeros and the count 0.
 pub struct Reading {
     pub answer: Answer,
+    pub version: u16,
     pub vehicle: Vehicle,
     pub count: usize,
 }
 
 impl Group {
     // Hands a fault up to where only the place is asked.
-    fn place(self) -> Place
-        ensures { λ r. ⌜ r ≡ group-place self ⌝ }
+    fn came(self) -> Came
+        ensures { λ r. ⌜ r ≡ group-came self ⌝ }
     {
         match self {
-            Group::Value(_, at) => Place::At(at),
-            Group::Fault(refusal) => Place::Fault(refusal),
+            Group::Value(_, at) => Came::To(at),
+            Group::Fault(refusal) => Came::Fault(refusal),
         }
     }
 }
 
-impl Place {
+impl Came {
     // Hands a fault up to the reader's own answer.
     fn answer(self) -> Answer
-        ensures { λ r. ⌜ r ≡ place-answer self ⌝ }
+        ensures { λ r. ⌜ r ≡ came-answer self ⌝ }
     {
         match self {
-            Place::At(_) => Answer::Done,
-            Place::Fault(refusal) => Answer::Refused(refusal),
+            Came::To(_) => Answer::Done,
+            Came::Fault(refusal) => Answer::Refused(refusal),
         }
     }
 }
 
 // Nothing is read: how far reading came says why.
-fn nothing(at: Place) -> Reading
-    ensures { λ r. ⌜ r ≡ nothing (place-answer at) ⌝ }
+fn nothing(at: Came) -> Reading
+    ensures { λ r. ⌜ r ≡ nothing (came-answer at) ⌝ }
 {
     Reading {
         answer: at.answer(),
+        version: 0,
         vehicle: blank(),
         count: 0,
     }
@@ -105,41 +109,42 @@ pub fn read(job: &[u8], speeds: &mut [u16], holds: &mut [u8]) -> Reading
 {
     let car = car_at(job);
     let came = car.at;
-    let Place::At(at) = came else {
+    let Came::To(at) = came else {
         return nothing(came);
     };
-    let seconds = bounded(job, at, 1, 2048, Refusal::TraceLength);
+    let seconds = bounded(job, at, 1, LONGEST as u16, Refusal::TraceLength);
     let Group::Value(samples, trace) = seconds else {
-        return nothing(seconds.place());
+        return nothing(seconds.came());
     };
     let count = samples as usize;
     if speeds.len() < count {
-        return nothing(Place::Fault(Refusal::RoomLength));
+        return nothing(Came::Fault(Refusal::RoomLength));
     }
     if holds.len() < count {
-        return nothing(Place::Fault(Refusal::RoomLength));
+        return nothing(Came::Fault(Refusal::RoomLength));
     }
     let skipped = skip(job, trace, count);
-    let Place::At(at) = skipped else {
+    let Came::To(at) = skipped else {
         return nothing(skipped);
     };
     let number = group_at(job, at);
     let Group::Value(n, first) = number else {
-        return nothing(number.place());
+        return nothing(number.came());
     };
     let held = n as usize;
     let judged = judge_holds(job, first, held, samples);
-    let Place::At(end) = judged else {
+    let Came::To(end) = judged else {
         return nothing(judged);
     };
     if end != job.len() {
-        return nothing(Place::Fault(Refusal::BytesAfter(end)));
+        return nothing(Came::Fault(Refusal::BytesAfter(end)));
     }
     put_speeds(job, trace, &mut speeds[..count]);
     put_holds(job, first, held, &mut holds[..count]);
     let vehicle = car.vehicle;
     Reading {
         answer: Answer::Done,
+        version: car.version,
         vehicle,
         count,
     }

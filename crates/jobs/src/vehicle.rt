@@ -1,33 +1,25 @@
 // The version and the vehicle.
 ghost use mathlib.Core.Path.{_≡_};
-ghost use Prim.Native.Nat.{_≤_, _+_, _*_};
+ghost use Prim.Native.Nat.{_≤_};
+ghost use lib.ListN.{length};
 ghost use lib.IntN.{pos, _-ℤ_};
-ghost use Rattle.rules.specs.Words.{at, table};
-ghost use Rattle.rules.specs.Job.{blank};
-ghost use Rattle.jobs.specs.Stages.{reached, gears-of, points-of, car-of, gearbox-read, curve-read, car-read};
+ghost use Rattle.rules.specs.Forms.{_then_, many};
+ghost use Rattle.rules.specs.Job.{version, gearbox, point, curve, vehicle, blank};
+ghost use Rattle.jobs.specs.Stages.{reached, used, into, gears, columns, car-of};
+use crate::Came;
 use crate::Car;
 use crate::Curve;
 use crate::Gearbox;
 use crate::Group;
-use crate::Place;
 use crate::groups::bounded;
 use crate::groups::fill;
+use crate::groups::group_at;
+use rules::FEWEST_GEARS;
+use rules::FEWEST_POINTS;
+use rules::MOST_GEARS;
+use rules::MOST_POINTS;
 use rules::Refusal;
 use rules::Vehicle;
-
-// Every second number of the curve: from 0 on the points' n, from 1 on their p.
-fn column(curve: &[u16; 128], from: usize) -> [u16; 64]
-    requires { ⌜ from ≤ 1 ⌝ }
-    ensures { λ r. ⌜ r ≡ table (λ k. at (now (curve .entry)) (2 * k + from)) 0 64 ⌝ }
-{
-    let mut half = [0u16; 64];
-    let mut k: usize = 0;
-    while k < 64 {
-        half[k] = curve[2 * k + from];
-        k += 1;
-    }
-    half
-}
 
 // F1, which stands in the job with 5,000 added.
 fn signed(x: u16) -> i32
@@ -59,13 +51,13 @@ pub fn blank() -> Vehicle
 
 // The gear count and the ratios; places past the gears stay 0.
 fn gearbox_at(job: &[u8], at: usize) -> Gearbox
-    ensures { λ r. ⌜ reached (r .at) (gears-of r) ≡ gearbox-read (now (job .entry)) at ⌝ }
+    ensures { λ r. ⌜ reached (r .at) (r .ng, r .ratio) ≡ used gears gearbox (now (job .entry)) at ⌝ }
 {
     let mut ratio = [0u16; 10];
-    let count = bounded(job, at, 2, 10, Refusal::VehicleField(1));
+    let count = bounded(job, at, FEWEST_GEARS, MOST_GEARS, Refusal::VehicleField(1));
     let Group::Value(ng, next) = count else {
         return Gearbox {
-            at: count.place(),
+            at: count.came(),
             ng: 0,
             ratio,
         };
@@ -74,23 +66,52 @@ fn gearbox_at(job: &[u8], at: usize) -> Gearbox
     Gearbox { at: end, ng, ratio }
 }
 
-// The point count and the points, the n and the p of each in turn; places past the points stay 0.
-fn curve_at(job: &[u8], at: usize) -> Curve
-    ensures { λ r. ⌜ reached (r .at) (points-of r) ≡ curve-read (now (job .entry)) at ⌝ }
+// So many points, n and p of each in turn, into the starts of two rooms of the reader's own.
+fn fill_points(job: &[u8], at: usize, count: usize, ns: &mut [u16], ps: &mut [u16]) -> Came
+    requires { ⌜ (count ≤ length (now ns)) × (count ≤ length (now ps)) ⌝ }
+    ensures { λ r. ⌜ reached r (now (ns .exit), now (ps .exit)) ≡ used (into (now (ns .entry)) (now (ps .entry)) 0) (many point count) (now (job .entry)) at ⌝ }
 {
-    let mut pairs = [0u16; 128];
-    let count = bounded(job, at, 2, 64, Refusal::VehicleField(11));
+    let mut next = at;
+    let mut i = 0;
+    while i < count {
+        let g = group_at(job, next);
+        let Group::Value(n, then) = g else {
+            return g.came();
+        };
+        let h = group_at(job, then);
+        let Group::Value(p, after) = h else {
+            return h.came();
+        };
+        ns[i] = n;
+        ps[i] = p;
+        next = after;
+        i += 1;
+    }
+    Came::To(next)
+}
+
+// The point count and the points; places past the points stay 0.
+fn curve_at(job: &[u8], at: usize) -> Curve
+    ensures { λ r. ⌜ reached (r .at) (r .points, (r .n, r .p)) ≡ used columns curve (now (job .entry)) at ⌝ }
+{
+    let mut n = [0u16; 64];
+    let mut p = [0u16; 64];
+    let count = bounded(
+        job,
+        at,
+        FEWEST_POINTS,
+        MOST_POINTS,
+        Refusal::VehicleField(11),
+    );
     let Group::Value(points, next) = count else {
         return Curve {
-            at: count.place(),
+            at: count.came(),
             points: 0,
-            n: [0u16; 64],
-            p: [0u16; 64],
+            n,
+            p,
         };
     };
-    let end = fill(job, next, 2 * (points as usize), &mut pairs);
-    let n = column(&pairs, 0);
-    let p = column(&pairs, 1);
+    let end = fill_points(job, next, points as usize, &mut n, &mut p);
     Curve {
         at: end,
         points,
@@ -101,7 +122,7 @@ fn curve_at(job: &[u8], at: usize) -> Curve
 
 // The vehicle of its parts; the numbers are idle, rated, nmax, F0, F1, F2, TM and M.
 fn vehicle_of(gearbox: Gearbox, numbers: [u16; 8], curve: Curve) -> Vehicle
-    ensures { λ r. ⌜ r ≡ car-of (gears-of gearbox) numbers (points-of curve) ⌝ }
+    ensures { λ r. ⌜ r ≡ car-of (gearbox .ng, gearbox .ratio) numbers (curve .points, (curve .n, curve .p)) ⌝ }
 {
     let ratio = gearbox.ratio;
     let n = curve.n;
@@ -124,37 +145,39 @@ fn vehicle_of(gearbox: Gearbox, numbers: [u16; 8], curve: Curve) -> Vehicle
 }
 
 // No vehicle: how far reading came says why.
-fn no_car(at: Place) -> Car
+fn no_car(at: Came) -> Car
     ensures { λ r. ⌜ r .at ≡ at ⌝ }
 {
     Car {
         at,
+        version: 0,
         vehicle: blank(),
     }
 }
 
 // The version and the vehicle.
 pub fn car_at(job: &[u8]) -> Car
-    ensures { λ r. ⌜ reached (r .at) (r .vehicle) ≡ car-read (now (job .entry)) 0 ⌝ }
+    ensures { λ r. ⌜ reached (r .at) (r .version, r .vehicle) ≡ (version then λ v. vehicle) .read (now (job .entry)) 0 ⌝ }
 {
     let version = bounded(job, 0, 1, 1, Refusal::BadVersion);
-    let Group::Value(_, at) = version else {
-        return no_car(version.place());
+    let Group::Value(v, at) = version else {
+        return no_car(version.came());
     };
     let gearbox = gearbox_at(job, at);
     let gears = gearbox.at;
-    let Place::At(at) = gears else {
+    let Came::To(at) = gears else {
         return no_car(gears);
     };
     let mut numbers = [0u16; 8];
     let eight = fill(job, at, 8, &mut numbers);
-    let Place::At(at) = eight else {
+    let Came::To(at) = eight else {
         return no_car(eight);
     };
     let curve = curve_at(job, at);
     let end = curve.at;
     Car {
         at: end,
+        version: v,
         vehicle: vehicle_of(gearbox, numbers, curve),
     }
 }

@@ -12,7 +12,7 @@ use Rattle.rules.specs.declared.Refusal.the-variants.{TraceLength, RoomL
 use Rattle.rules.specs.declared.Answer.{Answer}
 use Rattle.rules.specs.declared.Answer.the-variants.{Done, Refused}
 use Rattle.rules.specs.Words.{if_then_else_, _and_, _or_, within, at, first}
-use Rattle.rules.specs.Units.{bad-field, longest, moving}
+use Rattle.rules.specs.Units.{bad-field, longest, fastest, steepest, moving}
 use Rattle.rules.specs.Gears.{under-nmax}
 use Rattle.rules.specs.Corrections.{first-at, card}
 
@@ -120,16 +120,20 @@ check-number at-rest = 8
 check-number over-rev = 9
 check-number no-gear = 10
 
--- the table's order
+-- 4 to 9, in the table's order
 unfoldable pub checks : List Check
-checks = speed ∷ step ∷ ends ∷ over-ng ∷ at-rest ∷ over-rev ∷ no-gear ∷ []
+checks = speed ∷ step ∷ ends ∷ over-ng ∷ at-rest ∷ over-rev ∷ []
+
+-- 10, which comes after them
+unfoldable pub last-check : List Check
+last-check = no-gear ∷ []
 
 -- the check fails at second i, of a span that begins at lo
 unfoldable pub bad : Check → Vehicle → List ℕ → List ℕ → ℕ → ℕ → Bool
 -- 4: speed over 2,000
-bad speed car vs hs lo i = ltb 2000 (at vs i)
+bad speed car vs hs lo i = ltb fastest (at vs i)
 -- 5: |step from the second before| over 150; checked where both its seconds are in the span
-bad step car vs hs lo i = ltb lo i and (ltb (at vs (i - 1) + 150) (at vs i) or ltb (at vs i + 150) (at vs (i - 1)))
+bad step car vs hs lo i = ltb lo i and (ltb (at vs (i - 1) + steepest) (at vs i) or ltb (at vs i + steepest) (at vs (i - 1)))
 -- 6: first, then last, sample is moving
 bad ends car vs hs lo i = moving (at vs i) and (eqb i 0 or eqb (suc i) (length vs))
 -- 7: hold above ng
@@ -146,9 +150,17 @@ unfoldable pub fault-of : Vehicle → List ℕ → List ℕ → ℕ → ℕ → 
 fault-of car vs hs lo hi [] = none
 fault-of car vs hs lo hi (c ∷ cs) = refuse-at (check-number c) (first (bad c car vs hs lo) lo (hi - lo)) orelse fault-of car vs hs lo hi cs
 
--- 4 to 10 on the seconds from lo up to hi
+-- 4 to 9 on the seconds from lo up to hi
+unfoldable pub seconds-fault : Vehicle → List ℕ → List ℕ → ℕ → ℕ → Option Fault
+seconds-fault car vs hs lo hi = fault-of car vs hs lo hi checks
+
+-- 10 on them, for want of a gear
+unfoldable pub gear-fault : Vehicle → List ℕ → List ℕ → ℕ → ℕ → Option Fault
+gear-fault car vs hs lo hi = fault-of car vs hs lo hi last-check
+
+-- 4 to 10
 unfoldable pub span-fault : Vehicle → List ℕ → List ℕ → ℕ → ℕ → Option Fault
-span-fault car vs hs lo hi = fault-of car vs hs lo hi checks
+span-fault car vs hs lo hi = seconds-fault car vs hs lo hi orelse gear-fault car vs hs lo hi
 
 -- ---- the whole working
 
@@ -164,3 +176,13 @@ left (some f) old new = old
 -- the card that the working leaves
 unfoldable pub work-card : Vehicle → List ℕ → List ℕ → List ℕ → List ℕ
 work-card car vs hs old = left (work-fault car vs hs old) old (card car vs hs)
+
+-- ---- an edit of one second
+
+-- 11: second outside the trace
+unfoldable pub second-fault : List ℕ → ℕ → Option Fault
+second-fault vs s = refuse-at 11 (when (not (ltb s (length vs))) s)
+
+-- 1, 2, 3 and 11, then the edit's own checks
+unfoldable pub edit-fault : Vehicle → List ℕ → List ℕ → List ℕ → ℕ → Option Fault → Option Fault
+edit-fault car vs hs old s own = trace-fault vs orelse room-fault vs hs old orelse vehicle-fault car orelse second-fault vs s orelse own

@@ -8,29 +8,29 @@ use lib.ListN.{length}
 use Rattle.rules.specs.declared.Answer.{Answer}
 use Rattle.rules.specs.declared.Answer.the-variants.{Done, Refused}
 use Rattle.rules.specs.Refusals.{Fault, said, answer-number, answer-place}
-use Rattle.rules.specs.Job.{Read, job-read, read-fault, job-of, filled}
+use Rattle.rules.specs.Job.{job-read, read-fault, job-of, filled}
 use Rattle.screen.specs.declared.Verdict.{Verdict}
 use Rattle.screen.specs.declared.Job as screen
 
--- a refusal as the screen is told it
-unfoldable pub told : Option Fault → Verdict
-told none = record { number = 0; place = 0 }
-told (some f) = record { number = f .no; place = f .spot }
+-- a refusal as the screen is as-verdict it
+unfoldable pub as-verdict : Option Fault → Verdict
+as-verdict none = record { number = 0; place = 0 }
+as-verdict (some f) = record { number = f .no; place = f .spot }
 
--- an answer as the screen is told it
+-- an answer as the screen is as-verdict it
 abbrev pub says : Answer → Verdict
 says a = record { number = answer-number a; place = answer-place a }
 
 -- both say the same
-pub says-told : (a : Answer) (f : Option Fault) → said a ≡ f → says a ≡ told f
-unfolding said told
-says-told Done f e = ap told e
-says-told (Refused r) f e = ap told e
+pub says-told : (a : Answer) (f : Option Fault) → said a ≡ f → says a ≡ as-verdict f
+unfolding said as-verdict
+says-told Done f e = ap as-verdict e
+says-told (Refused r) f e = ap as-verdict e
 
 -- the answer r, and the rooms as they are left, are what is read
 pub record ScreenRead (job speeds holds : List ℕ) (r : screen.Job) (speeds′ holds′ : List ℕ) : Type 0 where
-  pub answered : r .verdict ≡ told (read-fault (job-read job (length speeds) (length holds) 0))
-  pub the-vehicle : r .vehicle ≡ job-of (job-read job (length speeds) (length holds) 0) .vehicle
-  pub the-count : r .count ≡ length (job-of (job-read job (length speeds) (length holds) 0) .speeds)
-  pub speeds-left : speeds′ ≡ filled speeds (job-of (job-read job (length speeds) (length holds) 0) .speeds)
-  pub holds-left : holds′ ≡ filled holds (job-of (job-read job (length speeds) (length holds) 0) .holds)
+  pub answered : r .verdict ≡ as-verdict (read-fault (job-read job (length speeds) (length holds)))
+  pub the-vehicle : r .vehicle ≡ job-of (job-read job (length speeds) (length holds)) .vehicle
+  pub the-count : r .count ≡ length (job-of (job-read job (length speeds) (length holds)) .speeds)
+  pub speeds-left : speeds′ ≡ filled speeds (job-of (job-read job (length speeds) (length holds)) .speeds)
+  pub holds-left : holds′ ≡ filled holds (job-of (job-read job (length speeds) (length holds)) .holds)

@@ -2,7 +2,7 @@
 ghost use mathlib.Core.Path.{_≡_};
 ghost use Rattle.rules.specs.Refusals.{work-fault, work-card};
 ghost use Rattle.rules.specs.Quick.{quick-fault, quick-holds, quick-card};
-ghost use Rattle.screen.specs.Screen.{says, told, ScreenRead};
+ghost use Rattle.screen.specs.Screen.{says, as-verdict, ScreenRead};
 use rules::Answer;
 use rules::Vehicle;
 
@@ -54,7 +54,7 @@ pub extern "C" fn gearcard_work<'a>(
     holds: &'a [u8],
     card: &mut [u8],
 ) -> Verdict
-    ensures answer { λ r. ⌜ r ≡ told (work-fault vehicle (now (speeds .entry)) (now (holds .entry)) (now (card .entry))) ⌝ }
+    ensures answer { λ r. ⌜ r ≡ as-verdict (work-fault vehicle (now (speeds .entry)) (now (holds .entry)) (now (card .entry))) ⌝ }
     ensures card { λ r. ⌜ now (card .exit) ≡ work-card vehicle (now (speeds .entry)) (now (holds .entry)) (now (card .entry)) ⌝ }
 {
     let answer = cards::work(vehicle, speeds, holds, card);
@@ -71,7 +71,7 @@ pub extern "C" fn gearcard_hold(
     second: usize,
     gear: u8,
 ) -> Verdict
-    ensures answer { λ r. ⌜ r ≡ told (quick-fault vehicle (now (speeds .entry)) (now (holds .entry)) (now (card .entry)) second gear) ⌝ }
+    ensures answer { λ r. ⌜ r ≡ as-verdict (quick-fault vehicle (now (speeds .entry)) (now (holds .entry)) (now (card .entry)) second gear) ⌝ }
     ensures holds { λ r. ⌜ now (holds .exit) ≡ quick-holds vehicle (now (speeds .entry)) (now (holds .entry)) (now (card .entry)) second gear ⌝ }
     ensures card { λ r. ⌜ now (card .exit) ≡ quick-card vehicle (now (speeds .entry)) (now (holds .entry)) (now (card .entry)) second gear ⌝ }
 {

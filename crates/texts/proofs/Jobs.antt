@@ -13,9 +13,11 @@ use Rattle.rules.specs.declared.Answer.{Answer}
 use Rattle.rules.specs.declared.Answer.the-variants.{Done, Refused}
 use Rattle.rules.specs.Units.{longest}
 use Rattle.rules.specs.Refusals.{Fault, number, place, said, work-fault, left, work-card}
-use Rattle.rules.specs.Job.{Read, got, refused, Job, read-fault, job-of, filled}
+use Rattle.rules.specs.Groups.{Read, got, refused}
+use Rattle.rules.specs.Job.{Job, read-fault, job-of, filled}
 use Rattle.rules.specs.Text.{card-text, refusal-text, worked-text, read-text, printed}
-use Rattle.rules.specs.Laws.Lines.{Sized, job-sized, room-alone}
+use Rattle.rules.proofs.Laws.Lines.{room-alone}
+use Rattle.rules.proofs.Laws.Jobs.{Even, job-even}
 use Rattle.jobs.specs.declared.Reading.{Reading}
 use Rattle.jobs.specs.Reader.{reading, ReadAs}
 use Rattle.texts.specs.Writing.{text-of}
@@ -55,7 +57,7 @@ module _ {job s₀ h₀ s h : List ℕ} {r : Reading} (a : ReadAs job s₀ h₀ 
   pub rooms : Rooms (job-of (reading job s₀ h₀)) (r .count) s h
   unfolding longest reading
   rooms =
-      let z : Sized (job-of (reading job s₀ h₀)) = job-sized job (length s₀) (length h₀) 0 in
+      let z : Even (job-of (reading job s₀ h₀)) = job-even job (length s₀) (length h₀) in
       let v = filled-start s₀ (job-of (reading job s₀ h₀) .speeds) (r .count) (a .the-count) in
       let w = filled-start h₀ (job-of (reading job s₀ h₀) .holds) (r .count) (a .the-count ∙ sym (z .even)) in
       record {

@@ -11,7 +11,7 @@ use lib.Seq.{take-all, sets, sets-eq, length-sets, drop-cons, drop-length, getD-
 use borrow.Author.Tests.{le-leb, lt-leb}
 use Rattle.rules.specs.Words.{part}
 use Rattle.rules.specs.Text.{decimal, pedal, line, lines}
-use Rattle.rules.specs.Laws.Lines.{tens, decimal-one, decimal-more, line-short, lines-more}
+use Rattle.rules.proofs.Laws.Lines.{tens, decimal-one, decimal-more, line-short, lines-more}
 use Rattle.texts.specs.Writing.{written, Put, Begins, speed-text, gear-text}
 
 -- ---- pieces in a row

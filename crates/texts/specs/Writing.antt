@@ -36,4 +36,4 @@ gear-text byte = 32 ∷ (decimal (byte % 16) ++ pedal byte)
 
 -- what is printed of a job that was read
 abbrev pub text-of : Vehicle → List ℕ → List ℕ → List ℕ
-text-of car vs hs = worked-text (record { vehicle = car; speeds = vs; holds = hs }) (work-fault car vs hs vs)
+text-of car vs hs = worked-text car vs hs (work-fault car vs hs vs)

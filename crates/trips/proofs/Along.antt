@@ -9,45 +9,45 @@ use lib.Seq.{getD-set-same}
 use Rattle.rules.specs.declared.Vehicle.{Vehicle}
 use Rattle.rules.specs.Words.{at, pass}
 use Rattle.rules.specs.Corrections.{peak, rising}
-use Rattle.rules.specs.Laws.Passes.{pass-first, pass-more}
-use Rattle.rules.specs.Laws.Seconds.{free-first, peak-still, rising-still}
+use Rattle.trips.proofs.Passes.{pass-first, pass-more}
+use Rattle.trips.proofs.Seconds.{free-first, peak-still, rising-still}
 use Rattle.trips.specs.Ready.{Later}
 
--- f n p: the pass's rule for a vehicle with the curve n, p
-module _ (f : List ℕ → List ℕ → ℕ → List ℕ → ℕ) where
+-- the pass's rule f of every vehicle P, as one that has these numbers and ratios
+module _ (P : Vehicle → Type 0) (f : Vehicle → ℕ → List ℕ → ℕ) where
   -- gs₀ has become gs, worked up to second j, and last is the gear before
   pub record Along (gs₀ gs : List ℕ) (j last : ℕ) : Type 0 where
     pub within : j ≤ length gs
     pub size : length gs ≡ length gs₀
-    pub so-far : (n p : List ℕ) → gs ≡ pass (f n p) j gs₀
+    pub so-far : (car : Vehicle) → P car → gs ≡ pass (f car) j gs₀
     pub later : Later gs j last
 
   -- the trip's first second stays
-  pub along-start : ((n p gs : List ℕ) → at gs 0 ≡ f n p 0 gs) → (gs : List ℕ) → 1 ≤ length gs → Along gs gs 1 (at gs 0)
+  pub along-start : ((car : Vehicle) → P car → (gs : List ℕ) → at gs 0 ≡ f car 0 gs) → (gs : List ℕ) → 1 ≤ length gs → Along gs gs 1 (at gs 0)
   along-start h gs l = record {
     within = l;
     size = refl;
-    so-far = λ n p. pass-first (f n p) gs 1 (omega arith) (h n p gs);
+    so-far = λ car H. pass-first (f car) gs 1 (omega arith) (h car H gs);
     later = record { from = omega arith; last-is = refl };
   }
 
   module _ {gs₀ gs : List ℕ} {j last : ℕ} (L : Along gs₀ gs j last) where
     -- second j has become r, which is now the gear before
-    pub along-more : j < length gs → (r this : ℕ) → ((n p : List ℕ) → r ≡ f n p j gs) → this ≡ r → Along gs₀ (set gs j r) (j + 1) this
+    pub along-more : j < length gs → (r this : ℕ) → ((car : Vehicle) → P car → r ≡ f car j gs) → this ≡ r → Along gs₀ (set gs j r) (j + 1) this
     along-more l r this h same =
         let one : j + 1 - 1 ≡ j = omega arith in
         record {
           within = simp length-set (omega arith);
           size = simp length-set (L .size);
-          so-far = λ n p. pass-more (f n p) gs₀ gs j r (L .so-far n p) (h n p);
+          so-far = λ car H. pass-more (f car) gs₀ gs j r (L .so-far car H) (h car H);
           later = record { from = omega arith; last-is = rw one (same ∙ sym (getD-set-same gs j r 0 l)) };
         }
 
     -- the trip ends
-    pub along-end : length gs ≤ j → (m : ℕ) → length gs₀ ≡ m → (n p : List ℕ) → gs ≡ pass (f n p) m gs₀
-    along-end l m e n p =
+    pub along-end : length gs ≤ j → (m : ℕ) → length gs₀ ≡ m → (car : Vehicle) → P car → gs ≡ pass (f car) m gs₀
+    along-end l m e car H =
         let s : j ≡ m = omega (arith, L .within, L .size) in
-        L .so-far n p ∙ ap (λ (i : ℕ). pass (f n p) i gs₀) s
+        L .so-far car H ∙ ap (λ (i : ℕ). pass (f car) i gs₀) s
 
 module _ (car : Vehicle) (us hs gs : List ℕ) where
   -- pass A leaves the trip's first second as it is

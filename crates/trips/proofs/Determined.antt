@@ -5,9 +5,11 @@ use mathlib.Core.Path.{_≡_, refl, sym, ap, _∙_}
 use mathlib.Core.List.{List, []}
 use lib.IntN.{pos}
 use denote.Ref.{now}
+use Rattle.rules.specs.Job.{blank}
+use Rattle.gears.proofs.Parts.{built-has}
 use Rattle.once.specs.Determined.{Determined}
 use Rattle.rules.specs.declared.Vehicle.{Vehicle}
-use Rattle.rules.specs.Laws.Closing.{run-once}
+use Rattle.trips.proofs.Closing.{run-once}
 use Rattle.trips.proofs.byte.byte_at.Kinds as byte-at-kinds
 use Rattle.trips.proofs.byte.byte_at.Reads as byte-at-reads
 use Rattle.trips.proofs.byte.bytes.Kinds as bytes-kinds
@@ -29,54 +31,36 @@ use Rattle.trips.proofs.work.work_trip.Reads as work-trip-reads
 
 -- the byte of one second
 pub byte-at : Determined byte-at-kinds.ps byte-at-kinds.r byte-at-reads.Asked byte-at-reads.Learnt
-byte-at κs a asked z z′ ws ws′ p q = (p [] [] ∙ sym (q [] []), refl)
+byte-at κs a asked z z′ ws ws′ p q = let H = built-has (a .0) (now (a .1 .0)) in (p _ H ∙ sym (q _ H), refl)
 
 -- the bytes of a trip
 pub bytes : Determined bytes-kinds.ps bytes-kinds.r bytes-reads.Asked bytes-reads.Learnt
-bytes κs a asked z z′ ws ws′ p q = (refl, ap (λ (x : List ℕ). (tt, (tt, (tt, (x, tt))))) (p [] [] ∙ sym (q [] [])))
+bytes κs a asked z z′ ws ws′ p q = let H = built-has (a .0) (now (a .1 .0)) in (refl, ap (λ (x : List ℕ). (tt, (tt, (tt, (x, tt))))) (p _ H ∙ sym (q _ H)))
 
 -- pass A at one second
 pub peak-at : Determined peak-at-kinds.ps peak-at-kinds.r peak-at-reads.Asked peak-at-reads.Learnt
-peak-at κs a asked z z′ ws ws′ p q = (p [] [] ∙ sym (q [] []), refl)
+peak-at κs a asked z z′ ws ws′ p q = let H = built-has (a .0) (now (a .1 .0)) in (p _ H ∙ sym (q _ H), refl)
 
 -- pass A
 pub pass-a : Determined pass-a-kinds.ps pass-a-kinds.r pass-a-reads.Asked pass-a-reads.Learnt
-pass-a κs a asked z z′ ws ws′ p q = (refl, ap (λ (x : List ℕ). (tt, (tt, (tt, (tt, (x, tt)))))) (p [] [] ∙ sym (q [] [])))
+pass-a κs a asked z z′ ws ws′ p q = let H = built-has (a .0) (now (a .1 .0)) in (refl, ap (λ (x : List ℕ). (tt, (tt, (tt, (tt, (x, tt)))))) (p _ H ∙ sym (q _ H)))
 
 -- pass B
 pub pass-b : Determined pass-b-kinds.ps pass-b-kinds.r pass-b-reads.Asked pass-b-reads.Learnt
-pass-b κs a asked z z′ ws ws′ p q = (refl, ap (λ (x : List ℕ). (tt, (tt, (tt, (tt, (x, tt)))))) (p [] [] ∙ sym (q [] [])))
+pass-b κs a asked z z′ ws ws′ p q = let H = built-has (a .0) (now (a .1 .0)) in (refl, ap (λ (x : List ℕ). (tt, (tt, (tt, (tt, (x, tt)))))) (p _ H ∙ sym (q _ H)))
 
 -- where the closing run begins
 pub closing-from : Determined closing-from-kinds.ps closing-from-kinds.r closing-from-reads.Asked closing-from-reads.Learnt
 closing-from κs a asked z z′ ws ws′ p q = (run-once (now (a .0)) z z′ p q, refl)
 
--- pass C does not look at the vehicle, so any will do
-any-car : Vehicle
-any-car = record {
-  ng = 0;
-  ratio = [];
-  idle = 0;
-  rated = 0;
-  nmax = 0;
-  f0 = 0;
-  f1 = pos 0;
-  f2 = 0;
-  tm = 0;
-  margin = 0;
-  points = 0;
-  n = [];
-  p = [];
-}
-
--- pass C
+-- pass C, which does not look at the vehicle: any will do
 pub pass-c : Determined pass-c-kinds.ps pass-c-kinds.r pass-c-reads.Asked pass-c-reads.Learnt
-pass-c κs a asked z z′ ws ws′ p q = (refl, ap (λ (x : List ℕ). (tt, (tt, (x, tt)))) (p any-car ∙ sym (q any-car)))
+pass-c κs a asked z z′ ws ws′ p q = (refl, ap (λ (x : List ℕ). (tt, (tt, (x, tt)))) (p blank ∙ sym (q blank)))
 
 -- the first choices of a trip
 pub first-choices : Determined first-choices-kinds.ps first-choices-kinds.r first-choices-reads.Asked first-choices-reads.Learnt
-first-choices κs a asked z z′ ws ws′ p q = (refl, ap (λ (x : List ℕ). (tt, (tt, (tt, (tt, (tt, (tt, (x, tt)))))))) (p ∙ sym q))
+first-choices κs a asked z z′ ws ws′ p q = let car = asked .0 .car in let L = asked .0 .lent in (refl, ap (λ (x : List ℕ). (tt, (tt, (tt, (tt, (tt, (tt, (x, tt)))))))) (p car L ∙ sym (q car L)))
 
 -- the work on a trip
 pub work-trip : Determined work-trip-kinds.ps work-trip-kinds.r work-trip-reads.Asked work-trip-reads.Learnt
-work-trip κs a asked z z′ ws ws′ p q = (refl, ap (λ (x : List ℕ). (tt, (tt, (tt, (tt, (tt, (tt, (x, tt)))))))) (p ∙ sym q))
+work-trip κs a asked z z′ ws ws′ p q = let car = asked .0 .car in let L = asked .0 .lent in (refl, ap (λ (x : List ℕ). (tt, (tt, (tt, (tt, (tt, (tt, (x, tt)))))))) (p car L ∙ sym (q car L)))

@@ -11,12 +11,14 @@ use Rattle.rules.specs.declared.Vehicle.{Vehicle}
 use Rattle.rules.specs.Words.{at, pass, table}
 use Rattle.rules.specs.Units.{rise}
 use Rattle.rules.specs.Corrections.{here, first-choice, peak, rising, slowing, firsts, after-A, after-B, gears, byte}
-use Rattle.rules.specs.Laws.Closing.{Moving}
-use Rattle.rules.specs.Laws.Held.{length-gears}
-use Rattle.rules.specs.Laws.Passes.{gears-to}
+use Rattle.rules.proofs.Laws.Held.{length-gears}
+use Rattle.trips.proofs.Passes.{gears-to}
+use Rattle.gears.specs.declared.Numbers.{Numbers}
+use Rattle.gears.specs.Parts.{Lent, Parts}
+use Rattle.gears.proofs.Parts.{ng-of}
 use Rattle.gears.specs.Choosing.{first-of, first-parts}
-use Rattle.rules.specs.Laws.Work.{trip-bytes}
 use Rattle.trips.specs.Ready.{HasRoom, Ready}
+use Rattle.trips.specs.Trip.{AllMoving, trip-bytes}
 
 module _ (car : Vehicle) (us hs : List ℕ) where
   -- the choice for D is the first choice of second j, whatever gears stand in the trip
@@ -36,12 +38,8 @@ module _ (car : Vehicle) (us hs : List ℕ) where
   unfolding trip-bytes
   bytes-is p q = rw (q, p, length-gears car us hs)
 
-  module _ {gs : List ℕ} (R : Ready car us hs gs) where
-    -- every second of a trip that is ready is moving
-    pub moves-on : Moving us
-    moves-on = record { second = λ i h. R .moves i (omega (arith, R .lists .speeds)) }
-
-    -- the trip's gears leave room for the clutch
+  -- the trip's gears leave room for the clutch
+  module _ {k : Numbers} {ratio n p gs : List ℕ} (L : Lent car k ratio n p) (R : Ready k us hs gs) where
     pub gears-small : {g : List ℕ} → g ≡ gears car us hs → HasRoom us g
     gears-small {g} e =
         let n : length g ≡ length hs = ap length e ∙ length-gears car us hs in
@@ -49,6 +47,14 @@ module _ (car : Vehicle) (us hs : List ℕ) where
           speeds = omega (arith, R .lists .speeds);
           small = λ j h.
               let l : j < length hs = omega arith in
-              let b : at (gears car us hs) j ≤ suc (car .ng) = gears-to car (R .pace .vehicle) us hs j l (R .hold j l) in
-              rw e (omega (arith, R .pace .vehicle .ng-to));
+              let b : at (gears car us hs) j ≤ suc (car .ng) = gears-to car (L .bounds) us hs j l (rw (ng-of (L .has .counts)) (R .hold j l)) in
+              rw e (omega (arith, L .bounds .ng-to));
         }
+
+-- the gears are no more than the ratios have places
+pub gears-few : {k : Numbers} {ratio n p : List ℕ} → Parts k ratio n p → k .ng ≤ 10
+gears-few P = omega (arith, ng-of (P .lent .has .counts), P .lent .bounds .ng-to)
+
+-- every second of a trip that is ready is moving
+pub moves-on : {k : Numbers} {us hs gs : List ℕ} → Ready k us hs gs → AllMoving us
+moves-on R = record { second = λ i h. R .moves i (omega (arith, R .lists .speeds)) }

@@ -6,10 +6,9 @@ use mathlib.Core.Bool.{true}
 use mathlib.Core.List.{List}
 use lib.IntN.{natAbs}
 use lib.ListN.{length}
-use Rattle.rules.specs.declared.Vehicle.{Vehicle}
 use Rattle.rules.specs.Words.{at}
-use Rattle.rules.specs.Units.{moving, rise}
-use Rattle.rules.specs.Laws.Vehicle.{InBounds}
+use Rattle.rules.specs.Units.{fastest, steepest, moving, rise}
+use Rattle.gears.specs.declared.Numbers.{Numbers}
 
 -- a hold and a gear for each second of the trip, and one speed more: the one that follows
 pub record Aligned (us hs gs : List ℕ) : Type 0 where
@@ -17,7 +16,7 @@ pub record Aligned (us hs gs : List ℕ) : Type 0 where
   pub gears : length gs ≡ length hs
 
 -- second j is one of the trip's
-pub record Second (us hs : List ℕ) (j : ℕ) : Type 0 where
+pub record TripSecond (us hs : List ℕ) (j : ℕ) : Type 0 where
   pub speeds : length us ≡ suc (length hs)
   pub inside : j < length hs
 
@@ -31,15 +30,14 @@ pub record HasRoom (us gs : List ℕ) : Type 0 where
   pub speeds : length us ≡ suc (length gs)
   pub small : (j : ℕ) → j < length gs → at gs j ≤ 239
 
--- a vehicle, speeds and steps within their bounds
-pub record Paced (car : Vehicle) (us hs : List ℕ) : Type 0 where
-  pub vehicle : InBounds car
-  pub speed : (j : ℕ) → j < length hs → at us j ≤ 2000
-  pub step : (j : ℕ) → j < length hs → natAbs (rise us j) ≤ 150
+-- speeds and steps within their bounds
+pub record Paced (us hs : List ℕ) : Type 0 where
+  pub speed : (j : ℕ) → j < length hs → at us j ≤ fastest
+  pub step : (j : ℕ) → j < length hs → natAbs (rise us j) ≤ steepest
 
 -- a trip that the checks have passed: of the refusals it takes 3, 4, 5 and 7
-pub record Ready (car : Vehicle) (us hs gs : List ℕ) : Type 0 where
+pub record Ready (k : Numbers) (us hs gs : List ℕ) : Type 0 where
   pub lists : Aligned us hs gs
-  pub pace : Paced car us hs
-  pub hold : (j : ℕ) → j < length hs → at hs j ≤ car .ng
+  pub pace : Paced us hs
+  pub hold : (j : ℕ) → j < length hs → at hs j ≤ k .ng
   pub moves : (j : ℕ) → j < length hs → moving (at us j) ≡ true

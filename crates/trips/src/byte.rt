@@ -1,11 +1,11 @@
 // The card's bytes of one trip.
 ghost use mathlib.Core.Path.{_≡_};
-ghost use mathlib.Core.List.{List};
-ghost use Prim.Native.Nat.{ℕ, _+_, _-_, _*_, _≤_, _<_};
+ghost use Prim.Native.Nat.{_+_, _-_, _*_, _≤_, _<_};
 ghost use lib.ListN.{length};
 ghost use Rattle.rules.specs.Words.{at, table};
 ghost use Rattle.rules.specs.Corrections.{byte};
-ghost use Rattle.gears.specs.Parts.{vehicle-of};
+ghost use Rattle.rules.specs.declared.Vehicle.{Vehicle};
+ghost use Rattle.gears.specs.Parts.{Has};
 ghost use Rattle.trips.specs.Ready.{HasRoom};
 use gears::Numbers;
 
@@ -40,7 +40,7 @@ fn bottom(k: Numbers) -> u64
 // The byte of second j, whose gear is g: plus 16 with the clutch down.
 pub fn byte_at(k: Numbers, ratio: &[u16; 10], us: &[u16], j: usize, g: u8) -> u8
     requires { ⌜ (j + 1 < length (now us)) × (g ≤ 239) ⌝ }
-    ensures { λ r. ⌜ ((n p : List ℕ) → r ≡ byte (vehicle-of k (now (ratio .entry)) n p) (now (us .entry)) j g) ⌝ }
+    ensures { λ r. ⌜ ((car : Vehicle) → Has car k (now (ratio .entry)) → r ≡ byte car (now (us .entry)) j g) ⌝ }
 {
     let v = us[j];
     let next = us[j + 1];
@@ -56,7 +56,7 @@ pub fn byte_at(k: Numbers, ratio: &[u16; 10], us: &[u16], j: usize, g: u8) -> u8
 // A trip's gears become its bytes.
 pub fn bytes(k: Numbers, ratio: &[u16; 10], us: &[u16], gs: &mut [u8])
     requires { ⌜ HasRoom (now us) (now gs) ⌝ }
-    ensures { λ r. ⌜ ((n p : List ℕ) → now (gs .exit) ≡ table (λ j. byte (vehicle-of k (now (ratio .entry)) n p) (now (us .entry)) j (at (now (gs .entry)) j)) 0 (length (now (gs .entry)))) ⌝ }
+    ensures { λ r. ⌜ ((car : Vehicle) → Has car k (now (ratio .entry)) → now (gs .exit) ≡ table (λ j. byte car (now (us .entry)) j (at (now (gs .entry)) j)) 0 (length (now (gs .entry)))) ⌝ }
 {
     let mut j = 0;
     while j < gs.len() {

@@ -1,14 +1,14 @@
 // Pass A: one-second peaks.
 ghost use mathlib.Core.Path.{_≡_};
-ghost use mathlib.Core.List.{List};
-ghost use Prim.Native.Nat.{ℕ, _+_, _≤_, _<_};
+ghost use Prim.Native.Nat.{_+_, _≤_, _<_};
 ghost use lib.Dec.{eqb};
 ghost use lib.ListN.{length};
 ghost use Rattle.rules.specs.Words.{_and_, _or_, pass};
 ghost use Rattle.rules.specs.Corrections.{peak};
-ghost use Rattle.rules.specs.Laws.Seconds.{one-above};
-ghost use Rattle.gears.specs.Parts.{vehicle-of};
+ghost use Rattle.rules.specs.declared.Vehicle.{Vehicle};
+ghost use Rattle.gears.specs.Parts.{Has};
 ghost use Rattle.trips.specs.Ready.{Aligned, Later};
+ghost use Rattle.trips.specs.Trip.{one-above};
 use gears::Numbers;
 use gears::floor;
 
@@ -45,7 +45,7 @@ pub fn peak_at(
     last: u8,
 ) -> u8
     requires { ⌜ (k .ng ≤ 10) × Aligned (now us) (now hs) (now gs) × Later (now gs) j last × (j < length (now gs)) ⌝ }
-    ensures { λ r. ⌜ ((n p : List ℕ) → r ≡ peak (vehicle-of k (now (ratio .entry)) n p) (now (us .entry)) (now (hs .entry)) j (now (gs .entry))) ⌝ }
+    ensures { λ r. ⌜ ((car : Vehicle) → Has car k (now (ratio .entry)) → r ≡ peak car (now (us .entry)) (now (hs .entry)) j (now (gs .entry))) ⌝ }
 {
     let g = gs[j];
     if g <= last {
@@ -72,7 +72,7 @@ pub fn peak_at(
 // Pass A, one-second peaks. The trip's first second stays, and the gear before goes along, as corrected.
 pub fn pass_a(k: Numbers, ratio: &[u16; 10], us: &[u16], hs: &[u8], gs: &mut [u8])
     requires { ⌜ (k .ng ≤ 10) × Aligned (now us) (now hs) (now gs) ⌝ }
-    ensures { λ r. ⌜ ((n p : List ℕ) → now (gs .exit) ≡ pass (peak (vehicle-of k (now (ratio .entry)) n p) (now (us .entry)) (now (hs .entry))) (length (now (hs .entry))) (now (gs .entry))) ⌝ }
+    ensures { λ r. ⌜ ((car : Vehicle) → Has car k (now (ratio .entry)) → now (gs .exit) ≡ pass (peak car (now (us .entry)) (now (hs .entry))) (length (now (hs .entry))) (now (gs .entry))) ⌝ }
 {
     if gs.len() < 2 {
         return;

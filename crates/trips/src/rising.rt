@@ -1,11 +1,11 @@
 // Pass B: rising speed.
 ghost use mathlib.Core.Path.{_≡_};
-ghost use mathlib.Core.List.{List};
-ghost use Prim.Native.Nat.{ℕ, _≤_, _<_};
+ghost use Prim.Native.Nat.{_≤_, _<_};
 ghost use lib.ListN.{length};
 ghost use Rattle.rules.specs.Words.{at, pass};
 ghost use Rattle.rules.specs.Corrections.{ceiling, rising};
-ghost use Rattle.gears.specs.Parts.{vehicle-of};
+ghost use Rattle.rules.specs.declared.Vehicle.{Vehicle};
+ghost use Rattle.gears.specs.Parts.{Has};
 ghost use Rattle.trips.specs.Ready.{Aligned, Later};
 use gears::Numbers;
 use gears::floor;
@@ -37,7 +37,7 @@ fn rising_at(
     last: u8,
 ) -> u8
     requires { ⌜ (k .ng ≤ 10) × Aligned (now us) (now hs) (now gs) × Later (now gs) j last × (j < length (now gs)) × (g ≡ at (now gs) j) ⌝ }
-    ensures { λ r. ⌜ ((n p : List ℕ) → r ≡ rising (vehicle-of k (now (ratio .entry)) n p) (now (us .entry)) (now (hs .entry)) j (now (gs .entry))) ⌝ }
+    ensures { λ r. ⌜ ((car : Vehicle) → Has car k (now (ratio .entry)) → r ≡ rising car (now (us .entry)) (now (hs .entry)) j (now (gs .entry))) ⌝ }
 {
     if g <= last {
         return g;
@@ -63,7 +63,7 @@ fn rising_at(
 // Pass B, rising speed. The trip's first second stays, and the gear before goes along, as corrected.
 pub fn pass_b(k: Numbers, ratio: &[u16; 10], us: &[u16], hs: &[u8], gs: &mut [u8])
     requires { ⌜ (k .ng ≤ 10) × Aligned (now us) (now hs) (now gs) ⌝ }
-    ensures { λ r. ⌜ ((n p : List ℕ) → now (gs .exit) ≡ pass (rising (vehicle-of k (now (ratio .entry)) n p) (now (us .entry)) (now (hs .entry))) (length (now (hs .entry))) (now (gs .entry))) ⌝ }
+    ensures { λ r. ⌜ ((car : Vehicle) → Has car k (now (ratio .entry)) → now (gs .exit) ≡ pass (rising car (now (us .entry)) (now (hs .entry))) (length (now (hs .entry))) (now (gs .entry))) ⌝ }
 {
     if gs.len() < 2 {
         return;

@@ -7,16 +7,17 @@ ghost use lib.ListN.{length, drop};
 ghost use Rattle.rules.specs.declared.Vehicle.{Vehicle};
 ghost use Rattle.rules.specs.Words.{pass};
 ghost use Rattle.rules.specs.Corrections.{closing, slowing};
-ghost use Rattle.rules.specs.Laws.Closing.{Moving, RunFrom};
 ghost use Rattle.trips.specs.Ready.{Aligned};
+use rules::moving;
+ghost use Rattle.trips.specs.Trip.{RunFrom, AllMoving};
 
 // The first second of the closing run, found by one scan back from the trip's end; the trip's length where there is none.
 pub fn closing_from(us: &[u16]) -> usize
-    requires { ⌜ Moving (now us) × (1 ≤ length (now us)) ⌝ }
+    requires { ⌜ AllMoving (now us) × (1 ≤ length (now us)) ⌝ }
     ensures { λ r. ⌜ RunFrom (now (us .entry)) r ⌝ }
 {
     let mut j = us.len() - 1;
-    if 10 <= us[j] {
+    if moving(us[j]) {
         return j;
     }
     while 0 < j {
@@ -49,7 +50,7 @@ fn slowing_at(hs: &[u8], gs: &[u8], j: usize) -> u8
 
 // Pass C, closing run. Seconds before the run stay as they are, so the pass begins where the run does.
 pub fn pass_c(us: &[u16], hs: &[u8], gs: &mut [u8])
-    requires { ⌜ Aligned (now us) (now hs) (now gs) × Moving (now us) ⌝ }
+    requires { ⌜ Aligned (now us) (now hs) (now gs) × AllMoving (now us) ⌝ }
     ensures { λ r. ⌜ ((car : Vehicle) → now (gs .exit) ≡ pass (slowing car (now (us .entry)) (now (hs .entry))) (length (now (hs .entry))) (now (gs .entry))) ⌝ }
 {
     let mut j = closing_from(us);

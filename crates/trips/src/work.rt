@@ -3,9 +3,10 @@ ghost use mathlib.Core.Path.{_≡_};
 ghost use mathlib.Core.List.{List};
 ghost use Prim.Native.Nat.{ℕ};
 ghost use Rattle.rules.specs.Corrections.{first-choice, firsts};
-ghost use Rattle.gears.specs.Parts.{vehicle-of};
-ghost use Rattle.rules.specs.Laws.Work.{trip-bytes};
-ghost use Rattle.trips.specs.Ready.{Aligned, Second, Paced, Ready};
+ghost use Rattle.rules.specs.declared.Vehicle.{Vehicle};
+ghost use Rattle.gears.specs.Parts.{Lent, Parts};
+ghost use Rattle.trips.specs.Ready.{Aligned, TripSecond, Paced, Ready};
+ghost use Rattle.trips.specs.Trip.{trip-bytes};
 use crate::byte::bytes;
 use crate::peak::pass_a;
 use crate::rising::pass_b;
@@ -24,8 +25,8 @@ fn choice_at<'a>(
     hs: &[u8],
     j: usize,
 ) -> u8
-    requires { ⌜ Paced (vehicle-of k (now ratio) (now n) (now p)) (now us) (now hs) × Second (now us) (now hs) j ⌝ }
-    ensures { λ r. ⌜ ((gs : List ℕ) → r ≡ first-choice (vehicle-of k (now (ratio .entry)) (now (n .entry)) (now (p .entry))) (now (us .entry)) (now (hs .entry)) j gs) ⌝ }
+    requires { ⌜ Parts k (now ratio) (now n) (now p) × Paced (now us) (now hs) × TripSecond (now us) (now hs) j ⌝ }
+    ensures { λ r. ⌜ ((car : Vehicle) → Lent car k (now (ratio .entry)) (now (n .entry)) (now (p .entry)) → (gs : List ℕ) → r ≡ first-choice car (now (us .entry)) (now (hs .entry)) j gs) ⌝ }
 {
     let v = us[j];
     let next = us[j + 1];
@@ -44,8 +45,8 @@ pub fn first_choices<'a>(
     hs: &[u8],
     gs: &mut [u8],
 )
-    requires { ⌜ Paced (vehicle-of k (now ratio) (now n) (now p)) (now us) (now hs) × Aligned (now us) (now hs) (now gs) ⌝ }
-    ensures { λ r. ⌜ now (gs .exit) ≡ firsts (vehicle-of k (now (ratio .entry)) (now (n .entry)) (now (p .entry))) (now (us .entry)) (now (hs .entry)) ⌝ }
+    requires { ⌜ Parts k (now ratio) (now n) (now p) × Paced (now us) (now hs) × Aligned (now us) (now hs) (now gs) ⌝ }
+    ensures { λ r. ⌜ ((car : Vehicle) → Lent car k (now (ratio .entry)) (now (n .entry)) (now (p .entry)) → now (gs .exit) ≡ firsts car (now (us .entry)) (now (hs .entry))) ⌝ }
 {
     let mut j = 0;
     while j < gs.len() {
@@ -65,8 +66,8 @@ pub fn work_trip<'a>(
     hs: &[u8],
     gs: &mut [u8],
 )
-    requires { ⌜ Ready (vehicle-of k (now ratio) (now n) (now p)) (now us) (now hs) (now gs) ⌝ }
-    ensures { λ r. ⌜ now (gs .exit) ≡ trip-bytes (vehicle-of k (now (ratio .entry)) (now (n .entry)) (now (p .entry))) (now (us .entry)) (now (hs .entry)) ⌝ }
+    requires { ⌜ Parts k (now ratio) (now n) (now p) × Ready k (now us) (now hs) (now gs) ⌝ }
+    ensures { λ r. ⌜ ((car : Vehicle) → Lent car k (now (ratio .entry)) (now (n .entry)) (now (p .entry)) → now (gs .exit) ≡ trip-bytes car (now (us .entry)) (now (hs .entry))) ⌝ }
 {
     first_choices(k, ratio, n, p, us, hs, gs);
     pass_a(k, ratio, us, hs, gs);

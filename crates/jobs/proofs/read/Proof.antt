@@ -5,10 +5,13 @@ use mathlib.Core.Path.{sym}
 use lib.ListN.{length}
 use lib.Seq.{length-take-le}
 use borrow.Author.Needs.{needs}
-use Rattle.rules.specs.declared.Refusal.the-variants.{RoomLength, TraceLength}
-use Rattle.jobs.proofs.Steps.{comes-by}
-use Rattle.jobs.proofs.Ways.{bounded-in, car-stops, count-stops, no-room, speeds-stop, number-stops, holds-stop, more-bytes, whole-gives, skip-comes, judge-comes}
-use Rattle.jobs.proofs.Loops.{groups-length}
+use Rattle.rules.specs.declared.Refusal.the-variants.{RoomLength}
+use Rattle.rules.specs.Forms.{value, many}
+use Rattle.rules.specs.Job.{rising}
+use Rattle.rules.proofs.Laws.Forms.{value-sound}
+use Rattle.jobs.proofs.Steps.{comes-by, many-length, judged-comes}
+use Rattle.jobs.proofs.Ways.{bounded-in}
+use Rattle.jobs.proofs.Whole.{car-stops, count-stops, no-room, speeds-stop, number-stops, holds-stop, more-bytes, whole-gives}
 use Rattle.jobs.proofs.Rooms.{refused-as, filled-as, speeds-stand, holds-stand}
 use Rattle.jobs.proofs.read.Statement.{statement}
 use Rattle.jobs.proofs.read.Tie as tie
@@ -30,7 +33,10 @@ returns c =
     let c₁ = c .before .before .before in
     let s = c₁ .before .before .before .before in
     let g = c .before .enum-told .given .1 in
-    rw (c .nothing .ensures, g) (refused-as (s .args .job .now) (s .args .speeds .now) (s .args .holds .now) (car-stops (s .args .job .now) (length (s .args .speeds .now)) (length (s .args .holds .now)) 0 (rw g at (c₁ .car-at .ensures))))
+    rw (c .nothing .ensures, g) (refused-as (s .args .job .now) (s .args .speeds .now) (s .args .holds .now) (car-stops (s .args .job .now) (length (s .args .speeds .now)) (length (s .args .holds .now)) (rw g at (c₁ .car-at .ensures))))
+
+cast-bounded : tie.Need-cast-bounded
+cast-bounded c = search needs
 
 bounded-requires : tie.Need-bounded-requires
 bounded-requires c κs = search needs
@@ -41,8 +47,8 @@ enum-known-seconds c = search needs
 enum-told-2 : tie.Need-enum-told-2
 enum-told-2 c = search needs
 
-place-requires : tie.Need-place-requires
-place-requires c κs = search needs
+came-requires : tie.Need-came-requires
+came-requires c κs = search needs
 
 nothing-requires-2 : tie.Need-nothing-requires-2
 nothing-requires-2 c κs = search needs
@@ -54,7 +60,7 @@ returns-2 c =
     let c₁ = c₂ .before .before in
     let s = c₁ .before .before .before .before in
     let g = c .before .before .enum-told2 .given .1 in
-    rw (c .nothing2 .ensures, c .before .place .ensures, g) (refused-as (s .args .job .now) (s .args .speeds .now) (s .args .holds .now) (count-stops (s .args .job .now) (length (s .args .speeds .now)) (length (s .args .holds .now)) 0 (rw (c₂ .came .given .1) at (c₁ .car-at .ensures)) (rw g at (c₃ .bounded .ensures))))
+    rw (c .nothing2 .ensures, c .before .came2 .ensures, g) (refused-as (s .args .job .now) (s .args .speeds .now) (s .args .holds .now) (count-stops (s .args .job .now) (length (s .args .speeds .now)) (length (s .args .holds .now)) (rw (c₂ .came .given .1) at (c₁ .car-at .ensures)) (rw g at (c₃ .bounded .ensures))))
 
 cast-count : tie.Need-cast-count
 cast-count c = search needs
@@ -69,7 +75,7 @@ returns-3 c =
     let c₂ = c₃ .before .before in
     let c₁ = c₂ .before .before in
     let s = c₁ .before .before .before .before in
-    rw (c .nothing3 .ensures) (refused-as (s .args .job .now) (s .args .speeds .now) (s .args .holds .now) {f = RoomLength} (no-room (s .args .job .now) (length (s .args .speeds .now)) (length (s .args .holds .now)) 0 (rw (c₂ .came .given .1) at (c₁ .car-at .ensures)) (rw (c₄ .seconds .given .1) at (c₃ .bounded .ensures)) (λ x y. omega arith)))
+    rw (c .nothing3 .ensures) (refused-as (s .args .job .now) (s .args .speeds .now) (s .args .holds .now) {f = RoomLength} (no-room (s .args .job .now) (length (s .args .speeds .now)) (length (s .args .holds .now)) (rw (c₂ .came .given .1) at (c₁ .car-at .ensures)) (rw (c₄ .seconds .given .1) at (c₃ .bounded .ensures)) (λ x y. omega arith)))
 
 nothing-requires-4 : tie.Need-nothing-requires-4
 nothing-requires-4 c κs = search needs
@@ -81,7 +87,7 @@ returns-4 c =
     let c₂ = c₃ .before .before in
     let c₁ = c₂ .before .before in
     let s = c₁ .before .before .before .before in
-    rw (c .nothing4 .ensures) (refused-as (s .args .job .now) (s .args .speeds .now) (s .args .holds .now) {f = RoomLength} (no-room (s .args .job .now) (length (s .args .speeds .now)) (length (s .args .holds .now)) 0 (rw (c₂ .came .given .1) at (c₁ .car-at .ensures)) (rw (c₄ .seconds .given .1) at (c₃ .bounded .ensures)) (λ x y. omega arith)))
+    rw (c .nothing4 .ensures) (refused-as (s .args .job .now) (s .args .speeds .now) (s .args .holds .now) {f = RoomLength} (no-room (s .args .job .now) (length (s .args .speeds .now)) (length (s .args .holds .now)) (rw (c₂ .came .given .1) at (c₁ .car-at .ensures)) (rw (c₄ .seconds .given .1) at (c₃ .bounded .ensures)) (λ x y. omega arith)))
 
 skip-requires : tie.Need-skip-requires
 skip-requires c κs = search needs
@@ -104,7 +110,7 @@ returns-5 c =
     let c₁ = c₂ .before .before in
     let s = c₁ .before .before .before .before in
     let g = c .before .enum-told3 .given .1 in
-    rw (c .nothing5 .ensures, g) (refused-as (s .args .job .now) (s .args .speeds .now) (s .args .holds .now) (speeds-stop (s .args .job .now) (length (s .args .speeds .now)) (length (s .args .holds .now)) 0 (rw (c₂ .came .given .1) at (c₁ .car-at .ensures)) (rw (c₄ .seconds .given .1) at (c₃ .bounded .ensures)) (omega arith) (omega arith) (rw g at (c₅ .skip .ensures))))
+    rw (c .nothing5 .ensures, g) (refused-as (s .args .job .now) (s .args .speeds .now) (s .args .holds .now) (speeds-stop (s .args .job .now) (length (s .args .speeds .now)) (length (s .args .holds .now)) (rw (c₂ .came .given .1) at (c₁ .car-at .ensures)) (rw (c₄ .seconds .given .1) at (c₃ .bounded .ensures)) (omega arith) (omega arith) (rw g at (c₅ .skip .ensures))))
 
 group-at-requires : tie.Need-group-at-requires
 group-at-requires c κs = search needs
@@ -115,8 +121,8 @@ enum-known-number c = search needs
 enum-told-4 : tie.Need-enum-told-4
 enum-told-4 c = search needs
 
-place-requires-2 : tie.Need-place-requires-2
-place-requires-2 c κs = search needs
+came-requires-2 : tie.Need-came-requires-2
+came-requires-2 c κs = search needs
 
 nothing-requires-6 : tie.Need-nothing-requires-6
 nothing-requires-6 c κs = search needs
@@ -132,7 +138,7 @@ returns-6 c =
     let c₁ = c₂ .before .before in
     let s = c₁ .before .before .before .before in
     let g = c .before .before .enum-told4 .given .1 in
-    rw (c .nothing6 .ensures, c .before .place2 .ensures, g) (refused-as (s .args .job .now) (s .args .speeds .now) (s .args .holds .now) (number-stops (s .args .job .now) (length (s .args .speeds .now)) (length (s .args .holds .now)) 0 (rw (c₂ .came .given .1) at (c₁ .car-at .ensures)) (rw (c₄ .seconds .given .1) at (c₃ .bounded .ensures)) (omega arith) (omega arith) (rw (c₆ .skipped .given .1) at (c₅ .skip .ensures)) (rw g at (c₇ .group-at .ensures))))
+    rw (c .nothing6 .ensures, c .before .came3 .ensures, g) (refused-as (s .args .job .now) (s .args .speeds .now) (s .args .holds .now) (number-stops (s .args .job .now) (length (s .args .speeds .now)) (length (s .args .holds .now)) (rw (c₂ .came .given .1) at (c₁ .car-at .ensures)) (rw (c₄ .seconds .given .1) at (c₃ .bounded .ensures)) (omega arith) (omega arith) (rw (c₆ .skipped .given .1) at (c₅ .skip .ensures)) (rw g at (c₇ .group-at .ensures))))
 
 cast-held : tie.Need-cast-held
 cast-held c = search needs
@@ -148,7 +154,7 @@ judge-holds-requires c κs =
     let c₂ = c₃ .before .before in
     let c₁ = c₂ .before .before in
     let s = c₁ .before .before .before .before in
-    let b = bounded-in (s .args .job .now) 1 2048 TraceLength (c₂ .came .given .0 .0) (rw (c₄ .seconds .given .1) at (c₃ .bounded .ensures)) in omega (arith, b)
+    let b = bounded-in (s .args .job .now) 1 2048 1 0 (c₂ .came .given .0 .0) (rw (c₄ .seconds .given .1) at (c₃ .bounded .ensures)) in omega (arith, b)
 
 enum-known-judged : tie.Need-enum-known-judged
 enum-known-judged c = search needs
@@ -172,7 +178,7 @@ returns-7 c =
     let c₁ = c₂ .before .before in
     let s = c₁ .before .before .before .before in
     let g = c .before .enum-told5 .given .1 in
-    rw (c .nothing7 .ensures, g) (refused-as (s .args .job .now) (s .args .speeds .now) (s .args .holds .now) (holds-stop (s .args .job .now) (length (s .args .speeds .now)) (length (s .args .holds .now)) 0 (rw (c₂ .came .given .1) at (c₁ .car-at .ensures)) (rw (c₄ .seconds .given .1) at (c₃ .bounded .ensures)) (omega arith) (omega arith) (rw (c₆ .skipped .given .1) at (c₅ .skip .ensures)) (rw (c₈ .number .given .1) at (c₇ .group-at .ensures)) (rw g at (c₉ .judge-holds .ensures))))
+    rw (c .nothing7 .ensures, g) (refused-as (s .args .job .now) (s .args .speeds .now) (s .args .holds .now) (holds-stop (s .args .job .now) (length (s .args .speeds .now)) (length (s .args .holds .now)) (rw (c₂ .came .given .1) at (c₁ .car-at .ensures)) (rw (c₄ .seconds .given .1) at (c₃ .bounded .ensures)) (omega arith) (omega arith) (rw (c₆ .skipped .given .1) at (c₅ .skip .ensures)) (rw (c₈ .number .given .1) at (c₇ .group-at .ensures)) (rw g at (c₉ .judge-holds .ensures))))
 
 nothing-requires-8 : tie.Need-nothing-requires-8
 nothing-requires-8 c κs = search needs
@@ -190,7 +196,7 @@ returns-8 c =
     let c₂ = c₃ .before .before in
     let c₁ = c₂ .before .before in
     let s = c₁ .before .before .before .before in
-    rw (c .nothing8 .ensures) (refused-as (s .args .job .now) (s .args .speeds .now) (s .args .holds .now) (more-bytes (s .args .job .now) (length (s .args .speeds .now)) (length (s .args .holds .now)) 0 (rw (c₂ .came .given .1) at (c₁ .car-at .ensures)) (rw (c₄ .seconds .given .1) at (c₃ .bounded .ensures)) (omega arith) (omega arith) (rw (c₆ .skipped .given .1) at (c₅ .skip .ensures)) (rw (c₈ .number .given .1) at (c₇ .group-at .ensures)) (rw (c₁₀ .judged .given .1) at (c₉ .judge-holds .ensures)) (λ e. omega arith)))
+    rw (c .nothing8 .ensures) (refused-as (s .args .job .now) (s .args .speeds .now) (s .args .holds .now) (more-bytes (s .args .job .now) (length (s .args .speeds .now)) (length (s .args .holds .now)) (rw (c₂ .came .given .1) at (c₁ .car-at .ensures)) (rw (c₄ .seconds .given .1) at (c₃ .bounded .ensures)) (omega arith) (omega arith) (rw (c₆ .skipped .given .1) at (c₅ .skip .ensures)) (rw (c₈ .number .given .1) at (c₇ .group-at .ensures)) (rw (c₁₀ .judged .given .1) at (c₉ .judge-holds .ensures)) (λ e. omega arith)))
 
 slice-relend-prefix-put-speeds : tie.Need-slice-relend-prefix-put-speeds
 slice-relend-prefix-put-speeds c = search needs
@@ -211,7 +217,7 @@ put-speeds-requires c κs =
     let c₂ = c₃ .before .before in
     let c₁ = c₂ .before .before in
     let s = c₁ .before .before .before .before in
-    rw (length-take-le (c₄ .seconds .given .0 .0) (s .args .speeds .now) (omega arith)) (comes-by (skip-comes (s .args .job .now) _ _ (rw (c₆ .skipped .given .1) at (c₅ .skip .ensures))))
+    rw (length-take-le (c₄ .seconds .given .0 .0) (s .args .speeds .now) (omega arith)) (comes-by (judged-comes (many value _) (s .args .job .now) _ (rw (c₆ .skipped .given .1) at (c₅ .skip .ensures))))
 
 slice-relend-prefix-put-holds : tie.Need-slice-relend-prefix-put-holds
 slice-relend-prefix-put-holds c = search needs
@@ -232,7 +238,7 @@ put-holds-requires c κs =
     let c₂ = c₃ .before .before in
     let c₁ = c₂ .before .before in
     let s = c₁ .before .before .before .before in
-    rw (length-take-le (c₄ .seconds .given .0 .0) (s .args .holds .now) (omega arith)) (comes-by (judge-comes (s .args .job .now) _ _ _ (rw (c₁₀ .judged .given .1) at (c₉ .judge-holds .ensures))))
+    rw (length-take-le (c₄ .seconds .given .0 .0) (s .args .holds .now) (omega arith)) (comes-by (judged-comes (rising _ _) (s .args .job .now) _ (rw (c₁₀ .judged .given .1) at (c₉ .judge-holds .ensures))))
 
 same-length : tie.Need-same-length
 same-length c = search needs
@@ -253,10 +259,10 @@ returns-9 c =
     let c₂ = c₃ .before .before in
     let c₁ = c₂ .before .before in
     let s = c₁ .before .before .before .before in
-    let come = sym (skip-comes (s .args .job .now) _ _ (rw (c₆ .skipped .given .1) at (c₅ .skip .ensures))) in
+    let come = sym (judged-comes (many value _) (s .args .job .now) _ (rw (c₆ .skipped .given .1) at (c₅ .skip .ensures))) in
     filled-as (s .args .job .now) (s .args .speeds .now) (s .args .holds .now)
-    (whole-gives (s .args .job .now) (length (s .args .speeds .now)) (length (s .args .holds .now)) 0 (rw (c₂ .came .given .1) at (c₁ .car-at .ensures)) (rw (c₄ .seconds .given .1) at (c₃ .bounded .ensures)) (omega arith) (omega arith) (rw (c₆ .skipped .given .1) at (c₅ .skip .ensures)) (rw (c₈ .number .given .1) at (c₇ .group-at .ensures)) (rw (c₁₀ .judged .given .1) at (c₉ .judge-holds .ensures)) (omega (arith, c .before .before .before .before .before .before .before .before .before .if3 .left)))
-    (groups-length (s .args .job .now) _ _ come)
+    (whole-gives (s .args .job .now) (length (s .args .speeds .now)) (length (s .args .holds .now)) (rw (c₂ .came .given .1) at (c₁ .car-at .ensures)) (rw (c₄ .seconds .given .1) at (c₃ .bounded .ensures)) (omega arith) (omega arith) (rw (c₆ .skipped .given .1) at (c₅ .skip .ensures)) (rw (c₈ .number .given .1) at (c₇ .group-at .ensures)) (rw (c₁₀ .judged .given .1) at (c₉ .judge-holds .ensures)) (omega (arith, c .before .before .before .before .before .before .before .before .before .if3 .left)))
+    (many-length value-sound (s .args .job .now) _ _ come)
     (speeds-stand (s .args .job .now) (s .args .speeds .now) _ (omega arith) _ (c .before .before .before .before .before .before .before .put-speeds .ensures) (rw (c₆ .skipped .given .1) at (c₅ .skip .ensures)))
     (holds-stand (s .args .job .now) (s .args .holds .now) _ (omega arith) _ _ (c .before .before .before .put-holds .ensures) (rw (c₁₀ .judged .given .1) at (c₉ .judge-holds .ensures)))
 
@@ -269,10 +275,11 @@ read-spec =
     enum-told
     nothing-requires
     returns
+    cast-bounded
     bounded-requires
     enum-known-seconds
     enum-told-2
-    place-requires
+    came-requires
     nothing-requires-2
     returns-2
     cast-count
@@ -288,7 +295,7 @@ read-spec =
     group-at-requires
     enum-known-number
     enum-told-4
-    place-requires-2
+    came-requires-2
     nothing-requires-6
     returns-6
     cast-held

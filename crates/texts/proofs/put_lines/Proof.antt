@@ -4,7 +4,7 @@ use Prim.Native.Nat.{_-_, _<_}
 use native.Mathlib.Omega.{arith}
 use lib.ListN.{length, getD}
 use borrow.Author.Needs.{needs}
-use Rattle.rules.specs.Laws.Lines.{line-short}
+use Rattle.rules.proofs.Laws.Lines.{line-short}
 use Rattle.texts.proofs.Pieces.{Lined, lines-begin, lines-again, lines-end}
 use Rattle.texts.proofs.put_lines.Statement.{statement}
 use Rattle.texts.proofs.put_lines.Tie as tie

@@ -4,7 +4,7 @@ use Prim.Native.Nat.{_≤_}
 use native.Mathlib.Omega.{arith}
 use lib.ListN.{length}
 use Rattle.rules.specs.Text.{decimal, refusal-text}
-use Rattle.rules.specs.Laws.Lines.{tens, decimal-short}
+use Rattle.rules.proofs.Laws.Lines.{tens, decimal-short}
 use Rattle.texts.proofs.Pieces.{then}
 use borrow.Author.Needs.{needs}
 use Rattle.texts.proofs.put_refusal.Statement.{statement}

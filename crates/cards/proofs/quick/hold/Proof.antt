@@ -2,12 +2,13 @@
 -- Assumes nothing.
 use Prim.Native.Nat.{ℕ}
 use native.Mathlib.Omega.{arith}
-use mathlib.Core.Path.{refl}
+use mathlib.Core.Path.{refl, sym}
 use mathlib.Core.List.{List}
 use Rattle.rules.specs.declared.Vehicle.{Vehicle}
-use Rattle.cards.proofs.Working.{Opened, opened}
-use Rattle.cards.proofs.Holding.{Inside, Standing, Moving, Checked}
-use Rattle.cards.proofs.Holding.{quick-opening, quick-outside, in-holds, standing-refused, standing-done, span-asked, span-refused, span-between, span-done}
+use Rattle.checks.proofs.Rows.{Opened, opened}
+use Rattle.checks.proofs.Scans.{not-so, so}
+use Rattle.cards.proofs.Holding.{InTrace, Standing, MovingSecond, Checked}
+use Rattle.cards.proofs.Holding.{quick-opening, quick-outside, in-holds, standing-refused, standing-done, span-asked, span-parts, span-refused, span-between, span-fitting, span-done}
 use borrow.Author.Needs.{needs}
 use Rattle.cards.proofs.quick.hold.Statement.{statement}
 use Rattle.cards.proofs.quick.hold.Tie as tie
@@ -21,36 +22,27 @@ opened-at : (p : tie.After-enum-told) → Of (λ car vs hs old s g. Opened car v
 opened-at p = opened (p .before .before .check-opening .ensures _ _ _ refl refl refl) (p .enum-told .given .1)
 
 -- the second is one of the trace
-inside-at : (p : tie.Else1) → Of Inside (p .before)
+inside-at : (p : tie.Else1) → Of InTrace (p .before)
 inside-at p = record { opened = opened-at (p .before); inside = omega arith }
 
 -- the second stands
-standing-at : (p : tie.Then2) → Of Standing (p .before .before .before)
-standing-at p = record { place = inside-at (p .before .before); under-ten = omega arith }
-
--- a statement of the ends of its trip and of its span as well
-abbrev Ends-of : (ℕ → ℕ → ℕ → ℕ → Vehicle → List ℕ → List ℕ → List ℕ → ℕ → ℕ → Type 0) → tie.After-span-to → Type 0
-Ends-of P p =
-    Of (P (p .before .before .before .trip-start .result) (p .before .before .trip-stop .result) (p .before .span-from .result) (p .span-to .result))
-    (p .before .before .before .before .before .before .before)
+standing-at : (c : tie.Then2) → Of Standing (c .before .before .before .before)
+standing-at c = record { place = inside-at (c .before .before .before); stands = not-so (c .before .moving .ensures) (c .if2 .taken) }
 
 -- the second moves
-moving-at : (p : tie.After-span-to) → Ends-of Moving p
-moving-at p = record {
-  place = inside-at (p .before .before .before .before .before .before);
-  ten-or-more = omega arith;
-  trip-from = p .before .before .before .trip-start .ensures;
-  trip-to = p .before .before .trip-stop .ensures;
-  span-from = p .before .span-from .ensures;
-  span-to = p .span-to .ensures;
+moving-at : (c : tie.After-around) → Of (MovingSecond (record { lo = c .before .before .before .before .before .before .trip-start .result; hi = c .before .before .before .before .before .trip-stop .result }) (c .around .result)) (c .before .before .before .before .before .before .before .before .before .before .before)
+moving-at c = record {
+  place = inside-at (c .before .before .before .before .before .before .before .before .before .before);
+  moves = so (c .before .before .before .before .before .before .before .before .moving .ensures) (c .before .before .before .before .before .before .before .if2 .left);
+  trip-from = c .before .before .before .before .before .before .trip-start .ensures;
+  trip-to = c .before .before .before .before .before .trip-stop .ensures;
+  span-from = c .around .ensures .0;
+  span-to = c .around .ensures .1;
 }
 
 -- its span was looked at
-checked-at : (p : tie.After-check-span) → Ends-of (Checked (p .check-span .result)) (p .before .before .before .before .before)
-checked-at p =
-    let q = p .before .before .before .before in
-    let car = q .before .before .before .before .before .before .before .before .before .before .before .before .before .before .args .t1 in
-    record { second = moving-at (q .before); says = rw (q .numbers-of .ensures) at (p .check-span .ensures (car .n) (car .p)) }
+checked-at : (c : tie.After-check-span) → Of (Checked (c .check-span .result) (c .before .before .before .before .before .numbers-of .result) (record { lo = c .before .before .before .before .before .before .before .trip-start .result; hi = c .before .before .before .before .before .before .trip-stop .result }) (c .before .around .result)) (c .before .before .before .before .before .before .before .before .before .before .before .before)
+checked-at c = record { second = moving-at (c .before); counts = record { numbers = sym (c .before .before .before .before .before .numbers-of .ensures) }; says = c .check-span .ensures }
 
 check-opening-requires : tie.Need-check-opening-requires
 check-opening-requires c κs = search needs
@@ -72,11 +64,14 @@ returns-2 c =
     let s = c .before .before .before .before .before .before .before in
     quick-outside (s .args .t1) (s .args .speeds .now) (s .args .holds .now) (s .args .card .now) (s .args .second) (s .args .gear) (opened-at (c .before)) (omega arith)
 
-mul-if2 : tie.Need-mul-if2
-mul-if2 c = search needs
+mul-moving : tie.Need-mul-moving
+mul-moving c = search needs
 
-shared-slice-read-if2 : tie.Need-shared-slice-read-if2
-shared-slice-read-if2 c = search needs
+shared-slice-read-moving : tie.Need-shared-slice-read-moving
+shared-slice-read-moving c = search needs
+
+moving-requires : tie.Need-moving-requires
+moving-requires c κs = search needs
 
 check-standing-requires : tie.Need-check-standing-requires
 check-standing-requires c κs = search needs
@@ -105,17 +100,14 @@ trip-start-requires c κs = search needs
 trip-stop-requires : tie.Need-trip-stop-requires
 trip-stop-requires c κs = search needs
 
-span-from-requires : tie.Need-span-from-requires
-span-from-requires c κs = search needs
-
-span-to-requires : tie.Need-span-to-requires
-span-to-requires c κs = search needs
-
 numbers-of-requires : tie.Need-numbers-of-requires
 numbers-of-requires c κs = search needs
 
+around-requires : tie.Need-around-requires
+around-requires c κs = search needs
+
 check-span-requires : tie.Need-check-span-requires
-check-span-requires c κs = span-asked (moving-at (c .before .before .before .before)) (c .before .before .before .numbers-of .ensures)
+check-span-requires c κs = span-asked (moving-at c) (record { numbers = sym (c .before .before .before .before .numbers-of .ensures) })
 
 enum-told-5 : tie.Need-enum-told-5
 enum-told-5 c = search needs
@@ -134,9 +126,9 @@ slice-write-holds-2 c = in-holds (checked-at (c .before .before) .second .place)
 
 rework-requires : tie.Need-rework-requires
 rework-requires c κs =
-    let p = c .before .before .before .before .before .before in
-    let q = p .before .before .before .before .before .before in
-    rw (q .numbers-of .ensures) (span-between (checked-at (p .before .before)) (p .enum-told5 .given .1))
+    let K = checked-at (c .before .before .before .before .before .before .before .before) in
+    let d = c .before .before .before .before .before .before .enum-told5 .given .1 in
+    (record { car = _; lent = span-parts K }, span-between K d (span-parts K), λ car L. span-fitting K d L)
 
 same-length-3 : tie.Need-same-length-3
 same-length-3 c = search needs
@@ -145,10 +137,7 @@ same-length-4 : tie.Need-same-length-4
 same-length-4 c = search needs
 
 returns-6 : tie.Need-returns-6
-returns-6 c =
-    let p = c .before .before .before .before .before .before .before .before .before in
-    let q = p .before .before .before .before .before .before in
-    span-done (checked-at (p .before .before)) (p .enum-told5 .given .1) (rw (q .numbers-of .ensures) at (c .before .before .rework .ensures))
+returns-6 c = let K = checked-at (c .before .before .before .before .before .before .before .before .before .before .before) in span-done K (c .before .before .before .before .before .before .before .before .before .enum-told5 .given .1) (c .before .before .rework .ensures _ (span-parts K))
 
 pub hold-spec : {M : Type 1} → statement M
 hold-spec =
@@ -159,8 +148,9 @@ hold-spec =
     enum-told-2
     returns
     returns-2
-    mul-if2
-    shared-slice-read-if2
+    mul-moving
+    shared-slice-read-moving
+    moving-requires
     check-standing-requires
     enum-told-3
     enum-told-4
@@ -170,9 +160,8 @@ hold-spec =
     returns-4
     trip-start-requires
     trip-stop-requires
-    span-from-requires
-    span-to-requires
     numbers-of-requires
+    around-requires
     check-span-requires
     enum-told-5
     enum-told-6

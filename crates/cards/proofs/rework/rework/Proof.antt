@@ -46,7 +46,7 @@ part-work-trip-end-3 : tie.Need-part-work-trip-end-3
 part-work-trip-end-3 c = search needs
 
 work-trip-requires : tie.Need-work-trip-requires
-work-trip-requires c κs = ready (c .before .before .before .before .before .before .pre)
+work-trip-requires c κs = let P = c .before .before .before .before .before .before .pre .0 in (P, ready (c .before .before .before .before .before .before .pre .1) (P .lent .has .counts) (c .before .before .before .before .before .before .pre .2 (P .car) (P .lent)))
 
 slice-read-first : tie.Need-slice-read-first
 slice-read-first c = search needs
@@ -64,14 +64,15 @@ same-length : tie.Need-same-length
 same-length c = search needs
 
 returns : tie.Need-returns
-returns c =
+returns c = λ car L.
     let s = c .before .before .before .before .before .before .before .before .before .before in
-    let a = s .args .a in
-    let b = s .args .b in
+    let a = s .args .trip .lo in
+    let b = s .args .trip .hi in
+    let B = s .pre .1 in
     let old : List ℕ = s .args .card .now in
     let z : List ℕ = c .before .before .before .work-trip .last .1 .1 .1 .1 .1 .1 .0 in
-    let m : take a old ++ (z ++ postOf a (b - a) old) ≡ take a old ++ (z ++ drop b old) = ap (λ (r : List ℕ). take a old ++ (z ++ r)) (post-is a b old (omega (arith, s .pre .trip .some-second))) in
-    ap (λ (r : List ℕ). set r (a - 1) (16 + at r a % 16)) m ∙ worked (s .pre) z (c .before .before .before .work-trip .ensures)
+    let m : take a old ++ (z ++ postOf a (b - a) old) ≡ take a old ++ (z ++ drop b old) = ap (λ (r : List ℕ). take a old ++ (z ++ r)) (post-is a b old (omega (arith, B .trip .some-second))) in
+    ap (λ (r : List ℕ). set r (a - 1) (16 + at r a % 16)) m ∙ worked B car (L .bounds) (s .pre .2 car L) z (c .before .before .before .work-trip .ensures car L)
 
 pub rework-spec : {M : Type 1} → statement M
 rework-spec =

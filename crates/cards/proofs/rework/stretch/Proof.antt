@@ -5,18 +5,18 @@ use native.Mathlib.Omega.{arith}
 use mathlib.Core.Path.{_≡_, sym, _∙_}
 use borrow.Author.Needs.{needs}
 use Rattle.rules.specs.Units.{stop}
-use Rattle.cards.proofs.Reworking.{rests, follows}
+use Rattle.cards.proofs.Reworking.{rests, follows, follows-fit}
 use Rattle.cards.proofs.rework.stretch.Statement.{statement}
 use Rattle.cards.proofs.rework.stretch.Tie as tie
 
 add-a : tie.Need-add-a
-add-a c = search needs
+add-a c = let A = c .before .before .before .pre .1 .0 in omega (arith, A .in-trace)
 
 trip-stop-requires : tie.Need-trip-stop-requires
-trip-stop-requires c κs = search needs
+trip-stop-requires c κs = let A = c .before .before .before .pre .1 .0 in omega (arith, A .in-trace)
 
 slice-write-card : tie.Need-slice-write-card
-slice-write-card c = search needs
+slice-write-card c = let A = c .before .before .before .before .before .pre .1 .0 in omega (arith, A .in-trace, A .range .room)
 
 same-length : tie.Need-same-length
 same-length c = search needs
@@ -25,12 +25,15 @@ returns : tie.Need-returns
 returns c =
     let s = c .before .before .before .before .before in
     let e : stop (s .args .speeds .now) (s .args .i + 1) ≡ s .args .i + 1 = sym (c .before .trip-stop .ensures) ∙ c .if1 .taken in
-    (c .before .trip-stop .ensures, rests (s .pre) e)
+    (c .before .trip-stop .ensures, λ car L. rests (s .pre .1 .0) car e)
 
 rework-requires : tie.Need-rework-requires
 rework-requires c κs =
     let s = c .before .before .before .before .before .before in
-    rw (c .before .before .trip-stop .ensures) (follows (s .pre) (λ e. c .before .if1 .left (c .before .before .trip-stop .ensures ∙ e)))
+    let P = s .pre .0 in
+    let A = s .pre .1 .0 in
+    let some : stop (s .args .speeds .now) (s .args .i + 1) ≡ s .args .i + 1 → ⊥ = λ e. c .before .if1 .left (c .before .before .trip-stop .ensures ∙ e) in
+    (P, rw (c .before .before .trip-stop .ensures) (follows A some (P .car) (s .pre .1 .1 (P .car) (P .lent))), λ car L. rw (c .before .before .trip-stop .ensures) (follows-fit A some car (s .pre .1 .1 car L)))
 
 same-length-2 : tie.Need-same-length-2
 same-length-2 c = search needs
@@ -40,7 +43,7 @@ returns-2 c =
     let s = c .before .before .before .before .before .before .before .before .before in
     let t = c .before .before .before .before .before .trip-stop .ensures in
     let x : s .args .i + 1 - 1 ≡ s .args .i = omega arith in
-    (t, rw (x, t) at (c .before .before .rework .ensures))
+    (t, λ car L. rw (x, t) at (c .before .before .rework .ensures car L))
 
 pub stretch-spec : {M : Type 1} → statement M
 stretch-spec =

@@ -3,39 +3,36 @@
 use Prim.Native.Nat.{_-_}
 use native.Mathlib.Omega.{arith}
 use borrow.Author.Needs.{needs}
-use lib.ListN.{length}
-use Rattle.gears.specs.Parts.{vehicle-of}
+use Rattle.rules.specs.declared.Vehicle.{Vehicle}
+use Rattle.gears.specs.Parts.{Lent}
 use Rattle.cards.proofs.Reworking.{Swept, swept-none, swept-at, swept-more, swept-less, swept-all}
 use Rattle.cards.proofs.rework.sweep.Statement.{statement}
 use Rattle.cards.proofs.rework.sweep.Tie as tie
 
 abbrev Inv-loop : tie.InvT-loop
-Inv-loop k ratio n p speeds holds card₀ i₀ card i = Swept (vehicle-of k ratio n p) speeds holds card₀ card i
+Inv-loop k ratio n p speeds holds card₀ range i₀ card i = (car : Vehicle) → Lent car k ratio n p → Swept car speeds holds card₀ card (range .lo) (range .hi) i
 
 abbrev μ-loop : tie.MeasureT-loop
-μ-loop k ratio n p speeds holds card₀ i₀ card i = length speeds - i
+μ-loop k ratio n p speeds holds card₀ range i₀ card i = range .hi - i
 
 loop-holds : tie.Need-loop-holds Inv-loop μ-loop
-loop-holds c = swept-none (c .before .before .before .pre)
+loop-holds c = λ car L. swept-none (c .before .before .before .pre .1)
 
 stretch-requires : tie.Need-stretch-requires Inv-loop μ-loop
-stretch-requires c κs = swept-at (c .before .before .before .before .before .before .pre) (c .before .before .loop .inv) (omega arith)
+unfolding swept-at
+stretch-requires c κs = let s = c .before .before .before .before .before .before .before in let P = s .pre .0 in (P, (swept-at (s .pre .1) (c .before .before .before .loop .inv (P .car) (P .lent)) (omega arith), s .pre .2))
 
 loop-less : tie.Need-loop-less Inv-loop μ-loop
-loop-less c =
-    let s = c .before .before .before .before .before .before .before .before .before in
-    rw (c .before .before .stretch .ensures .0) (swept-less (s .pre) (c .before .before .before .before .before .loop .inv) (omega arith))
+loop-less c = rw (c .before .before .stretch .ensures .0) (swept-less (c .before .before .before .before .before .before .before .before .before .before .args .speeds .now) (c .before .before .before .before .before .before .loop .i) (c .before .before .before .before .before .before .before .before .before .before .args .range .hi) (omega arith))
 
 loop-again : tie.Need-loop-again Inv-loop μ-loop
-loop-again c =
-    let s = c .before .before .before .before .before .before .before .before .before in
-    swept-more (s .pre) (c .before .before .before .before .before .loop .inv) (omega arith) (c .before .before .stretch .ensures .0) (c .before .before .stretch .ensures .1)
+loop-again c = λ car L. swept-more (c .before .before .before .before .before .before .before .before .before .before .pre .1) (c .before .before .before .before .before .before .loop .inv car L) (omega arith) (c .before .before .stretch .ensures .0) (c .before .before .stretch .ensures .1 car L)
 
 same-length : tie.Need-same-length Inv-loop μ-loop
-same-length c = search needs
+same-length c = let P = c .before .before .before .before .before .before .pre .0 in c .before .before .loop .inv (P .car) (P .lent) .same-room
 
 returns : tie.Need-returns Inv-loop μ-loop
-returns c = swept-all (c .before .before .before .before .before .pre) (c .before .loop .inv) (omega arith)
+returns c = λ car L. swept-all (c .before .before .before .before .before .before .pre .1) (c .before .before .loop .inv car L) (omega arith)
 
 pub sweep-spec : {M : Type 1} → statement M
 sweep-spec =

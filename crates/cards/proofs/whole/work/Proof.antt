@@ -1,12 +1,13 @@
 -- `cards::whole::work` meets its contract. One law for each stage says what is known from there on, one of `Working` for each return.
 -- Assumes nothing.
 use Prim.Native.Nat.{ℕ}
-use mathlib.Core.Path.{_≡_, refl}
+use mathlib.Core.Path.{refl, sym}
 use mathlib.Core.List.{List}
-use lib.ListN.{length}
 use Rattle.rules.specs.declared.Vehicle.{Vehicle}
-use Rattle.rules.specs.Refusals.{said, span-fault}
-use Rattle.cards.proofs.Working.{Opened, opened, work-opening, work-asks, no-edit, work-span, work-passed, work-done}
+use native.Mathlib.Omega.{arith}
+use Rattle.gears.specs.Parts.{Counts}
+use Rattle.checks.proofs.Rows.{Opened, opened}
+use Rattle.cards.proofs.Working.{work-opening, spanned, its-parts, no-edit, work-span, work-range, work-passes, work-done}
 use borrow.Author.Needs.{needs}
 use Rattle.cards.proofs.whole.work.Statement.{statement}
 use Rattle.cards.proofs.whole.work.Tie as tie
@@ -19,12 +20,9 @@ Of P p = let s = p .before .before .before .before .before .before in P (s .args
 opened-at : (p : tie.After-enum-told) → Of Opened p
 opened-at p = opened (p .before .before .check-opening .ensures _ _ _ refl refl refl) (p .enum-told .given .1)
 
--- every second was looked at
-checked-at : (p : tie.After-check-span) → Of (λ car vs hs old. said (p .check-span .result) ≡ span-fault car vs hs 0 (length vs)) (p .before .before .before .before)
-checked-at p =
-    let q = p .before .before .before in
-    let car = q .before .before .before .before .before .before .before .args .t1 in
-    no-edit (opened-at (q .before)) 0 _ (rw (q .numbers-of .ensures) at (p .check-span .ensures (car .n) (car .p)))
+-- the numbers are the vehicle's
+counts-at : (c : tie.After-numbers-of) → Of (λ car vs hs old. Counts car (c .numbers-of .result)) (c .before)
+counts-at c = record { numbers = sym (c .numbers-of .ensures) }
 
 check-opening-requires : tie.Need-check-opening-requires
 check-opening-requires c κs = search needs
@@ -45,7 +43,7 @@ numbers-of-requires : tie.Need-numbers-of-requires
 numbers-of-requires c κs = search needs
 
 check-span-requires : tie.Need-check-span-requires
-check-span-requires c κs = work-asks (opened-at (c .before .before .before)) (c .before .before .numbers-of .ensures)
+check-span-requires c κs = spanned (counts-at (c .before .before)) (opened-at (c .before .before .before)) (omega arith) (omega arith)
 
 enum-told-3 : tie.Need-enum-told-3
 enum-told-3 c = search needs
@@ -54,22 +52,27 @@ enum-told-4 : tie.Need-enum-told-4
 enum-told-4 c = search needs
 
 returns-2 : tie.Need-returns-2
-returns-2 c = work-span (opened-at (c .before .before .before .before .before .before)) (checked-at (c .before .before)) (c .enum-told4 .given .1)
+returns-2 c =
+    let O = opened-at (c .before .before .before .before .before .before) in
+    work-span O (no-edit O _ 0 _ (c .before .before .check-span .ensures _ (its-parts (counts-at (c .before .before .before .before .before)) O .has))) (c .enum-told4 .given .1)
 
 sweep-requires : tie.Need-sweep-requires
 sweep-requires c κs =
-    let p = c .before .before .before .before .before in
-    let q = p .before .before .before .before .before in
-    rw (q .numbers-of .ensures) (work-passed (opened-at (q .before)) (checked-at (p .before .before)) (p .enum-told3 .given .1))
+    let O = opened-at (c .before .before .before .before .before .before .before .before .before .before .before) in
+    let L = its-parts (counts-at (c .before .before .before .before .before .before .before .before .before .before)) O in (
+      record { car = _; lent = L },
+      work-range O _ (no-edit O _ 0 _ (c .before .before .before .before .before .before .before .check-span .ensures _ (L .has))) (c .before .before .before .before .before .enum-told3 .given .1),
+      λ car M. work-passes O car (no-edit O car 0 _ (c .before .before .before .before .before .before .before .check-span .ensures car (M .has))) (c .before .before .before .before .before .enum-told3 .given .1),
+    )
 
 same-length : tie.Need-same-length
 same-length c = search needs
 
 returns-3 : tie.Need-returns-3
 returns-3 c =
-    let p = c .before .before .before .before .before .before .before .before in
-    let q = p .before .before .before .before .before in
-    work-done (opened-at (q .before)) (checked-at (p .before .before)) (p .enum-told3 .given .1) (rw (q .numbers-of .ensures) at (c .before .before .sweep .ensures))
+    let O = opened-at (c .before .before .before .before .before .before .before .before .before .before .before .before .before .before) in
+    let L = its-parts (counts-at (c .before .before .before .before .before .before .before .before .before .before .before .before .before)) O in
+    work-done O (no-edit O _ 0 _ (c .before .before .before .before .before .before .before .before .before .before .check-span .ensures _ (L .has))) (c .before .before .before .before .before .before .before .before .enum-told3 .given .1) (c .before .before .sweep .ensures _ L)
 
 pub work-spec : {M : Type 1} → statement M
 work-spec =

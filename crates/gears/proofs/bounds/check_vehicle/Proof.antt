@@ -10,7 +10,7 @@ use lib.Dec.{lit<}
 use borrow.Author.Tests.{le-leb, lt-leb, not-true, not-false}
 use Rattle.rules.specs.Words.{within}
 use Rattle.rules.specs.Units.{bounds}
-use Rattle.rules.specs.Laws.Vehicle.{within-lo, within-hi}
+use Rattle.rules.proofs.Laws.Vehicle.{within-lo, within-hi}
 use Rattle.gears.proofs.Fields.{Passed, passed-none, passed-more, refused-here, passed-all}
 use borrow.Author.Needs.{needs}
 use Rattle.gears.proofs.bounds.check_vehicle.Statement.{statement}

@@ -8,7 +8,7 @@ use borrow.Author.Tests.{not-true, not-false}
 use Rattle.rules.specs.declared.Vehicle.{Vehicle}
 use Rattle.rules.specs.Words.{every}
 use Rattle.rules.specs.Units.{ratio-good}
-use Rattle.rules.specs.Laws.Walk.{Every, all-start, all-stops, all-again, all-ends}
+use Rattle.rules.proofs.Laws.Walk.{Every, all-start, all-stops, all-again, all-ends}
 use Rattle.gears.proofs.bounds.ratios_good.Statement.{statement}
 use Rattle.gears.proofs.bounds.ratios_good.Tie as tie
 

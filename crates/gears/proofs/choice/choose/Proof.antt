@@ -1,95 +1,119 @@
 -- `gears::choice::choose` meets its contract: before each turn the gears above `g` do not suit.
 -- Assumes nothing.
+use Prim.Native.Nat.{_≤_, _<_}
 use native.Mathlib.Omega.{arith}
+use mathlib.Core.Bool.{false}
 use mathlib.Core.Path.{_≡_, _∙_}
 use borrow.Author.Needs.{needs}
 use mir.Facts.{toZ-ofZ}
 use mir.Syntax.{w64}
 use mir.Val.{toZ}
-use Rattle.rules.specs.Laws.Sizes.{required-size}
-use Rattle.rules.specs.Laws.Range.{rd, result}
+use Rattle.rules.proofs.Laws.Sizes.{required-size}
+use Rattle.rules.proofs.Laws.Range.{rd, result}
 use Rattle.rules.specs.Gears.{Place, required}
 use Rattle.rules.specs.declared.Vehicle.{Vehicle}
 use Rattle.gears.specs.Choosing.{suits-for}
-use Rattle.gears.specs.Parts.{vehicle-of}
-use Rattle.gears.proofs.Choices.{start-reached, choice-first, choice-highest, choice-strongest}
-use Rattle.gears.proofs.Down.{Down, stops, again, ends}
+use Rattle.gears.specs.Parts.{Counts, Lent}
+use Rattle.gears.proofs.Parts.{ng-of, idle-of, rated-of, f0-of, f1-of, f2-of, tm-of}
+use Rattle.gears.proofs.Choices.{choice-first, down-of, goes-down, choice-highest, choice-strongest}
+use Rattle.gears.proofs.Down.{Down, start, stops, ends}
 use Rattle.gears.proofs.choice.choose.Statement.{statement}
 use Rattle.gears.proofs.choice.choose.Tie as tie
 
+-- a later second of a trip
+abbrev later : Place
+later = record { first-second = false }
+
 abbrev Inv-loop : tie.InvT-loop
-Inv-loop k ratio n p first-second v d e g₀ g = Down (suits-for (vehicle-of k ratio n p) (record { first-second = first-second }) v (toZ w64 e)) (k .ng) g
+Inv-loop k ratio n p first-second v d e least g₀ g = (g ≤ k .ng) × ((car : Vehicle) → Lent car k ratio n p → Down (suits-for car later v (toZ w64 e)) (car .ng) g)
 
 abbrev μ-loop : tie.MeasureT-loop
-μ-loop k ratio n p first-second v d e g₀ g = g
-
-abbrev car : tie.Start Inv-loop μ-loop → Vehicle
-car c = vehicle-of (c .args .k) (c .args .ratio .now) (c .args .n .now) (c .args .p .now)
-
-abbrev here : tie.Start Inv-loop μ-loop → Place
-here c = record { first-second = c .args .first-second }
+μ-loop k ratio n p first-second v d e least g₀ g = g
 
 only-first-requires : tie.Need-only-first-requires Inv-loop μ-loop
-only-first-requires c κs = omega (arith, c .before .pre .bounds .rated-from)
+only-first-requires c κs = let L = c .before .pre .0 .lent in omega (arith, idle-of (L .has .counts), rated-of (L .has .counts), L .bounds .rated-from)
 
 returns : tie.Need-returns Inv-loop μ-loop
-returns c =
+returns c = λ car L.
     let s = c .before .before in
-    rw (c .before .if1 .taken) (c .only-first .ensures (s .args .n .now) (s .args .p .now) ∙ choice-first (car s) (s .pre .bounds) (s .args .v) (s .args .d))
+    rw (c .before .if1 .taken) (c .only-first .ensures car (L .has) ∙ choice-first car (L .bounds) (s .args .v) (s .args .d))
 
--- E is the required power
-load : (c : tie.After-required Inv-loop μ-loop) → rd (c .required .result) ≡ required (car (c .before .before)) (c .before .before .args .v) (c .before .before .args .d)
-load c =
+-- E is the required power, of every vehicle of these parts
+load : (c : tie.After-required Inv-loop μ-loop) → let s = c .before .before in (car : Vehicle) → Counts car (s .args .k)
+    → rd (c .required .result) ≡ required car (s .args .v) (s .args .d)
+load c car C =
     let s = c .before .before in
-    result (c .required .ok) ∙ (rw (toZ-ofZ (s .fits .d)) at (c .required .ensures (s .args .ratio .now) (s .args .n .now) (s .args .p .now)))
+    result (c .required .ok) ∙ (rw (toZ-ofZ (s .fits .d)) at (c .required .ensures car C))
 
 required-requires : tie.Need-required-requires Inv-loop μ-loop
 required-requires c κs =
     let s = c .before in
+    let L = s .pre .0 .lent in
     rw (toZ-ofZ (s .fits .d)) (record {
-      f0-to = s .pre .bounds .f0-to;
-      f1-in = s .pre .bounds .f1-in;
-      f2-to = s .pre .bounds .f2-to;
-      tm-to = s .pre .bounds .tm-to;
-      v-to = s .pre .v-to;
-      d-in = s .pre .d-in;
+      f0-to = omega (arith, f0-of (L .has .counts), L .bounds .f0-to);
+      f1-in = rw (← f1-of (L .has .counts)) (L .bounds .f1-in);
+      f2-to = omega (arith, f2-of (L .has .counts), L .bounds .f2-to);
+      tm-to = omega (arith, tm-of (L .has .counts), L .bounds .tm-to);
+      v-to = s .pre .1 .v-to;
+      d-in = s .pre .1 .d-in;
     })
 
-reached-requires : tie.Need-reached-requires Inv-loop μ-loop
-reached-requires c κs = let s = c .before .before in record { n = s .args .n .now; p = s .args .p .now; bounds = s .pre .bounds }
+minimum-requires : tie.Need-minimum-requires Inv-loop μ-loop
+minimum-requires c κs =
+    let L = c .before .before .pre .0 .lent in
+    record { from = omega arith; rated-from = omega (arith, idle-of (L .has .counts), rated-of (L .has .counts), L .bounds .rated-from) }
+
+mul-least : tie.Need-mul-least Inv-loop μ-loop
+mul-least c = search needs
+
+cast-g : tie.Need-cast-g Inv-loop μ-loop
+cast-g c = search needs
 
 loop-holds : tie.Need-loop-holds Inv-loop μ-loop
-loop-holds c = let s = c .before .before .before in start-reached (car s) (here s) _ _ (c .reached .ensures (s .args .n .now) (s .args .p .now))
+loop-holds c = (omega arith, λ car L. rw (ng-of (L .has .counts)) start)
 
 strongest-requires : tie.Need-strongest-requires Inv-loop μ-loop
 strongest-requires c κs = search needs
 
 suits-requires : tie.Need-suits-requires Inv-loop μ-loop
 suits-requires c κs =
-    let s = c .before .before .before .before .before in (
-      record { bounds = s .pre .bounds; from = omega arith; to = omega (arith, c .before .loop .inv .under) },
-      rw (load (c .before .before .before)) (required-size (car s) (s .pre .bounds) (s .args .v) (s .pre .v-to) (s .args .d) (s .pre .d-in)),
+    let s = c .before .before .before .before .before .before in
+    let P = s .pre .0 in (
+      P,
+      record { from = omega arith; to = omega (arith, c .before .loop .inv .0) },
+      rw (load (c .before .before .before .before) (P .car) (P .lent .has .counts)) (required-size (P .car) (P .lent .bounds) (s .args .v) (s .pre .1 .v-to) (s .args .d) (s .pre .1 .d-in)),
+      λ car C. rw (c .before .before .before .minimum .ensures .0 car C),
     )
 
-sub-g : tie.Need-sub-g Inv-loop μ-loop
-sub-g c = search needs
+below-requires : tie.Need-below-requires Inv-loop μ-loop
+below-requires c κs = search needs
 
 loop-less : tie.Need-loop-less Inv-loop μ-loop
-loop-less c = search needs
+loop-less c = down-of _ (c .below .ensures) (omega arith)
 
 loop-again : tie.Need-loop-again Inv-loop μ-loop
-loop-again c = again (c .before .before .before .loop .inv) (omega arith) (rw (c .before .suits .ensures) at (c .if3 .left))
+loop-again c =
+    let s = c .before .before .before .before .before .before .before .before .before in
+    let l = c .before .before .before .before .loop in
+    let b : c .below .result < l .g = down-of _ (c .below .ensures) (omega arith) in (
+      omega (arith, l .inv .0),
+      λ car L.
+          goes-down L (s .args .v) (rw (c .before .before .before .before .before .before .minimum .ensures .0 car (L .has .counts))) _ (c .below .ensures) (omega arith) (omega (arith, ng-of (L .has .counts), l .inv .0)) (rw (c .before .before .suits .ensures car L) at (c .before .if3 .left)) (l .inv .1 car L),
+    )
 
 returns-2 : tie.Need-returns-2 Inv-loop μ-loop
-returns-2 c =
-    let s = c .before .before .before .before .before .before in
-    choice-strongest (car s) (here s) (s .args .v) (s .args .d) (load (c .before .before .before .before)) (c .strongest .ensures) (ends (c .before .before .loop .inv) (c .before .if2 .taken))
+returns-2 c = λ car L.
+    let s = c .before .before .before .before .before .before .before in
+    rw (c .before .before .before .before .before .before .if1 .left)
+    (choice-strongest car later (s .args .v) (s .args .d) (load (c .before .before .before .before .before) car (L .has .counts))
+    (rw (c .before .before .before .before .before .before .if1 .left, ← ng-of (L .has .counts)) at (c .strongest .ensures car L)) (ends (c .before .before .loop .inv .1 car L) (c .before .if2 .taken)))
 
 returns-3 : tie.Need-returns-3 Inv-loop μ-loop
-returns-3 c =
-    let s = c .before .before .before .before .before .before .before in
-    choice-highest (car s) (here s) (s .args .v) (s .args .d) (load (c .before .before .before .before .before)) (omega arith)
-    (stops (c .before .before .before .loop .inv) (omega arith) (rw (c .before .suits .ensures) at (c .if3 .taken)))
+returns-3 c = λ car L.
+    let s = c .before .before .before .before .before .before .before .before in
+    rw (c .before .before .before .before .before .before .before .if1 .left)
+    (choice-highest car later (s .args .v) (s .args .d) (load (c .before .before .before .before .before .before) car (L .has .counts)) (omega arith)
+    (stops (c .before .before .before .loop .inv .1 car L) (omega arith) (rw (c .before .suits .ensures car L) at (c .if3 .taken))))
 
 pub choose-spec : {M : Type 1} → statement M
 choose-spec =
@@ -100,11 +124,13 @@ choose-spec =
     only-first-requires
     returns
     required-requires
-    reached-requires
+    minimum-requires
+    mul-least
+    cast-g
     loop-holds
     strongest-requires
     suits-requires
-    sub-g
+    below-requires
     loop-less
     loop-again
     returns-2

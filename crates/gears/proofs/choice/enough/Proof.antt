@@ -2,7 +2,7 @@
 -- Assumes nothing.
 use lib.IntN.{pos}
 use borrow.Author.Needs.{needs}
-use Rattle.rules.specs.Laws.Range.{E, lit, var, _⊖_, _⊗_, fits, le-read}
+use Rattle.rules.proofs.Laws.Range.{E, lit, var, _⊖_, _⊗_, fits, le-read}
 use Rattle.gears.specs.Choosing.{most-E, enough-for}
 use Rattle.gears.proofs.choice.enough.Statement.{statement}
 use Rattle.gears.proofs.choice.enough.Tie as tie

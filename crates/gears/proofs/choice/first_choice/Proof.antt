@@ -5,23 +5,21 @@ use mathlib.Core.Path.{_≡_, _∙_}
 use borrow.Author.Tests.{eq-eqb, ne-eqb}
 use borrow.Author.Needs.{needs}
 use mir.Facts.{toZ-ofZ}
-use Rattle.rules.specs.Laws.Choice.{choose-to}
+use Rattle.rules.proofs.Laws.Choice.{choose-to}
 use Rattle.rules.specs.Gears.{Place, choose}
 use Rattle.rules.specs.declared.Vehicle.{Vehicle}
 use Rattle.gears.specs.Choosing.{first-of}
-use Rattle.gears.specs.Parts.{vehicle-of}
+use Rattle.gears.specs.Parts.{Lent}
 use Rattle.gears.proofs.choice.first_choice.Statement.{statement}
 use Rattle.gears.proofs.choice.first_choice.Tie as tie
-
-abbrev car : tie.Start → Vehicle
-car c = vehicle-of (c .args .k) (c .args .ratio .now) (c .args .n .now) (c .args .p .now)
 
 abbrev here : tie.Start → Place
 here c = record { first-second = c .args .first-second }
 
 -- what was returned is the rules' choice
-is : (c : tie.After-choose) → let s = c .before .before in c .choose .result ≡ choose (car s) (here s) (s .args .v) (s .args .d)
-is c = let s = c .before .before in rw (toZ-ofZ (s .fits .d)) at (c .choose .ensures)
+is : (c : tie.After-choose) → let s = c .before .before in (car : Vehicle) → Lent car (s .args .k) (s .args .ratio .now) (s .args .n .now) (s .args .p .now)
+    → c .choose .result ≡ choose car (here s) (s .args .v) (s .args .d)
+is c car L = let s = c .before .before in rw (toZ-ofZ (s .fits .d)) at (c .choose .ensures car L)
 
 choose-requires : tie.Need-choose-requires
 choose-requires c κs = search needs
@@ -29,15 +27,17 @@ choose-requires c κs = search needs
 cast-result : tie.Need-cast-result
 cast-result c =
     let s = c .before .before in
-    omega (arith, is c, choose-to (car s) (here s) (s .args .v) (s .args .d), s .pre .bounds .ng-to)
+    let car = s .pre .0 .car in
+    let L = s .pre .0 .lent in
+    omega (arith, is c car L, choose-to car (here s) (s .args .v) (s .args .d), L .bounds .ng-to)
 
 returns : tie.Need-returns
 unfolding first-of
-returns c = is c ∙ rw (eq-eqb _ 0 (c .before .if1 .taken))
+returns c = λ car L. is c car L ∙ rw (eq-eqb _ 0 (c .before .if1 .taken))
 
 returns-2 : tie.Need-returns-2
 unfolding first-of
-returns-2 c = rw (ne-eqb _ 0 (c .if1 .left))
+returns-2 c = λ car L. rw (ne-eqb _ 0 (c .if1 .left))
 
 pub first-choice-spec : {M : Type 1} → statement M
 first-choice-spec = tie.close (tie.spec choose-requires cast-result returns returns-2)

@@ -1,7 +1,7 @@
 -- `gears::choice::more` meets its contract: both products stay inside an i64, by the sizes of their parts.
 -- Assumes nothing.
 use Rattle.rules.specs.Gears.{more}
-use Rattle.rules.specs.Laws.Range.{E, var, _⊗_, fits, lt-read}
+use Rattle.rules.proofs.Laws.Range.{E, var, _⊗_, fits, lt-read}
 use Rattle.gears.proofs.choice.more.Statement.{statement}
 use Rattle.gears.proofs.choice.more.Tie as tie
 

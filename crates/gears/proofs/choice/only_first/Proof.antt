@@ -11,11 +11,11 @@ fits-requires c κs = search needs
 
 returns : tie.Need-returns
 unfolding only-first
-returns c = λ n p. rw (← c .before .fits2 .ensures n p, c .if1 .taken)
+returns c = λ car H. rw (← c .before .fits2 .ensures car H, c .if1 .taken)
 
 returns-2 : tie.Need-returns-2
 unfolding only-first
-returns-2 c = λ n p. rw (← c .before .fits2 .ensures n p, c .if1 .left)
+returns-2 c = λ car H. rw (← c .before .fits2 .ensures car H, c .if1 .left)
 
 pub only-first-spec : {M : Type 1} → statement M
 only-first-spec = tie.close (tie.spec fits-requires returns returns-2)

@@ -5,20 +5,21 @@ use native.Mathlib.Omega.{arith}
 use mathlib.Core.Path.{_≡_, ap, _∙_}
 use borrow.Author.Needs.{needs}
 use Rattle.rules.specs.Gears.{strongest}
-use Rattle.gears.specs.Parts.{vehicle-of}
+use Rattle.rules.specs.declared.Vehicle.{Vehicle}
+use Rattle.gears.specs.Parts.{Lent}
 use Rattle.gears.specs.Choosing.{Strongest}
 use Rattle.gears.proofs.Choices.{none-yet}
 use Rattle.gears.proofs.choice.strongest.Statement.{statement}
 use Rattle.gears.proofs.choice.strongest.Tie as tie
 
 abbrev Inv-loop : tie.InvT-loop
-Inv-loop k ratio n p first-second v best₀ g₀ best g = (g ≤ k .ng) × Strongest (vehicle-of k ratio n p) (record { first-second = first-second }) v g best
+Inv-loop k ratio n p first-second v best₀ g₀ best g = (g ≤ k .ng) × ((car : Vehicle) → Lent car k ratio n p → Strongest car (record { first-second = first-second }) v g best)
 
 abbrev μ-loop : tie.MeasureT-loop
 μ-loop k ratio n p first-second v best₀ g₀ best g = k .ng - g
 
 loop-holds : tie.Need-loop-holds Inv-loop μ-loop
-loop-holds c = (omega arith, none-yet _ _ _ _)
+loop-holds c = (omega arith, λ car L. none-yet _ _ _ _)
 
 cast-if1 : tie.Need-cast-if1 Inv-loop μ-loop
 cast-if1 c = search needs
@@ -30,7 +31,7 @@ stronger-requires : tie.Need-stronger-requires Inv-loop μ-loop
 stronger-requires c κs =
     let s = c .before .before .before in
     let e : c .before .before .loop .g + 1 - 1 ≡ c .before .before .loop .g = omega arith in
-    (record { bounds = s .pre; from = omega arith; to = omega arith }, rw e (c .before .before .loop .inv .1))
+    (s .pre, record { from = omega arith; to = omega arith }, λ car L. rw e (c .before .before .loop .inv .1 car L))
 
 loop-less : tie.Need-loop-less Inv-loop μ-loop
 loop-less c = search needs
@@ -39,10 +40,10 @@ loop-again : tie.Need-loop-again Inv-loop μ-loop
 loop-again c = (omega arith, c .stronger .ensures)
 
 returns : tie.Need-returns Inv-loop μ-loop
-returns c =
+returns c = λ car L.
     let s = c .before .before .before in
     let e : c .before .before .loop .g ≡ s .args .k .ng = omega arith in
-    c .before .before .loop .inv .1 .is ∙ ap (λ (j : ℕ). strongest (vehicle-of (s .args .k) (s .args .ratio .now) (s .args .n .now) (s .args .p .now)) (record { first-second = s .args .first-second }) (s .args .v) j) e
+    c .before .before .loop .inv .1 car L .is ∙ ap (λ (j : ℕ). strongest car (record { first-second = s .args .first-second }) (s .args .v) j) e
 
 pub strongest-spec : {M : Type 1} → statement M
 strongest-spec =

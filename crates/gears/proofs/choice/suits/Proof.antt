@@ -1,53 +1,73 @@
 -- `gears::choice::suits` meets its contract: a gear that fits is looked at, and its power compared.
 -- Assumes nothing.
-use mathlib.Core.Bool.{true}
+use native.Mathlib.Omega.{arith}
+use mathlib.Core.Bool.{true, false}
 use mathlib.Core.Path.{_≡_}
 use borrow.Author.Needs.{needs}
 use mir.Facts.{toZ-ofZ}
 use Rattle.rules.specs.Gears.{Place, fits}
 use Rattle.rules.specs.declared.Vehicle.{Vehicle}
-use Rattle.gears.specs.Parts.{vehicle-of}
+use Rattle.gears.specs.Parts.{Lent}
+use Rattle.gears.specs.Choosing.{Turning}
+use Rattle.gears.proofs.Parts.{ng-of, idle-of, rated-of, margin-of}
 use Rattle.gears.proofs.Choices.{suits-none, suits-power, unfit}
 use Rattle.gears.proofs.Powers.{turning-of, sized-of}
 use Rattle.gears.proofs.choice.suits.Statement.{statement}
 use Rattle.gears.proofs.choice.suits.Tie as tie
 
-abbrev car : tie.Start → Vehicle
-car c = vehicle-of (c .args .k) (c .args .ratio .now) (c .args .n .now) (c .args .p .now)
+-- a later second of a trip
+abbrev later : Place
+later = record { first-second = false }
 
-abbrev here : tie.Start → Place
-here c = record { first-second = c .args .first-second }
+-- the parts lent
+abbrev Of : tie.Start → Vehicle → Type 0
+Of s car = Lent car (s .args .k) (s .args .ratio .now) (s .args .n .now) (s .args .p .now)
 
 -- the gear fits
-fit : (c : tie.Then1) → let s = c .before .before in fits (car s) (here s) (s .args .v) (s .args .g) ≡ true
-fit c = let s = c .before .before in rw (c .before .fits2 .ensures (s .args .n .now) (s .args .p .now)) at (c .if1 .taken)
+fit : (c : tie.Then1) → let s = c .before .before in (car : Vehicle) → Of s car → fits car later (s .args .v) (s .args .g) ≡ true
+fit c car L = rw (c .before .fits-later .ensures car (L .has)) at (c .if1 .taken)
 
-fits-requires : tie.Need-fits-requires
-fits-requires c κs = search needs
+-- it is within nmax
+turns : (c : tie.Then1) → let s = c .before .before in Turning (s .args .k) (s .args .ratio .now) (s .args .v) (s .args .g)
+turns c = let s = c .before .before in let L = s .pre .0 .lent in turning-of (L .has) later _ _ (s .pre .1) (fit c (s .pre .0 .car) L)
+
+fits-later-requires : tie.Need-fits-later-requires
+fits-later-requires c κs = let L = c .pre .0 .lent in (
+  record {
+    from = c .pre .1 .from;
+    to = omega (arith, c .pre .1 .to, ng-of (L .has .counts), L .bounds .ng-to);
+    rated-from = omega (arith, idle-of (L .has .counts), rated-of (L .has .counts), L .bounds .rated-from);
+  },
+  c .pre .3,
+)
 
 returns : tie.Need-returns
-returns c =
+returns c = λ car L.
     let s = c .before .before .before in
-    suits-none (car s) (here s) _ _ (s .pre .0) (s .args .e) (fit (c .before)) (rw (toZ-ofZ (s .fits .e)) at (c .if2 .taken))
+    suits-none L later _ _ (s .pre .1) (s .args .e) (fit (c .before) car L) (rw (toZ-ofZ (s .fits .e)) at (c .if2 .taken))
 
 power-at-requires : tie.Need-power-at-requires
-power-at-requires c κs = let s = c .before .before .before in turning-of (car s) (here s) _ _ (s .pre .0) (fit (c .before))
+power-at-requires c κs = let s = c .before .before .before in (s .pre .0, turns (c .before))
 
 enough-requires : tie.Need-enough-requires
 enough-requires c κs =
     let s = c .before .before .before .before in
-    let t = turning-of (car s) (here s) _ _ (s .pre .0) (fit (c .before .before)) in
-    record { margin-to = s .pre .0 .bounds .margin-to; sized = sized-of (car s) _ _ t (c .power-at .result) (c .power-at .ensures); e-in = rw (toZ-ofZ (s .fits .e)) (s .pre .1) }
+    let L = s .pre .0 .lent in
+    record {
+      margin-to = omega (arith, margin-of (L .has .counts), L .bounds .margin-to);
+      sized = sized-of L _ _ (turns (c .before .before)) (c .power-at .result) (c .power-at .ensures (s .pre .0 .car) L);
+      e-in = rw (toZ-ofZ (s .fits .e)) (s .pre .2);
+    }
 
 returns-2 : tie.Need-returns-2
-returns-2 c =
+returns-2 c = λ car L.
     let s = c .before .before .before .before .before in
-    suits-power (car s) (here s) _ _ (s .args .e) (c .before .power-at .result) (fit (c .before .before .before)) (c .before .power-at .ensures) (rw (toZ-ofZ (s .fits .e)) at (c .enough .ensures))
+    suits-power L later _ _ (s .args .e) (c .before .power-at .result) (fit (c .before .before .before) car L) (c .before .power-at .ensures car L) (rw (toZ-ofZ (s .fits .e)) at (c .enough .ensures))
 
 returns-3 : tie.Need-returns-3
-returns-3 c =
+returns-3 c = λ car L.
     let s = c .before .before in
-    unfit (car s) (here s) _ _ (s .args .e) (rw (c .before .fits2 .ensures (s .args .n .now) (s .args .p .now)) at (c .if1 .left))
+    unfit L later _ _ (s .args .e) (rw (c .before .fits-later .ensures car (L .has)) at (c .if1 .left))
 
 pub suits-spec : {M : Type 1} → statement M
-suits-spec = tie.close (tie.spec fits-requires returns power-at-requires enough-requires returns-2 returns-3)
+suits-spec = tie.close (tie.spec fits-later-requires returns power-at-requires enough-requires returns-2 returns-3)

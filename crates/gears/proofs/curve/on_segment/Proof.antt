@@ -6,7 +6,7 @@ use mathlib.Core.Path.{_≡_, ap, _∙_}
 use lib.IntN.{ℤ, pos}
 use borrow.Author.Needs.{needs}
 use Rattle.rules.specs.Words.{at}
-use Rattle.rules.specs.Laws.Range.{E, lit, var, is, _⊕_, _⊖_, _⊗_, fits, read}
+use Rattle.rules.proofs.Laws.Range.{E, lit, var, is, _⊕_, _⊖_, _⊗_, fits, read}
 use Rattle.rules.specs.Gears.{Power, between}
 use Rattle.gears.proofs.curve.on_segment.Statement.{statement}
 use Rattle.gears.proofs.curve.on_segment.Tie as tie

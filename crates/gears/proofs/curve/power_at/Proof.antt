@@ -1,34 +1,35 @@
 -- `gears::curve::power_at` meets its contract: the engine speed lies on the curve, and the segment found is read.
 -- Assumes nothing.
+use native.Mathlib.Omega.{arith}
 use mathlib.Core.Path.{_≡_, _∙_}
 use borrow.Author.Needs.{needs}
 use Rattle.rules.specs.Gears.{power-speed}
 use Rattle.rules.specs.declared.Vehicle.{Vehicle}
-use Rattle.gears.specs.Parts.{vehicle-of}
+use Rattle.gears.specs.Parts.{Lent}
+use Rattle.gears.proofs.Parts.{ng-of}
 use Rattle.gears.proofs.Powers.{speed-is, power-is, turning-curve, turning-segment}
 use Rattle.gears.proofs.curve.power_at.Statement.{statement}
 use Rattle.gears.proofs.curve.power_at.Tie as tie
 
-abbrev car : tie.Start → Vehicle
-car c = vehicle-of (c .args .k) (c .args .ratio .now) (c .args .n .now) (c .args .p .now)
-
-speed : (c : tie.After-power-speed) → c .power-speed .result ≡ power-speed (car (c .before .before)) (c .before .before .args .v) (c .before .before .args .g)
-speed c = speed-is (car (c .before .before)) (c .before .before .args .v) (c .before .before .args .g) (c .power-speed .ensures) (c .before .engine .ensures)
+-- the speed at which power is read, of any vehicle of these parts
+speed : (c : tie.After-power-speed) → let s = c .before .before in (car : Vehicle) → Lent car (s .args .k) (s .args .ratio .now) (s .args .n .now) (s .args .p .now)
+    → c .power-speed .result ≡ power-speed car (s .args .v) (s .args .g)
+speed c car L = let s = c .before .before in speed-is L (s .args .v) (s .args .g) (c .power-speed .ensures) (c .before .engine .ensures)
 
 engine-requires : tie.Need-engine-requires
-engine-requires c κs = search needs
+engine-requires c κs = let L = c .pre .0 .lent in record { from = c .pre .1 .from; to = omega (arith, c .pre .1 .to, ng-of (L .has .counts), L .bounds .ng-to) }
 
 power-speed-requires : tie.Need-power-speed-requires
 power-speed-requires c κs = search needs
 
 segment-requires : tie.Need-segment-requires
-segment-requires c κs = turning-curve (car (c .before .before)) _ _ (c .before .before .pre) (speed c)
+segment-requires c κs = let s = c .before .before in let L = s .pre .0 .lent in turning-curve L _ _ (s .pre .1) (speed c (s .pre .0 .car) L)
 
 on-segment-requires : tie.Need-on-segment-requires
-on-segment-requires c κs = turning-segment (car (c .before .before .before)) _ _ (c .before .before .before .pre) (speed (c .before)) (c .segment .ensures)
+on-segment-requires c κs = let s = c .before .before .before in let L = s .pre .0 .lent in turning-segment L _ _ (s .pre .1) (speed (c .before) (s .pre .0 .car) L) (c .segment .ensures)
 
 returns : tie.Need-returns
-returns c = c .on-segment .ensures ∙ power-is (car (c .before .before .before .before)) _ _ (speed (c .before .before)) (c .before .segment .ensures)
+returns c = λ car L. c .on-segment .ensures ∙ power-is L _ _ (speed (c .before .before) car L) (c .before .segment .ensures)
 
 pub power-at-spec : {M : Type 1} → statement M
 power-at-spec =

@@ -1,6 +1,6 @@
 -- `gears::second::engine` meets its contract: two numbers of 16 bits multiply within 64, and each is what it was widened from.
 -- Assumes nothing.
-use Rattle.rules.specs.Laws.Range.{product}
+use Rattle.rules.proofs.Laws.Range.{product}
 use borrow.Author.Needs.{needs}
 use Rattle.gears.proofs.second.engine.Statement.{statement}
 use Rattle.gears.proofs.second.engine.Tie as tie

@@ -1,6 +1,5 @@
 -- `gears::second::fits` meets its contract: one law of `fits` for each return.
 -- Assumes nothing.
-use denote.Ref.{now}
 use Rattle.gears.proofs.Speeds.{fits-over, fits-one, fits-not, fits-later}
 use borrow.Author.Needs.{needs}
 use Rattle.gears.proofs.second.fits.Statement.{statement}
@@ -13,13 +12,13 @@ top-requires : tie.Need-top-requires
 top-requires c κs = search needs
 
 returns : tie.Need-returns
-returns c = λ n p. fits-over _ _ _ _ (rw (c .before .top .ensures, c .before .before .engine .ensures) at (c .if1 .taken))
+returns c = λ car H. fits-over H _ _ _ (rw (c .before .top .ensures, c .before .before .engine .ensures) at (c .if1 .taken))
 
 returns-2 : tie.Need-returns-2
-returns-2 c = λ n p. fits-one _ _ _ _ (c .if2 .taken) (rw (c .before .before .top .ensures, c .before .before .before .engine .ensures) at (c .before .if1 .left))
+returns-2 c = λ car H. fits-one H _ _ _ (c .if2 .taken) (rw (c .before .before .top .ensures, c .before .before .before .engine .ensures) at (c .before .if1 .left))
 
 returns-3 : tie.Need-returns-3
-returns-3 c = λ n p. fits-not _ _ _ _ (c .before .if2 .left) (c .if3 .taken)
+returns-3 c = λ car H. fits-not car _ _ _ (c .before .if2 .left) (c .if3 .taken)
 
 minimum-requires : tie.Need-minimum-requires
 minimum-requires c κs = search needs
@@ -28,7 +27,7 @@ mul-result : tie.Need-mul-result
 mul-result c = search needs
 
 returns-4 : tie.Need-returns-4
-returns-4 c = λ n p. rw (c .minimum .ensures .0 (now (c .before .before .before .before .before .before .args .ratio)) n p, c .before .before .before .before .before .engine .ensures) (fits-later _ _ _ _ (c .before .before .before .before .before .before .pre .from) (c .before .before .if2 .left) (c .before .if3 .left) (rw (c .before .before .before .before .top .ensures, c .before .before .before .before .before .engine .ensures) at (c .before .before .before .if1 .left)))
+returns-4 c = λ car H. rw (c .minimum .ensures .0 car (H .counts), c .before .before .before .before .before .engine .ensures) (fits-later H _ _ _ (c .before .before .before .before .before .before .pre .from) (c .before .before .if2 .left) (c .before .if3 .left) (rw (c .before .before .before .before .top .ensures, c .before .before .before .before .before .engine .ensures) at (c .before .before .before .if1 .left)))
 
 pub fits-spec : {M : Type 1} → statement M
 fits-spec =

@@ -4,7 +4,7 @@ use Prim.Native.Nat.{suc, _-_, _≤_}
 use native.Mathlib.Omega.{arith}
 use borrow.Author.Needs.{needs}
 use borrow.Author.Tests.{lt-leb}
-use Rattle.rules.specs.Laws.Walk.{start, again}
+use Rattle.rules.proofs.Laws.Walk.{start, again}
 use Rattle.gears.proofs.Speeds.{LeftFrom, floor-here, floor-none}
 use Rattle.gears.proofs.second.floor.Statement.{statement}
 use Rattle.gears.proofs.second.floor.Tie as tie
@@ -28,7 +28,7 @@ engine-requires : tie.Need-engine-requires Inv-loop μ-loop
 engine-requires c κs = search needs
 
 returns : tie.Need-returns Inv-loop μ-loop
-returns c = λ n p. floor-here _ _ n p _ (c .before .before .before .before .top .ensures) (c .before .before .before .loop .g) (c .before .before .before .loop .inv .2) (c .before .before .loop-test .taken) (rw (c .before .engine .ensures) at (c .if1 .taken))
+returns c = λ car H. floor-here H _ (c .before .before .before .before .top .ensures) (c .before .before .before .loop .g) (c .before .before .before .loop .inv .2) (c .before .before .loop-test .taken) (rw (c .before .engine .ensures) at (c .if1 .taken))
 
 add-g : tie.Need-add-g Inv-loop μ-loop
 add-g c = search needs
@@ -40,7 +40,7 @@ loop-again : tie.Need-loop-again Inv-loop μ-loop
 loop-again c = (omega arith, omega arith, again (c .before .before .before .loop .inv .2) (omega arith) (lt-leb _ _ (rw (c .before .engine .ensures) at (c .if1 .left))))
 
 returns-2 : tie.Need-returns-2 Inv-loop μ-loop
-returns-2 c = λ n p. floor-none _ _ n p _ (c .before .before .top .ensures) (c .before .loop .g) (c .before .loop .inv .2) (omega arith)
+returns-2 c = λ car H. floor-none H _ (c .before .before .top .ensures) (c .before .loop .g) (c .before .loop .inv .2) (omega arith)
 
 pub floor-spec : {M : Type 1} → statement M
 floor-spec =

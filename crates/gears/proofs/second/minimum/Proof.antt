@@ -1,9 +1,8 @@
 -- `gears::second::minimum` meets its contract: each arm of the match is a clause of `minimum-of`.
 -- Assumes nothing.
 use mathlib.Core.Path.{sym}
-use Rattle.rules.specs.Units.{low}
-use Rattle.rules.specs.Gears.{minimum, minimum-of}
-use Rattle.gears.proofs.Speeds.{minimum-above}
+use Rattle.gears.proofs.Speeds.{minimum-one, minimum-two, minimum-above}
+use Rattle.gears.proofs.Parts.{idle-of, rated-of}
 use borrow.Author.Needs.{needs}
 use Rattle.gears.proofs.second.minimum.Statement.{statement}
 use Rattle.gears.proofs.second.minimum.Tie as tie
@@ -30,15 +29,13 @@ add-result-3 : tie.Need-add-result-3
 add-result-3 c = search needs
 
 returns : tie.Need-returns
-unfolding minimum minimum-of low
-returns c = (λ ratio n p. rw (c .match .keys1) (c .before .before .wide .ensures .0), search needs)
+returns c = (λ car C. rw (c .match .keys1, minimum-one car, idle-of C) (c .before .before .wide .ensures .0), search needs)
 
 returns-2 : tie.Need-returns-2
-unfolding minimum minimum-of low
-returns-2 c = (λ ratio n p. rw (c .match .keys2, c .before .before .wide .ensures .0), search needs)
+returns-2 c = (λ car C. rw (c .match .keys2, minimum-two car, idle-of C, c .before .before .wide .ensures .0), search needs)
 
 returns-3 : tie.Need-returns-3
-returns-3 c = (λ ratio n p. rw (c .before .before .wide .ensures .0, c .before .wide2 .ensures .0) (sym (minimum-above _ _ (c .before .before .before .pre .from) (c .match .rest .0 .1) (c .match .rest .1))), search needs)
+returns-3 c = (λ car C. rw (minimum-above car _ (c .before .before .before .pre .from) (c .match .rest .0 .1) (c .match .rest .1), idle-of C, rated-of C, c .before .before .wide .ensures .0, c .before .wide2 .ensures .0), search needs)
 
 pub minimum-spec : {M : Type 1} → statement M
 minimum-spec =

@@ -3,8 +3,9 @@
 use native.Mathlib.Omega.{arith}
 use lib.IntN.{pos}
 use mir.Facts.{toZ-ofZ}
-use Rattle.rules.specs.Gears.{required}
-use Rattle.rules.specs.Laws.Range.{E, lit, var, is, _⊕_, _⊗_, fits, read, from-i32-fits, small-i32}
+use mathlib.Core.Path.{_∙_}
+use Rattle.rules.proofs.Laws.Range.{E, lit, var, is, _⊕_, _⊗_, fits, read, from-i32-fits, small-i32}
+use Rattle.gears.proofs.Parts.{required-of}
 use borrow.Author.Needs.{needs}
 use Rattle.gears.proofs.second.required.Statement.{statement}
 use Rattle.gears.proofs.second.required.Tie as tie
@@ -104,8 +105,7 @@ add-result-3 : tie.Need-add-result-3
 add-result-3 c = fits (power (c .before .before .before .before .before)) tt
 
 returns : tie.Need-returns
-unfolding required
-returns c = λ ratio n p. read (power (c .before .before .before .before .before)) tt
+returns c = λ car C. let s = c .before .before .before .before .before in read (power s) tt ∙ required-of C (s .args .v) (s .args .d)
 
 pub required-spec : {M : Type 1} → statement M
 required-spec =

@@ -2,7 +2,7 @@
 -- Assumes nothing.
 use native.Mathlib.Omega.{arith}
 use lib.IntN.{pos}
-use Rattle.rules.specs.Laws.Range.{E, var, _⊖_, fits, read}
+use Rattle.rules.proofs.Laws.Range.{E, var, _⊖_, fits, read}
 use borrow.Author.Needs.{needs}
 use Rattle.gears.proofs.second.step_of.Statement.{statement}
 use Rattle.gears.proofs.second.step_of.Tie as tie

@@ -7,19 +7,20 @@ use mathlib.Core.Path.{_≡_, refl}
 use lib.ListN.{length, length-set}
 use lib.Seq.{sets}
 use borrow.Author.Needs.{needs}
-use Rattle.jobs.specs.Stages.{filling}
-use Rattle.jobs.proofs.Loops.{Groups, fill-begins, ends, stops, again}
+use Rattle.rules.specs.Forms.{value, many}
+use Rattle.jobs.specs.Stages.{used}
+use Rattle.jobs.proofs.Loops.{Many, many-begins, ends, value-stops, value-again}
 use Rattle.jobs.proofs.groups.fill.Statement.{statement}
 use Rattle.jobs.proofs.groups.fill.Tie as tie
 
 abbrev Inv-loop : tie.InvT-loop
-Inv-loop job at count values₀ next₀ i₀ values next i = (i ≤ count) × (length values ≡ length values₀) × Groups job count i next (sets values i) (filling job count values₀ at)
+Inv-loop job at count values₀ next₀ i₀ values next i = (i ≤ count) × (length values ≡ length values₀) × Many value job count i next (sets values i) (used (sets values₀ 0) (many value count) job at)
 
 abbrev μ-loop : tie.MeasureT-loop
 μ-loop job at count values₀ next₀ i₀ values next i = count - i
 
 loop-holds : tie.Need-loop-holds Inv-loop μ-loop
-loop-holds c = (omega arith, refl, fill-begins _ _ _ _)
+loop-holds c = (omega arith, refl, many-begins _ _ _ _ _)
 
 group-at-requires : tie.Need-group-at-requires Inv-loop μ-loop
 group-at-requires c κs = search needs
@@ -30,8 +31,8 @@ enum-known-g c = search needs
 enum-told : tie.Need-enum-told Inv-loop μ-loop
 enum-told c = search needs
 
-place-requires : tie.Need-place-requires Inv-loop μ-loop
-place-requires c κs = search needs
+came-requires : tie.Need-came-requires Inv-loop μ-loop
+came-requires c κs = search needs
 
 same-length : tie.Need-same-length Inv-loop μ-loop
 same-length c = search needs
@@ -41,7 +42,7 @@ returns c =
     let c₁ = c .before .before .before in
     let c₂ = c₁ .before .before in
     let g = c .before .enum-told .given .1 in
-    rw (c .place .ensures, g) (stops (c₂ .loop .inv .2) (omega arith) (rw g at (c₁ .group-at .ensures)))
+    rw (c .came .ensures, g) (value-stops (c₂ .loop .inv .2) (omega arith) (rw g at (c₁ .group-at .ensures)))
 
 mul-values : tie.Need-mul-values Inv-loop μ-loop
 mul-values c = search needs
@@ -59,7 +60,7 @@ loop-again : tie.Need-loop-again Inv-loop μ-loop
 loop-again c =
     let c₁ = c .before .before .before in
     let c₂ = c₁ .before .before in
-    (omega arith, simp length-set (c₂ .loop .inv .1), rw add-one (rw add-one at (again (c₂ .loop .inv .2) (omega arith) (rw (c .before .g .given .1) at (c₁ .group-at .ensures)))))
+    (omega arith, simp length-set (c₂ .loop .inv .1), rw add-one (rw add-one at (value-again (c₂ .loop .inv .2) (omega arith) (rw (c .before .g .given .1) at (c₁ .group-at .ensures)))))
 
 same-length-2 : tie.Need-same-length-2 Inv-loop μ-loop
 same-length-2 c = search needs
@@ -77,7 +78,7 @@ fill-spec =
     group-at-requires
     enum-known-g
     enum-told
-    place-requires
+    came-requires
     same-length
     returns
     mul-values

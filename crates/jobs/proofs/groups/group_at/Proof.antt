@@ -4,8 +4,8 @@ use Prim.Native.Nat.{_+_}
 use native.Mathlib.Omega.{arith}
 use mathlib.Core.Path.{sym}
 use borrow.Author.Needs.{needs}
-use Rattle.rules.specs.Laws.Reading.{ends-first, one, ends-second, two, two-bad, ends-third, three, three-bad}
-use Rattle.rules.specs.Job.{early}
+use Rattle.rules.proofs.Laws.Reading.{ends-first, one, ends-second, two, two-bad, ends-third, three, three-bad}
+use Rattle.rules.specs.Groups.{early}
 use Rattle.jobs.proofs.groups.group_at.Statement.{statement}
 use Rattle.jobs.proofs.groups.group_at.Tie as tie
 

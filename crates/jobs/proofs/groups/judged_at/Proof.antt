@@ -5,7 +5,7 @@ use native.Mathlib.Omega.{arith}
 use mathlib.Core.Path.{sym}
 use borrow.Author.Needs.{needs}
 use Rattle.rules.specs.Words.{at}
-use Rattle.rules.specs.Laws.Reading.{one, two, three}
+use Rattle.rules.proofs.Laws.Reading.{one, two, three}
 use Rattle.jobs.proofs.Ways.{first-there, second-there, second-some, third-there, third-last, third-some, three-fits, two-is, three-is}
 use Rattle.jobs.proofs.groups.judged_at.Statement.{statement}
 use Rattle.jobs.proofs.groups.judged_at.Tie as tie

@@ -7,24 +7,25 @@ use mathlib.Core.Path.{_≡_, refl}
 use lib.ListN.{length, length-set}
 use lib.Seq.{sets}
 use borrow.Author.Needs.{needs}
-use Rattle.jobs.specs.Stages.{filling}
-use Rattle.jobs.proofs.Loops.{Groups, fill-begins, fill-comes, comes-here, ends, again, all-filled}
+use Rattle.rules.specs.Forms.{value, many}
+use Rattle.jobs.specs.Stages.{used}
+use Rattle.jobs.proofs.Loops.{Many, many-begins, used-comes, value-comes, ends, value-again, filled-all}
 use Rattle.jobs.proofs.groups.put_speeds.Statement.{statement}
 use Rattle.jobs.proofs.groups.put_speeds.Tie as tie
 
 abbrev Inv-loop : tie.InvT-loop
-Inv-loop job at room₀ next₀ i₀ room next i = (i ≤ length room₀) × (length room ≡ length room₀) × Groups job (length room₀) i next (sets room i) (filling job (length room₀) room₀ at)
+Inv-loop job at room₀ next₀ i₀ room next i = (i ≤ length room₀) × (length room ≡ length room₀) × Many value job (length room₀) i next (sets room i) (used (sets room₀ 0) (many value (length room₀)) job at)
 
 abbrev μ-loop : tie.MeasureT-loop
 μ-loop job at room₀ next₀ i₀ room next i = length room₀ - i
 
 loop-holds : tie.Need-loop-holds Inv-loop μ-loop
-loop-holds c = (omega arith, refl, fill-begins _ _ _ _)
+loop-holds c = (omega arith, refl, many-begins _ _ _ _ _)
 
 judged-at-requires : tie.Need-judged-at-requires Inv-loop μ-loop
 judged-at-requires c κs =
     let s = c .before .before .before .before in
-    comes-here (c .before .loop .inv .2) (omega arith) (fill-comes (s .args .job .now) _ _ (s .args .room .now) (s .pre))
+    value-comes (c .before .loop .inv .2) (omega arith) (used-comes _ _ _ _ (s .pre))
 
 mul-room : tie.Need-mul-room Inv-loop μ-loop
 mul-room c = search needs
@@ -41,7 +42,7 @@ loop-less c = search needs
 loop-again : tie.Need-loop-again Inv-loop μ-loop
 loop-again c =
     let c₁ = c .before .before in
-    (omega arith, simp length-set (c₁ .loop .inv .1), rw add-one (rw add-one at (again (c₁ .loop .inv .2) (omega arith) (c .judged-at .ensures))))
+    (omega arith, simp length-set (c₁ .loop .inv .1), rw add-one (rw add-one at (value-again (c₁ .loop .inv .2) (omega arith) (c .judged-at .ensures))))
 
 same-length : tie.Need-same-length Inv-loop μ-loop
 same-length c = search needs
@@ -49,7 +50,7 @@ same-length c = search needs
 returns : tie.Need-returns Inv-loop μ-loop
 returns c =
     let s = c .before .before .before .before in
-    all-filled (s .args .job .now) (s .args .room .now) (s .args .at) (ends (c .before .loop .inv .2) (omega arith))
+    filled-all (s .args .job .now) (s .args .room .now) (s .args .at) (ends (c .before .loop .inv .2) (omega arith))
 
 pub put-speeds-spec : {M : Type 1} → statement M
 put-speeds-spec =

@@ -4,19 +4,20 @@ use Prim.Native.Nat.{_≤_, _-_}
 use native.Mathlib.Omega.{arith}
 use mathlib.Core.Bool.{true}
 use borrow.Author.Needs.{needs}
-use Rattle.jobs.specs.Stages.{skipping}
-use Rattle.jobs.proofs.Loops.{Groups, skip-begins, ends, stops, again}
+use Rattle.rules.specs.Forms.{value, many}
+use Rattle.jobs.specs.Stages.{used}
+use Rattle.jobs.proofs.Loops.{Many, many-begins, ends, value-stops, value-again}
 use Rattle.jobs.proofs.groups.skip.Statement.{statement}
 use Rattle.jobs.proofs.groups.skip.Tie as tie
 
 abbrev Inv-loop : tie.InvT-loop
-Inv-loop job at count next₀ i₀ next i = (i ≤ count) × Groups job count i next (λ vs. true) (skipping job count at)
+Inv-loop job at count next₀ i₀ next i = (i ≤ count) × Many value job count i next (λ vs. true) (used (λ vs. true) (many value count) job at)
 
 abbrev μ-loop : tie.MeasureT-loop
 μ-loop job at count next₀ i₀ next i = count - i
 
 loop-holds : tie.Need-loop-holds Inv-loop μ-loop
-loop-holds c = (omega arith, skip-begins _ _ _)
+loop-holds c = (omega arith, many-begins _ _ _ _ _)
 
 group-at-requires : tie.Need-group-at-requires Inv-loop μ-loop
 group-at-requires c κs = search needs
@@ -27,15 +28,15 @@ enum-known-g c = search needs
 enum-told : tie.Need-enum-told Inv-loop μ-loop
 enum-told c = search needs
 
-place-requires : tie.Need-place-requires Inv-loop μ-loop
-place-requires c κs = search needs
+came-requires : tie.Need-came-requires Inv-loop μ-loop
+came-requires c κs = search needs
 
 returns : tie.Need-returns Inv-loop μ-loop
 returns c =
     let c₁ = c .before .before .before in
     let c₂ = c₁ .before .before in
     let g = c .before .enum-told .given .1 in
-    rw (c .place .ensures, g) (stops (c₂ .loop .inv .1) (omega arith) (rw g at (c₁ .group-at .ensures)))
+    rw (c .came .ensures, g) (value-stops (c₂ .loop .inv .1) (omega arith) (rw g at (c₁ .group-at .ensures)))
 
 add-i : tie.Need-add-i Inv-loop μ-loop
 add-i c = search needs
@@ -47,7 +48,7 @@ loop-again : tie.Need-loop-again Inv-loop μ-loop
 loop-again c =
     let c₁ = c .before .before .before in
     let c₂ = c₁ .before .before in
-    (omega arith, again (c₂ .loop .inv .1) (omega arith) (rw (c .before .g .given .1) at (c₁ .group-at .ensures)))
+    (omega arith, value-again (c₂ .loop .inv .1) (omega arith) (rw (c .before .g .given .1) at (c₁ .group-at .ensures)))
 
 returns-2 : tie.Need-returns-2 Inv-loop μ-loop
 returns-2 c = ends (c .before .loop .inv .1) (omega arith)
@@ -62,7 +63,7 @@ skip-spec =
     group-at-requires
     enum-known-g
     enum-told
-    place-requires
+    came-requires
     returns
     add-i
     loop-less

@@ -5,13 +5,14 @@ use native.Mathlib.Omega.{arith}
 use mathlib.Core.Path.{_≡_, refl}
 use lib.ListN.{length, length-set, length-replicate}
 use borrow.Author.Needs.{needs}
-use Rattle.rules.specs.Job.{holds-read}
-use Rattle.jobs.proofs.Loops.{Putting, put-begins, put-ends, second-comes, second-in, gear-comes, gear-in, put-again}
+use Rattle.rules.specs.Job.{rising, put}
+use Rattle.jobs.specs.Stages.{used}
+use Rattle.jobs.proofs.Loops.{used-comes, Putting, put-begins, put-ends, put-second, put-gear, put-fits, put-again}
 use Rattle.jobs.proofs.holds.put_holds.Statement.{statement}
 use Rattle.jobs.proofs.holds.put_holds.Tie as tie
 
 abbrev Inv-loop : tie.InvT-loop
-Inv-loop job at holds room₀ place₀ i₀ room place i = (i ≤ holds) × (length room ≡ length room₀) × Putting job holds i (length room₀) place room (holds-read job holds 0 (length room₀) room₀ at)
+Inv-loop job at holds room₀ place₀ i₀ room place i = (i ≤ holds) × (length room ≡ length room₀) × Putting (length room₀) job holds i place room (used (λ hs. put hs room₀) (rising (length room₀) holds) job at)
 
 abbrev μ-loop : tie.MeasureT-loop
 μ-loop job at holds room₀ place₀ i₀ room place i = holds - i
@@ -26,19 +27,19 @@ judged-at-requires : tie.Need-judged-at-requires Inv-loop μ-loop
 judged-at-requires c κs =
     let c₁ = c .before in
     let c₀ = c₁ .before .before .before in
-    second-comes (c₁ .loop .inv .2) (omega arith) (rw (c₀ .clear .ensures, length-replicate) (c₀ .before .before .before .before .pre))
+    put-second (c₁ .loop .inv .2) (omega arith) (used-comes _ _ _ _ (rw (c₀ .clear .ensures, length-replicate) (c₀ .before .before .before .before .pre)))
 
 judged-at-requires-2 : tie.Need-judged-at-requires-2 Inv-loop μ-loop
 judged-at-requires-2 c κs =
     let c₁ = c .before .before in
     let c₀ = c₁ .before .before .before in
-    gear-comes (c₁ .loop .inv .2) (omega arith) (rw (c₀ .clear .ensures, length-replicate) (c₀ .before .before .before .before .pre)) (c .judged-at .ensures)
+    put-gear (c₁ .loop .inv .2) (omega arith) (used-comes _ _ _ _ (rw (c₀ .clear .ensures, length-replicate) (c₀ .before .before .before .before .pre))) (c .judged-at .ensures)
 
 cast-room : tie.Need-cast-room Inv-loop μ-loop
 cast-room c =
     let c₁ = c .before .before .before .before in
     let c₀ = c₁ .before .before .before in
-    omega (arith, gear-in (c₁ .loop .inv .2) (omega arith) (rw (c₀ .clear .ensures, length-replicate) (c₀ .before .before .before .before .pre)) (c .before .before .judged-at .ensures) (c .before .judged-at2 .ensures))
+    omega (arith, put-fits (c₁ .loop .inv .2) (omega arith) (used-comes _ _ _ _ (rw (c₀ .clear .ensures, length-replicate) (c₀ .before .before .before .before .pre))) (c .before .before .judged-at .ensures) (c .before .judged-at2 .ensures) .byte)
 
 cast-room-2 : tie.Need-cast-room-2 Inv-loop μ-loop
 cast-room-2 c = search needs
@@ -47,7 +48,7 @@ slice-write-room : tie.Need-slice-write-room Inv-loop μ-loop
 slice-write-room c =
     let c₁ = c .before .before .before .before .before in
     let c₀ = c₁ .before .before .before in
-    omega (arith, second-in (c₁ .loop .inv .2) (omega arith) (rw (c₀ .clear .ensures, length-replicate) (c₀ .before .before .before .before .pre)) (c .before .before .before .judged-at .ensures))
+    omega (arith, put-fits (c₁ .loop .inv .2) (omega arith) (used-comes _ _ _ _ (rw (c₀ .clear .ensures, length-replicate) (c₀ .before .before .before .before .pre))) (c .before .before .before .judged-at .ensures) (c .before .before .judged-at2 .ensures) .below)
 
 add-i : tie.Need-add-i Inv-loop μ-loop
 add-i c = search needs
@@ -59,7 +60,7 @@ loop-again : tie.Need-loop-again Inv-loop μ-loop
 loop-again c =
     let c₁ = c .before .before .before .before .before in
     let c₀ = c₁ .before .before .before in
-    (omega arith, simp length-set (c₁ .loop .inv .1), put-again (c₁ .loop .inv .2) (omega arith) (rw (c₀ .clear .ensures, length-replicate) (c₀ .before .before .before .before .pre)) (c .before .before .before .judged-at .ensures) (c .before .before .judged-at2 .ensures))
+    (omega arith, simp length-set (c₁ .loop .inv .1), put-again (c₁ .loop .inv .2) (omega arith) (used-comes _ _ _ _ (rw (c₀ .clear .ensures, length-replicate) (c₀ .before .before .before .before .pre))) (c .before .before .before .judged-at .ensures) (c .before .before .judged-at2 .ensures))
 
 same-length : tie.Need-same-length Inv-loop μ-loop
 same-length c = search needs

@@ -14,8 +14,8 @@ enum-known-version c = search needs
 enum-told : tie.Need-enum-told
 enum-told c = search needs
 
-place-requires : tie.Need-place-requires
-place-requires c κs = search needs
+came-requires : tie.Need-came-requires
+came-requires c κs = search needs
 
 no-car-requires : tie.Need-no-car-requires
 no-car-requires c κs = search needs
@@ -26,7 +26,7 @@ returns c =
     let c₂ = c₁ .before .before in
     let s = c₂ .before .before in
     let g = c₁ .enum-told .given .1 in
-    rw (c .no-car .ensures, c .before .place .ensures, g) (version-stops (s .args .job .now) 0 (rw g at (c₂ .bounded .ensures)))
+    rw (c .no-car .ensures, c .before .came .ensures, g) (version-stops (s .args .job .now) 0 (rw g at (c₂ .bounded .ensures)))
 
 gearbox-at-requires : tie.Need-gearbox-at-requires
 gearbox-at-requires c κs = search needs
@@ -99,7 +99,7 @@ car-at-spec =
     bounded-requires
     enum-known-version
     enum-told
-    place-requires
+    came-requires
     no-car-requires
     returns
     gearbox-at-requires

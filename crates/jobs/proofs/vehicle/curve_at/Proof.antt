@@ -2,7 +2,6 @@
 -- Assumes nothing.
 use native.Mathlib.Omega.{arith}
 use borrow.Author.Needs.{needs}
-use Rattle.rules.specs.declared.Refusal.the-variants.{VehicleField}
 use Rattle.jobs.proofs.Ways.{bounded-in, curve-stops, curve-on}
 use Rattle.jobs.proofs.vehicle.curve_at.Statement.{statement}
 use Rattle.jobs.proofs.vehicle.curve_at.Tie as tie
@@ -16,46 +15,40 @@ enum-known-count c = search needs
 enum-told : tie.Need-enum-told
 enum-told c = search needs
 
-place-requires : tie.Need-place-requires
-place-requires c κs = search needs
+came-requires : tie.Need-came-requires
+came-requires c κs = search needs
 
 returns : tie.Need-returns
 returns c =
     let c₁ = c .before .before .before in
     let s = c₁ .before .before in
     let g = c .before .enum-told .given .1 in
-    rw (c .place .ensures, g) (curve-stops (s .args .job .now) (s .args .at) (rw g at (c₁ .bounded .ensures)))
+    rw (c .came .ensures, g) (curve-stops (s .args .job .now) (s .args .at) (rw g at (c₁ .bounded .ensures)))
 
-cast-fill : tie.Need-cast-fill
-cast-fill c = search needs
+cast-fill-points : tie.Need-cast-fill-points
+cast-fill-points c = search needs
 
-mul-fill : tie.Need-mul-fill
-mul-fill c = search needs
+slice-aggregate-fill-points : tie.Need-slice-aggregate-fill-points
+slice-aggregate-fill-points c = search needs
 
-slice-aggregate-fill : tie.Need-slice-aggregate-fill
-slice-aggregate-fill c = search needs
+slice-aggregate-fill-points-2 : tie.Need-slice-aggregate-fill-points-2
+slice-aggregate-fill-points-2 c = search needs
 
-fill-requires : tie.Need-fill-requires
-fill-requires c κs =
-    let c₁ = c .before .before in
+fill-points-requires : tie.Need-fill-points-requires
+fill-points-requires c κs =
+    let c₁ = c .before .before .before in
     let c₂ = c₁ .before .before in
     let s = c₂ .before .before in
-    let b = bounded-in (s .args .job .now) 2 64 (VehicleField 11) (s .args .at) (rw (c₁ .count .given .1) at (c₂ .bounded .ensures)) in omega arith
-
-column-requires : tie.Need-column-requires
-column-requires c κs = search needs
-
-column-requires-2 : tie.Need-column-requires-2
-column-requires-2 c κs = search needs
+    let b = bounded-in (s .args .job .now) 2 64 3 11 (s .args .at) (rw (c₁ .count .given .1) at (c₂ .bounded .ensures)) in (omega arith, omega arith)
 
 returns-2 : tie.Need-returns-2
 returns-2 c =
     let c₁ = c .before .before in
-    let c₂ = c₁ .before .before .before in
-    let c₃ = c₂ .before .before .before in
-    let c₄ = c₃ .before .before in
-    let s = c₄ .before .before in
-    rw (c₁ .column .ensures, c .column2 .ensures) (curve-on (s .args .job .now) (s .args .at) (rw (c₃ .count .given .1) at (c₄ .bounded .ensures)) (c₂ .fill .result) (c₂ .fill .last .1 .1 .1 .0) (c₂ .fill .ensures))
+    let c₂ = c₁ .before .before .before .before in
+    let c₃ = c₂ .before .before in
+    let s = c₃ .before .before in
+    let last = c₁ .fill-points .last .1 .1 .1 in
+    curve-on (s .args .job .now) (s .args .at) (rw (c₂ .count .given .1) at (c₃ .bounded .ensures)) (c₁ .fill-points .result) (last .0, last .1 .0) (c₁ .fill-points .ensures)
 
 pub curve-at-spec : {M : Type 1} → statement M
 curve-at-spec =
@@ -64,12 +57,10 @@ curve-at-spec =
     bounded-requires
     enum-known-count
     enum-told
-    place-requires
+    came-requires
     returns
-    cast-fill
-    mul-fill
-    slice-aggregate-fill
-    fill-requires
-    column-requires
-    column-requires-2
+    cast-fill-points
+    slice-aggregate-fill-points
+    slice-aggregate-fill-points-2
+    fill-points-requires
     returns-2)

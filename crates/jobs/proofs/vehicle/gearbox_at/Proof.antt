@@ -2,7 +2,6 @@
 -- Assumes nothing.
 use native.Mathlib.Omega.{arith}
 use borrow.Author.Needs.{needs}
-use Rattle.rules.specs.declared.Refusal.the-variants.{VehicleField}
 use Rattle.jobs.proofs.Ways.{bounded-in, gearbox-stops, gearbox-on}
 use Rattle.jobs.proofs.vehicle.gearbox_at.Statement.{statement}
 use Rattle.jobs.proofs.vehicle.gearbox_at.Tie as tie
@@ -16,15 +15,15 @@ enum-known-count c = search needs
 enum-told : tie.Need-enum-told
 enum-told c = search needs
 
-place-requires : tie.Need-place-requires
-place-requires c κs = search needs
+came-requires : tie.Need-came-requires
+came-requires c κs = search needs
 
 returns : tie.Need-returns
 returns c =
     let c₁ = c .before .before .before in
     let s = c₁ .before .before in
     let g = c .before .enum-told .given .1 in
-    rw (c .place .ensures, g) (gearbox-stops (s .args .job .now) (s .args .at) (rw g at (c₁ .bounded .ensures)))
+    rw (c .came .ensures, g) (gearbox-stops (s .args .job .now) (s .args .at) (rw g at (c₁ .bounded .ensures)))
 
 cast-fill : tie.Need-cast-fill
 cast-fill c = search needs
@@ -37,7 +36,7 @@ fill-requires c κs =
     let c₁ = c .before .before in
     let c₂ = c₁ .before .before in
     let s = c₂ .before .before in
-    let b = bounded-in (s .args .job .now) 2 10 (VehicleField 1) (s .args .at) (rw (c₁ .count .given .1) at (c₂ .bounded .ensures)) in omega arith
+    let b = bounded-in (s .args .job .now) 2 10 3 1 (s .args .at) (rw (c₁ .count .given .1) at (c₂ .bounded .ensures)) in omega arith
 
 returns-2 : tie.Need-returns-2
 returns-2 c =
@@ -53,7 +52,7 @@ gearbox-at-spec =
     bounded-requires
     enum-known-count
     enum-told
-    place-requires
+    came-requires
     returns
     cast-fill
     slice-aggregate-fill

@@ -8,7 +8,7 @@ use mir.Facts.{toZ-ofZ, toZ-pos}
 use mir.Val.{SFits}
 use mir.Syntax.{w32}
 use borrow.Author.Needs.{needs}
-use Rattle.rules.specs.Laws.Words.{by-test}
+use Rattle.rules.proofs.Laws.Words.{by-test}
 use Rattle.jobs.proofs.vehicle.signed.Statement.{statement}
 use Rattle.jobs.proofs.vehicle.signed.Tie as tie
 

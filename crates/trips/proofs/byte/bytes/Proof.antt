@@ -3,25 +3,27 @@
 use Prim.Native.Nat.{ℕ, _≤_, _-_}
 use mathlib.Core.Path.{_≡_, refl, ap, _∙_}
 use native.Mathlib.Omega.{arith}
-use mathlib.Core.List.{List, []}
+use mathlib.Core.List.{List}
 use lib.ListN.{length, length-set}
 use Rattle.rules.specs.Words.{at, pass}
-use Rattle.rules.specs.Laws.Passes.{pass-start, pass-more, pass-table}
-use Rattle.gears.specs.Parts.{vehicle-of}
+use Rattle.trips.proofs.Passes.{pass-start, pass-more, pass-table}
+use Rattle.rules.specs.declared.Vehicle.{Vehicle}
+use Rattle.gears.specs.Parts.{Has}
+use Rattle.gears.proofs.Parts.{built, built-has}
 use native.Mathlib.Nat.{le-refl}
 use Rattle.rules.specs.Corrections.{byte}
-use Rattle.rules.specs.Laws.Words.{pass-later}
+use Rattle.rules.proofs.Laws.Words.{pass-later}
 use Rattle.trips.proofs.byte.bytes.Statement.{statement}
 use Rattle.trips.proofs.byte.bytes.Tie as tie
 
 abbrev Inv-loop : tie.InvT-loop
-Inv-loop k ratio us gs₀ j₀ gs j = (j ≤ length gs) × (length gs ≡ length gs₀) × ((n p : List ℕ) → gs ≡ pass (λ i rs. byte (vehicle-of k ratio n p) us i (at rs i)) j gs₀)
+Inv-loop k ratio us gs₀ j₀ gs j = (j ≤ length gs) × (length gs ≡ length gs₀) × ((car : Vehicle) → Has car k ratio → gs ≡ pass (λ i rs. byte car us i (at rs i)) j gs₀)
 
 abbrev μ-loop : tie.MeasureT-loop
 μ-loop k ratio us gs₀ j₀ gs j = length gs - j
 
 loop-holds : tie.Need-loop-holds Inv-loop μ-loop
-loop-holds c = (omega arith, refl, λ n p. pass-start _ _)
+loop-holds c = (omega arith, refl, λ car H. pass-start _ _)
 
 slice-read-g : tie.Need-slice-read-g Inv-loop μ-loop
 slice-read-g c = omega arith
@@ -31,9 +33,9 @@ byte-at-requires c κs =
     let s = c .before .before .before .before .before in
     let a = s .args in
     let l = c .before .before .loop in
-    let n : List ℕ = [] in
-    let p : List ℕ = [] in
-    let e : at (l .gs) (l .j) ≡ at (a .gs .now) (l .j) = ap (λ (g : List ℕ). at g (l .j)) (l .inv .2 n p) ∙ pass-later (λ i rs. byte (vehicle-of (a .k) (a .ratio .now) n p) (a .us .now) i (at rs i)) (a .gs .now) (l .j) (l .j) (le-refl _) in
+    let car = built (a .k) (a .ratio .now) in
+    let H = built-has (a .k) (a .ratio .now) in
+    let e : at (l .gs) (l .j) ≡ at (a .gs .now) (l .j) = ap (λ (g : List ℕ). at g (l .j)) (l .inv .2 car H) ∙ pass-later (λ i rs. byte car (a .us .now) i (at rs i)) (a .gs .now) (l .j) (l .j) (le-refl _) in
     (omega (arith, l .inv, s .pre .speeds), omega (arith, e, s .pre .small (l .j) (omega (arith, l .inv))))
 
 slice-write-gs : tie.Need-slice-write-gs Inv-loop μ-loop
@@ -52,7 +54,7 @@ loop-again c =
     let l = c .before .before .before .loop in (
       simp length-set (omega arith),
       simp length-set (l .inv .1),
-      λ n p. pass-more (λ i rs. byte (vehicle-of (a .k) (a .ratio .now) n p) (a .us .now) i (at rs i)) (a .gs .now) (l .gs) (l .j) (c .byte-at .result) (l .inv .2 n p) (c .byte-at .ensures n p),
+      λ car H. pass-more (λ i rs. byte car (a .us .now) i (at rs i)) (a .gs .now) (l .gs) (l .j) (c .byte-at .result) (l .inv .2 car H) (c .byte-at .ensures car H),
     )
 
 same-length : tie.Need-same-length Inv-loop μ-loop
@@ -64,7 +66,7 @@ returns c =
     let a = s .args in
     let l = c .before .loop in
     let e : l .j ≡ length (a .gs .now) = omega (arith, l .inv) in
-    λ n p. l .inv .2 n p ∙ ap (λ (i : ℕ). pass (λ i rs. byte (vehicle-of (a .k) (a .ratio .now) n p) (a .us .now) i (at rs i)) i (a .gs .now)) e ∙ pass-table (byte (vehicle-of (a .k) (a .ratio .now) n p) (a .us .now)) (a .gs .now)
+    λ car H. l .inv .2 car H ∙ ap (λ (i : ℕ). pass (λ i rs. byte car (a .us .now) i (at rs i)) i (a .gs .now)) e ∙ pass-table (byte car (a .us .now)) (a .gs .now)
 
 pub bytes-spec : {M : Type 1} → statement M
 bytes-spec =

@@ -4,7 +4,7 @@ use native.Mathlib.Nat.{zero-mul}
 use native.Mathlib.Omega.{arith}
 use Prim.Native.Nat.{_-_, _≤_}
 use lib.ListN.{length, List·getD-eq-default}
-use Rattle.rules.specs.Laws.Range.{product}
+use Rattle.rules.proofs.Laws.Range.{product}
 use borrow.Author.Needs.{needs}
 use Rattle.trips.proofs.byte.turning.Statement.{statement}
 use Rattle.trips.proofs.byte.turning.Tie as tie

@@ -2,7 +2,7 @@
 -- Assumes nothing.
 use native.Mathlib.Omega.{arith}
 use mathlib.Core.Path.{_∙_}
-use Rattle.rules.specs.Laws.Seconds.{above-right, above-left}
+use Rattle.trips.proofs.Seconds.{above-right, above-left}
 use borrow.Author.Needs.{needs}
 use Rattle.trips.proofs.peak.one_above.Statement.{statement}
 use Rattle.trips.proofs.peak.one_above.Tie as tie

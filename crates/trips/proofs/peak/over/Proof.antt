@@ -1,7 +1,7 @@
 -- `trips::peak::over` meets its contract.
 -- Assumes nothing.
 use native.Mathlib.Omega.{arith}
-use Rattle.rules.specs.Laws.Seconds.{over-no, over-yes}
+use Rattle.trips.proofs.Seconds.{over-no, over-yes}
 use borrow.Author.Needs.{needs}
 use Rattle.trips.proofs.peak.over.Statement.{statement}
 use Rattle.trips.proofs.peak.over.Tie as tie

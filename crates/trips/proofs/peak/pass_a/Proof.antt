@@ -4,15 +4,16 @@ use Prim.Native.Nat.{_-_}
 use mathlib.Core.Path.{_∙_}
 use native.Mathlib.Omega.{arith}
 use lib.ListN.{length, length-set}
-use Rattle.rules.specs.Laws.Passes.{pass-first}
-use Rattle.gears.specs.Parts.{vehicle-of}
+use Rattle.trips.proofs.Passes.{pass-first}
+use Rattle.rules.specs.declared.Vehicle.{Vehicle}
+use Rattle.gears.specs.Parts.{Has}
 use Rattle.rules.specs.Corrections.{peak}
 use Rattle.trips.proofs.Along.{Along, along-start, along-more, along-end, peak-first}
 use Rattle.trips.proofs.peak.pass_a.Statement.{statement}
 use Rattle.trips.proofs.peak.pass_a.Tie as tie
 
 abbrev Inv-loop : tie.InvT-loop
-Inv-loop k ratio us hs gs₀ j₀ last₀ gs j last = Along (λ n p. peak (vehicle-of k ratio n p) us hs) gs₀ gs j last
+Inv-loop k ratio us hs gs₀ j₀ last₀ gs j last = Along (λ car. Has car k ratio) (λ car. peak car us hs) gs₀ gs j last
 
 abbrev μ-loop : tie.MeasureT-loop
 μ-loop k ratio us hs gs₀ j₀ last₀ gs j last = length gs - j
@@ -21,13 +22,13 @@ returns : tie.Need-returns Inv-loop μ-loop
 returns c =
     let s = c .before .before .before .before in
     let a = s .args in
-    λ n p. pass-first (peak (vehicle-of (a .k) (a .ratio .now) n p) (a .us .now) (a .hs .now)) (a .gs .now) (length (a .hs .now)) (omega (arith, s .pre .1 .gears)) (peak-first (vehicle-of (a .k) (a .ratio .now) n p) (a .us .now) (a .hs .now) (a .gs .now))
+    λ car H. pass-first (peak car (a .us .now) (a .hs .now)) (a .gs .now) (length (a .hs .now)) (omega (arith, s .pre .1 .gears)) (peak-first car (a .us .now) (a .hs .now) (a .gs .now))
 
 slice-read-last : tie.Need-slice-read-last Inv-loop μ-loop
 slice-read-last c = omega arith
 
 loop-holds : tie.Need-loop-holds Inv-loop μ-loop
-loop-holds c = let a = c .before .before .before .before .before .args in along-start (λ n p. peak (vehicle-of (a .k) (a .ratio .now) n p) (a .us .now) (a .hs .now)) (λ n p gs. peak-first (vehicle-of (a .k) (a .ratio .now) n p) (a .us .now) (a .hs .now) gs) (a .gs .now) (omega arith)
+loop-holds c = let a = c .before .before .before .before .before .args in along-start (λ car. Has car (a .k) (a .ratio .now)) (λ car. peak car (a .us .now) (a .hs .now)) (λ car H gs. peak-first car (a .us .now) (a .hs .now) gs) (a .gs .now) (omega arith)
 
 peak-at-requires : tie.Need-peak-at-requires Inv-loop μ-loop
 peak-at-requires c κs =
@@ -47,7 +48,7 @@ loop-less c = simp length-set (omega arith)
 loop-again : tie.Need-loop-again Inv-loop μ-loop
 loop-again c =
     let a = c .before .before .before .before .before .before .before .before .before .args in
-    along-more (λ n p. peak (vehicle-of (a .k) (a .ratio .now) n p) (a .us .now) (a .hs .now)) (c .before .before .before .loop .inv) (omega arith) (c .peak-at .result) _ (c .peak-at .ensures) (omega arith)
+    along-more (λ car. Has car (a .k) (a .ratio .now)) (λ car. peak car (a .us .now) (a .hs .now)) (c .before .before .before .loop .inv) (omega arith) (c .peak-at .result) _ (c .peak-at .ensures) (omega arith)
 
 same-length : tie.Need-same-length Inv-loop μ-loop
 same-length c = c .before .loop .inv .size
@@ -56,7 +57,7 @@ returns-2 : tie.Need-returns-2 Inv-loop μ-loop
 returns-2 c =
     let s = c .before .before .before .before .before .before .before in
     let a = s .args in
-    along-end (λ n p. peak (vehicle-of (a .k) (a .ratio .now) n p) (a .us .now) (a .hs .now)) (c .before .loop .inv) (omega arith) (length (a .hs .now)) (s .pre .1 .gears)
+    along-end (λ car. Has car (a .k) (a .ratio .now)) (λ car. peak car (a .us .now) (a .hs .now)) (c .before .loop .inv) (omega arith) (length (a .hs .now)) (s .pre .1 .gears)
 
 pub pass-a-spec : {M : Type 1} → statement M
 pass-a-spec =

@@ -2,7 +2,7 @@
 -- Assumes nothing.
 use native.Mathlib.Omega.{arith}
 use mathlib.Core.Path.{_∙_}
-use Rattle.rules.specs.Laws.Seconds.{ceiling-second, ceiling-same, ceiling-other}
+use Rattle.trips.proofs.Seconds.{ceiling-second, ceiling-same, ceiling-other}
 use borrow.Author.Needs.{needs}
 use Rattle.trips.proofs.rising.ceiling_at.Statement.{statement}
 use Rattle.trips.proofs.rising.ceiling_at.Tie as tie

@@ -2,7 +2,7 @@
 -- Assumes nothing.
 use native.Mathlib.Omega.{arith}
 use borrow.Author.Needs.{needs}
-use Rattle.rules.specs.Laws.Closing.{Closing, run-start, run-never, run-more, run-stops, run-whole}
+use Rattle.trips.proofs.Closing.{Closing, run-start, run-never, run-more, run-stops, run-whole}
 use Rattle.trips.proofs.slowing.closing_from.Statement.{statement}
 use Rattle.trips.proofs.slowing.closing_from.Tie as tie
 
@@ -15,17 +15,22 @@ abbrev μ-loop : tie.MeasureT-loop
 sub-j : tie.Need-sub-j Inv-loop μ-loop
 sub-j c = search needs
 
-mul-if1 : tie.Need-mul-if1 Inv-loop μ-loop
-mul-if1 c = search needs
+mul-moving : tie.Need-mul-moving Inv-loop μ-loop
+mul-moving c = search needs
 
-shared-slice-read-if1 : tie.Need-shared-slice-read-if1 Inv-loop μ-loop
-shared-slice-read-if1 c = search needs
+shared-slice-read-moving : tie.Need-shared-slice-read-moving Inv-loop μ-loop
+shared-slice-read-moving c = search needs
+
+moving-requires : tie.Need-moving-requires Inv-loop μ-loop
+moving-requires c κs = search needs
 
 returns : tie.Need-returns Inv-loop μ-loop
-returns c = run-never (c .before .before .args .us .now) (c .before .before .pre .0) _ (omega arith) (omega arith)
+returns c =
+    let s = c .before .before .before .before in
+    run-never (s .args .us .now) (s .pre .0) _ (omega arith) (rw (c .before .moving .ensures) at (c .if1 .taken))
 
 loop-holds : tie.Need-loop-holds Inv-loop μ-loop
-loop-holds c = run-start (c .before .before .args .us .now) _ (omega arith) (omega arith)
+loop-holds c = run-start (c .before .before .before .before .args .us .now) _ (omega arith) (rw (c .before .moving .ensures) at (c .if1 .left))
 
 sub-i : tie.Need-sub-i Inv-loop μ-loop
 sub-i c = search needs
@@ -43,16 +48,16 @@ shared-slice-read-if2-2 : tie.Need-shared-slice-read-if2-2 Inv-loop μ-loop
 shared-slice-read-if2-2 c = search needs
 
 returns-2 : tie.Need-returns-2 Inv-loop μ-loop
-returns-2 c = run-stops (c .before .before .before .before .before .before .before .args .us .now) (c .before .before .before .before .loop .inv) (c .before .before .before .before .before .before .before .pre .0) (omega arith) (omega arith)
+returns-2 c = run-stops (c .before .before .before .before .before .before .before .before .before .args .us .now) (c .before .before .before .before .loop .inv) (c .before .before .before .before .before .before .before .before .before .pre .0) (omega arith) (omega arith)
 
 loop-less : tie.Need-loop-less Inv-loop μ-loop
 loop-less c = search needs
 
 loop-again : tie.Need-loop-again Inv-loop μ-loop
-loop-again c = run-more (c .before .before .before .before .before .before .before .args .us .now) (c .before .before .before .before .loop .inv) (omega arith) (omega arith)
+loop-again c = run-more (c .before .before .before .before .before .before .before .before .before .args .us .now) (c .before .before .before .before .loop .inv) (omega arith) (omega arith)
 
 returns-3 : tie.Need-returns-3 Inv-loop μ-loop
-returns-3 c = run-whole (c .before .before .before .before .args .us .now) (c .before .loop .inv) (omega arith)
+returns-3 c = run-whole (c .before .before .before .before .before .before .args .us .now) (c .before .loop .inv) (omega arith)
 
 pub closing-from-spec : {M : Type 1} → statement M
 closing-from-spec =
@@ -61,8 +66,9 @@ closing-from-spec =
     Inv-loop
     μ-loop
     sub-j
-    mul-if1
-    shared-slice-read-if1
+    mul-moving
+    shared-slice-read-moving
+    moving-requires
     returns
     loop-holds
     sub-i

@@ -5,11 +5,11 @@ use mathlib.Core.Path.{_≡_, refl, sym, ap, _∙_}
 use native.Mathlib.Omega.{arith}
 use lib.ListN.{length, length-set}
 use Rattle.rules.specs.Words.{pass}
-use Rattle.rules.specs.Laws.Passes.{pass-more, pass-skip}
+use Rattle.trips.proofs.Passes.{pass-more, pass-skip}
 use borrow.Author.Tests.{le-leb, lt-leb}
 use Rattle.rules.specs.declared.Vehicle.{Vehicle}
 use Rattle.rules.specs.Corrections.{slowing}
-use Rattle.rules.specs.Laws.Seconds.{slowing-open}
+use Rattle.trips.proofs.Seconds.{slowing-open}
 use Rattle.trips.proofs.slowing.pass_c.Statement.{statement}
 use Rattle.trips.proofs.slowing.pass_c.Tie as tie
 

@@ -1,7 +1,8 @@
 -- `trips::slowing::slowing_at` meets its contract, by one law of pass C for each return.
 -- Assumes nothing.
 use native.Mathlib.Omega.{arith}
-use Rattle.rules.specs.Laws.Seconds.{free-held, free-first, free-later, slowing-still, slowing-up, slowing-other}
+use Rattle.trips.proofs.Seconds.{free-held, free-first, free-later, slowing-still, slowing-up, slowing-other}
+use Rattle.gears.proofs.Parts.{low-is}
 use borrow.Author.Needs.{needs}
 use Rattle.trips.proofs.slowing.slowing_at.Statement.{statement}
 use Rattle.trips.proofs.slowing.slowing_at.Tie as tie
@@ -19,10 +20,10 @@ returns-2 : tie.Need-returns-2
 returns-2 c = let a = c .before .before .before .before .args in λ car us e. slowing-still car us (a .hs .now) (a .j) (a .gs .now) (free-first car us (a .hs .now) (a .j) (omega arith))
 
 returns-3 : tie.Need-returns-3
-returns-3 c = let a = c .before .before .before .before .before .args in λ car us e. slowing-up car us (a .hs .now) (a .j) (a .gs .now) (free-later car us (a .hs .now) (a .j) (omega arith) (omega arith)) e (omega arith)
+returns-3 c = let a = c .before .before .before .before .before .args in λ car us e. rw (low-is car) at (slowing-up car us (a .hs .now) (a .j) (a .gs .now) (free-later car us (a .hs .now) (a .j) (omega arith) (omega arith)) e (omega (arith, low-is car)))
 
 returns-4 : tie.Need-returns-4
-returns-4 c = let a = c .before .before .before .before .before .args in λ car us e. slowing-other car us (a .hs .now) (a .j) (a .gs .now) (λ z. omega arith)
+returns-4 c = let a = c .before .before .before .before .before .args in λ car us e. slowing-other car us (a .hs .now) (a .j) (a .gs .now) (λ z. omega (arith, low-is car))
 
 pub slowing-at-spec : {M : Type 1} → statement M
 slowing-at-spec =

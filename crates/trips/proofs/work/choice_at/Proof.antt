@@ -6,9 +6,8 @@ use mathlib.Core.Path.{_≡_, sym, _∙_}
 use mir.Syntax.{w64}
 use mir.Val.{toZ, ofZ}
 use Rattle.rules.specs.Units.{rise}
-use Rattle.rules.specs.Laws.Range.{result}
-use Rattle.rules.specs.Laws.Clutch.{rise-here}
-use Rattle.gears.specs.Parts.{vehicle-of}
+use Rattle.rules.proofs.Laws.Range.{result}
+use Rattle.trips.proofs.Clutch.{rise-here}
 use borrow.Author.Needs.{needs}
 use Rattle.trips.proofs.work.choice_at.Statement.{statement}
 use Rattle.trips.proofs.work.choice_at.Tie as tie
@@ -38,19 +37,19 @@ shared-slice-read-hold c = search needs
 is-D : (c : tie.After-step-of) → toZ w64 (ofZ w64 (c .step-of .result)) ≡ rise (c .before .before .before .before .before .args .us .now) (c .before .before .before .before .before .args .j)
 is-D c =
     let a = c .before .before .before .before .before .args in
-    let l = c .before .before .before .before .before .pre .1 in
+    let l = c .before .before .before .before .before .pre .2 in
     result (c .step-of .ok) ∙ c .step-of .ensures ∙ sym (rise-here (a .us .now) (a .j) (omega (arith, l .speeds, l .inside)))
 
 first-choice-requires : tie.Need-first-choice-requires
 first-choice-requires c κs =
     let s = c .before .before .before .before .before .before in
-    let h = s .pre .1 .inside in
-    record { bounds = s .pre .0 .vehicle; v-to = s .pre .0 .speed (s .args .j) h; d-in = rw (is-D (c .before)) (s .pre .0 .step (s .args .j) h) }
+    let h = s .pre .2 .inside in
+    (s .pre .0, record { v-to = s .pre .1 .speed (s .args .j) h; d-in = rw (is-D (c .before)) (s .pre .1 .step (s .args .j) h) })
 
 returns : tie.Need-returns
-returns c =
+returns c = λ car L.
     let a = c .before .before .before .before .before .before .before .args in
-    chosen (vehicle-of (a .k) (a .ratio .now) (a .n .now) (a .p .now)) (a .us .now) (a .hs .now) (a .j) _ _ (is-D (c .before .before)) (c .first-choice .ensures)
+    chosen car (a .us .now) (a .hs .now) (a .j) _ _ (is-D (c .before .before)) (c .first-choice .ensures car L)
 
 pub choice-at-spec : {M : Type 1} → statement M
 choice-at-spec =

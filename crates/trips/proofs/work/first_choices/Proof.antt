@@ -6,25 +6,26 @@ use native.Mathlib.Omega.{arith}
 use lib.ListN.{length, length-set}
 use Rattle.rules.specs.Words.{pass}
 use Rattle.rules.specs.Corrections.{first-choice}
-use Rattle.rules.specs.Laws.Passes.{pass-start, pass-more, firsts-fresh}
-use Rattle.gears.specs.Parts.{vehicle-of}
+use Rattle.trips.proofs.Passes.{pass-start, pass-more, firsts-fresh}
+use Rattle.rules.specs.declared.Vehicle.{Vehicle}
+use Rattle.gears.specs.Parts.{Lent}
 use Rattle.trips.proofs.work.first_choices.Statement.{statement}
 use Rattle.trips.proofs.work.first_choices.Tie as tie
 
 abbrev Inv-loop : tie.InvT-loop
-Inv-loop k ratio n p us hs gs₀ j₀ gs j = (j ≤ length gs) × (length gs ≡ length gs₀) × (gs ≡ pass (first-choice (vehicle-of k ratio n p) us hs) j gs₀)
+Inv-loop k ratio n p us hs gs₀ j₀ gs j = (j ≤ length gs) × (length gs ≡ length gs₀) × ((car : Vehicle) → Lent car k ratio n p → gs ≡ pass (first-choice car us hs) j gs₀)
 
 abbrev μ-loop : tie.MeasureT-loop
 μ-loop k ratio n p us hs gs₀ j₀ gs j = length gs - j
 
 loop-holds : tie.Need-loop-holds Inv-loop μ-loop
-loop-holds c = (omega arith, refl, pass-start _ _)
+loop-holds c = (omega arith, refl, λ car L. pass-start _ _)
 
 choice-at-requires : tie.Need-choice-at-requires Inv-loop μ-loop
 choice-at-requires c κs =
     let s = c .before .before .before .before .before in
     let l = c .before .loop in
-    (s .pre .0, record { speeds = s .pre .1 .speeds; inside = omega (arith, l .inv, s .pre .1) })
+    (s .pre .0, s .pre .1, record { speeds = s .pre .2 .speeds; inside = omega (arith, l .inv, s .pre .2) })
 
 slice-write-gs : tie.Need-slice-write-gs Inv-loop μ-loop
 slice-write-gs c = omega arith
@@ -42,7 +43,7 @@ loop-again c =
     let l = c .before .before .loop in (
       simp length-set (omega arith),
       simp length-set (l .inv .1),
-      pass-more (first-choice (vehicle-of (a .k) (a .ratio .now) (a .n .now) (a .p .now)) (a .us .now) (a .hs .now)) (a .gs .now) (l .gs) (l .j) (c .choice-at .result) (l .inv .2) (c .choice-at .ensures (l .gs)),
+      λ car L. pass-more (first-choice car (a .us .now) (a .hs .now)) (a .gs .now) (l .gs) (l .j) (c .choice-at .result) (l .inv .2 car L) (c .choice-at .ensures car L (l .gs)),
     )
 
 same-length : tie.Need-same-length Inv-loop μ-loop
@@ -53,8 +54,8 @@ returns c =
     let s = c .before .before .before .before .before in
     let a = s .args in
     let l = c .before .loop in
-    let e : l .j ≡ length (a .hs .now) = omega (arith, l .inv, s .pre .1) in
-    l .inv .2 ∙ ap (λ (i : ℕ). pass (first-choice (vehicle-of (a .k) (a .ratio .now) (a .n .now) (a .p .now)) (a .us .now) (a .hs .now)) i (a .gs .now)) e ∙ firsts-fresh (vehicle-of (a .k) (a .ratio .now) (a .n .now) (a .p .now)) (a .us .now) (a .hs .now) (a .gs .now) (s .pre .1 .gears)
+    let e : l .j ≡ length (a .hs .now) = omega (arith, l .inv, s .pre .2) in
+    λ car L. l .inv .2 car L ∙ ap (λ (i : ℕ). pass (first-choice car (a .us .now) (a .hs .now)) i (a .gs .now)) e ∙ firsts-fresh car (a .us .now) (a .hs .now) (a .gs .now) (s .pre .2 .gears)
 
 pub first-choices-spec : {M : Type 1} → statement M
 first-choices-spec =

@@ -3,54 +3,56 @@
 use mathlib.Core.Path.{_≡_}
 use Rattle.rules.specs.declared.Vehicle.{Vehicle}
 use Rattle.rules.specs.Corrections.{gears}
-use Rattle.gears.specs.Parts.{vehicle-of}
-use Rattle.trips.proofs.Trip.{gears-is, bytes-is, moves-on, gears-small}
+use Rattle.gears.specs.Parts.{Lent}
+use Rattle.trips.proofs.Trip.{gears-is, bytes-is, moves-on, gears-few, gears-small}
 use borrow.Author.Needs.{needs}
 use Rattle.trips.proofs.work.work_trip.Statement.{statement}
 use Rattle.trips.proofs.work.work_trip.Tie as tie
 
--- the vehicle whose parts are lent
-abbrev car : tie.Start → Vehicle
-car s = vehicle-of (s .args .k) (s .args .ratio .now) (s .args .n .now) (s .args .p .now)
+-- the vehicle has the parts that are lent
+abbrev Of : tie.Start → Vehicle → Type 0
+Of s car = Lent car (s .args .k) (s .args .ratio .now) (s .args .n .now) (s .args .p .now)
 
 -- where the function began, seen from after its last pass
 abbrev start : tie.After-pass-c → tie.Start
 start c = c .before .before .before .before .before .before .before .before .before .before .before .before .before .before .before .before .before
 
 -- after the three passes the slice holds the trip's gears
-done : (c : tie.After-pass-c) → c .pass-c .last .1 .1 .0 ≡ gears (car (start c)) (start c .args .us .now) (start c .args .hs .now)
-done c =
+done : (c : tie.After-pass-c) (car : Vehicle) → Of (start c) car → c .pass-c .last .1 .1 .0 ≡ gears car (start c .args .us .now) (start c .args .hs .now)
+done c car L =
     let a = start c .args in
     let first = c .before .before .before .before .before .before .before .before .before .before .before .before .first-choices in
     let one = c .before .before .before .before .before .before .before .before .pass-a in
     let two = c .before .before .before .before .pass-b in
-    gears-is (car (start c)) (a .us .now) (a .hs .now) (first .ensures) (one .ensures (a .n .now) (a .p .now))
-    (two .ensures (a .n .now) (a .p .now)) (c .pass-c .ensures (car (start c)))
+    gears-is car (a .us .now) (a .hs .now) (first .ensures car L) (one .ensures car (L .has)) (two .ensures car (L .has)) (c .pass-c .ensures car)
 
 first-choices-requires : tie.Need-first-choices-requires
 first-choices-requires c κs = search needs
 
 pass-a-requires : tie.Need-pass-a-requires
-pass-a-requires c κs = search needs
+pass-a-requires c κs = let s = c .before .before .before .before .before .before .before .before in (gears-few (s .pre .0), record { speeds = s .pre .1 .lists .speeds; gears = search needs })
 
 pass-b-requires : tie.Need-pass-b-requires
-pass-b-requires c κs = search needs
+pass-b-requires c κs = let s = c .before .before .before .before .before .before .before .before .before .before .before .before in (gears-few (s .pre .0), record { speeds = s .pre .1 .lists .speeds; gears = search needs })
 
 pass-c-requires : tie.Need-pass-c-requires
 pass-c-requires c κs =
     let s = c .before .before .before .before .before .before .before .before .before .before .before .before .before .before .before .before in
-    (record { speeds = s .pre .lists .speeds; gears = search needs }, moves-on _ _ _ (s .pre))
+    (record { speeds = s .pre .1 .lists .speeds; gears = search needs }, moves-on (s .pre .1))
 
 bytes-requires : tie.Need-bytes-requires
-bytes-requires c κs = gears-small _ _ _ (start (c .before .before .before) .pre) (done (c .before .before .before))
+bytes-requires c κs =
+    let s = start (c .before .before .before) in
+    let P = s .pre .0 in
+    gears-small (P .car) _ _ (P .lent) (s .pre .1) (done (c .before .before .before) (P .car) (P .lent))
 
 same-length : tie.Need-same-length
 same-length c = search needs
 
 returns : tie.Need-returns
-returns c =
+returns c = λ car L.
     let s = start (c .before .before .before .before .before .before) in
-    rw (bytes-is (car s) (s .args .us .now) (s .args .hs .now) (done (c .before .before .before .before .before .before)) (c .before .before .bytes .ensures (s .args .n .now) (s .args .p .now)))
+    rw (bytes-is car (s .args .us .now) (s .args .hs .now) (done (c .before .before .before .before .before .before) car L) (c .before .before .bytes .ensures car (L .has)))
 
 pub work-trip-spec : {M : Type 1} → statement M
 work-trip-spec =

@@ -1,0 +1,8 @@
+-- What belongs to no one function: laws of the definitions as the code meets them.
+pub mod Rows
+pub mod OnePass
+pub mod Scans
+pub mod Tests
+pub mod Calmness
+pub mod Wanting
+pub mod Determined

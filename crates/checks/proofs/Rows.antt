@@ -1,0 +1,109 @@
+-- The checks in a row, and the opening, 1 to 3: each way out of them.
+-- Assumes nothing.
+use Prim.Native.Nat.{ℕ, _≤_, _<_}
+use native.Mathlib.Omega.{arith}
+use mathlib.Core.Path.{_≡_, refl, sym, ap, _∙_}
+use mathlib.Core.Option.{Option, none}
+use mathlib.Core.List.{List}
+use lib.ListN.{length}
+use borrow.Author.Tests.{le-leb, lt-leb, eq-eqb, ne-eqb}
+use Rattle.rules.specs.declared.Vehicle.{Vehicle}
+use Rattle.rules.specs.declared.Refusal.{Refusal}
+use Rattle.rules.specs.declared.Refusal.the-variants.{TraceLength, RoomLength}
+use Rattle.rules.specs.declared.Answer.{Answer}
+use Rattle.rules.specs.declared.Answer.the-variants.{Done, Refused}
+use Rattle.rules.specs.Words.{_and_, within}
+use Rattle.rules.specs.Units.{longest}
+use Rattle.rules.specs.Refusals.{Fault, said, refuse-at, _orelse_, when, trace-fault, room-fault, vehicle-fault, left}
+use Rattle.rules.specs.Vocabulary.{InBounds}
+use Rattle.rules.proofs.Laws.Checks.{orelse-none, none-orelse, orelse-assoc, rooms-in, vehicle-in}
+
+-- ---- an answer and a row of checks
+
+-- a refusal that was said ends the row
+pub said-first : {x : Answer} {r : Refusal} {a : Option Fault} (b : Option Fault) → said x ≡ a → x ≡ Refused r → said x ≡ (a orelse b)
+unfolding said _orelse_
+said-first b e h = rw (← e, h)
+
+-- nothing was said
+pub said-none : {x : Answer} {a : Option Fault} → said x ≡ a → x ≡ Done → a ≡ none
+unfolding said
+said-none e h = sym e ∙ ap said h
+
+-- a refusal leaves what was there
+pub left-old : {x : Answer} {r : Refusal} {f : Option Fault} (old new : List ℕ) → said x ≡ f → x ≡ Refused r → old ≡ left f old new
+unfolding said left
+left-old old new e h = rw (← e, h)
+
+pub left-new : {f : Option Fault} (old new : List ℕ) → f ≡ none → new ≡ left f old new
+unfolding left
+left-new old new e = rw e
+
+-- the longest trace, as the code has it
+pub longest-is : longest ≡ 2048
+unfolding longest
+longest-is = refl
+
+-- ---- 1, 2 and 3
+
+-- the first three checks
+abbrev pub opening : Vehicle → List ℕ → List ℕ → List ℕ → Option Fault
+opening car vs hs old = trace-fault vs orelse room-fault vs hs old orelse vehicle-fault car
+
+module _ (vs hs old : List ℕ) where
+  pub no-seconds : length vs ≡ 0 → said (Refused TraceLength) ≡ (trace-fault vs orelse room-fault vs hs old)
+  unfolding said trace-fault within when refuse-at _orelse_ _and_
+  no-seconds e = rw e
+
+  pub too-long : longest < length vs → said (Refused TraceLength) ≡ (trace-fault vs orelse room-fault vs hs old)
+  unfolding said trace-fault within when refuse-at _orelse_ _and_
+  too-long h = rw (le-leb 1 (length vs) (omega arith), lt-leb (length vs) longest h)
+
+  module _ (a : 1 ≤ length vs) (b : length vs ≤ longest) where
+    no-trace-fault : trace-fault vs ≡ none
+    unfolding trace-fault within when refuse-at _and_
+    no-trace-fault = rw (le-leb 1 (length vs) a, le-leb (length vs) longest b)
+
+    pub holds-short : (length hs ≡ length vs → ⊥) → said (Refused RoomLength) ≡ (trace-fault vs orelse room-fault vs hs old)
+    unfolding said room-fault when refuse-at _and_
+    holds-short n = sym (none-orelse _ _ no-trace-fault ∙ rw (ne-eqb (length hs) (length vs) n))
+
+    pub card-short : length hs ≡ length vs → (length old ≡ length vs → ⊥) → said (Refused RoomLength) ≡ (trace-fault vs orelse room-fault vs hs old)
+    unfolding said room-fault when refuse-at _and_
+    card-short e n = sym (none-orelse _ _ no-trace-fault ∙ rw (eq-eqb (length hs) (length vs) e, ne-eqb (length old) (length vs) n))
+
+    pub lengths-good : length hs ≡ length vs → length old ≡ length vs → said Done ≡ (trace-fault vs orelse room-fault vs hs old)
+    unfolding said room-fault when refuse-at _and_
+    lengths-good e f = sym (none-orelse _ _ no-trace-fault ∙ rw (eq-eqb (length hs) (length vs) e, eq-eqb (length old) (length vs) f))
+
+  pub opening-lengths : (car : Vehicle) {x : Answer} {r : Refusal} → said x ≡ (trace-fault vs orelse room-fault vs hs old) → x ≡ Refused r → said x ≡ opening car vs hs old
+  opening-lengths car e h = said-first (vehicle-fault car) e h ∙ orelse-assoc _ _ _
+
+  pub opening-vehicle : (car : Vehicle) {x : Answer} (y : Answer) → said x ≡ (trace-fault vs orelse room-fault vs hs old) → x ≡ Done → said y ≡ vehicle-fault car → said y ≡ opening car vs hs old
+  opening-vehicle car y e h f = f ∙ sym (sym (orelse-assoc _ _ _) ∙ none-orelse _ _ (said-none e h))
+
+-- what the opening leaves
+pub record Opened (car : Vehicle) (vs hs old : List ℕ) : Type 0 where
+  pub trace : trace-fault vs ≡ none
+  pub room : room-fault vs hs old ≡ none
+  pub vehicle : vehicle-fault car ≡ none
+  pub holds-long : length hs ≡ length vs
+  pub card-long : length old ≡ length vs
+  pub bounds : InBounds car
+
+pub opened : {car : Vehicle} {vs hs old : List ℕ} {x : Answer} → said x ≡ opening car vs hs old → x ≡ Done → Opened car vs hs old
+opened {car} {vs} {hs} {old} e h =
+    let n = said-none e h in
+    let a = orelse-none (trace-fault vs) (room-fault vs hs old orelse vehicle-fault car) n in
+    let b = orelse-none (room-fault vs hs old) (vehicle-fault car) (a .1) in
+    let l = rooms-in vs hs old (b .0) in
+    record { trace = a .0; room = b .0; vehicle = b .1; holds-long = l .0; card-long = l .1; bounds = vehicle-in car (b .1) }
+
+-- a row that begins with the opening
+pub after-opening : {car : Vehicle} {vs hs old : List ℕ} (r : Option Fault) → Opened car vs hs old → (trace-fault vs orelse room-fault vs hs old orelse vehicle-fault car orelse r) ≡ r
+after-opening r O = none-orelse _ _ (O .trace) ∙ none-orelse _ _ (O .room) ∙ none-orelse _ _ (O .vehicle)
+
+module _ (car : Vehicle) (vs hs old : List ℕ) where
+  pub opening-first : {x : Answer} {q : Refusal} (r : Option Fault) → said x ≡ opening car vs hs old → x ≡ Refused q
+      → said x ≡ (trace-fault vs orelse room-fault vs hs old orelse vehicle-fault car orelse r)
+  opening-first r e h = said-first r e h ∙ orelse-assoc _ _ _ ∙ ap (λ (o : Option Fault). trace-fault vs orelse o) (orelse-assoc _ _ _)

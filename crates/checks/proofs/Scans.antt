@@ -1,0 +1,78 @@
+-- The two scans of a trip, as a loop meets them: here, one second further, and at the end of the trace.
+-- Assumes nothing.
+use Prim.Native.Nat.{ℕ, zero, suc, _+_, _-_, _≤_, _<_}
+use native.Mathlib.Nat.{add-zero, add-suc, suc-add}
+use native.Mathlib.Numerals.{add-one}
+use native.Mathlib.Omega.{arith}
+use mathlib.Core.Path.{_≡_, sym, ap, _∙_}
+use mathlib.Core.Bool.{Bool, true, false, not}
+use mathlib.Core.List.{List}
+use lib.Dec.{eqb}
+use lib.ListN.{length, drop, drop-of-length-le}
+use lib.Seq.{drop-cons}
+use borrow.Author.Tests.{eq-eqb, ne-eqb, not-true, not-false}
+use Rattle.rules.specs.Words.{at}
+use Rattle.rules.specs.Units.{moving, start, run, stop}
+use Rattle.rules.proofs.Laws.Words.{by-test}
+use Rattle.rules.proofs.Laws.Trips.{start-le}
+
+-- what the code found not to be so is not, and what it did not find not to be so is
+pub not-so : {r t : Bool} → r ≡ t → not r ≡ true → t ≡ false
+not-so {r} e n = sym e ∙ not-true r n
+
+pub so : {r t : Bool} → r ≡ t → not r ≡ false → t ≡ true
+so {r} e n = sym e ∙ not-false r n
+
+module _ (vs : List ℕ) (k : ℕ) where
+  -- ---- to the left
+
+  -- there is no second before
+  pub start-zero : k ≡ 0 → k ≡ start vs k
+  unfolding start
+  start-zero e = rw e
+
+  -- the second before is standing
+  pub start-here : 0 < k → moving (at vs (k - 1)) ≡ false → k ≡ start vs k
+  unfolding start
+  start-here h l = let e : k ≡ suc (k - 1) = omega arith in rw (e, l)
+
+  -- it is moving
+  pub start-more : 0 < k → moving (at vs (k - 1)) ≡ true → start vs k ≡ start vs (k - 1)
+  unfolding start
+  start-more h l = let e : k ≡ suc (k - 1) = omega arith in ap (start vs) e ∙ rw l
+
+  -- ---- to the right
+
+  -- this second is standing
+  pub stop-here : k < length vs → moving (at vs k) ≡ false → k ≡ stop vs k
+  unfolding stop run
+  stop-here h l = sym (rw (drop-cons vs k 0 h, l) (add-zero k))
+
+  -- it is moving
+  pub stop-more : k < length vs → moving (at vs k) ≡ true → stop vs k ≡ stop vs (k + 1)
+  unfolding stop run
+  stop-more h l = rw (drop-cons vs k 0 h, l, add-one) (add-suc k _ ∙ sym (suc-add k _))
+
+  -- the trace ends
+  pub stop-end : length vs ≤ k → k ≡ stop vs k
+  unfolding stop run
+  stop-end h = sym (rw (drop-of-length-le vs h) (add-zero k))
+
+  -- ---- whether second k is the first of its trip
+
+  -- the scan to the left went nowhere
+  pub begins-here : k ≡ start vs k → true ≡ eqb (k - start vs k) 0
+  begins-here e = sym (eq-eqb (k - start vs k) 0 (omega arith))
+
+  -- the second before lies in the same trip
+  pub begins-before : 0 < k → moving (at vs (k - 1)) ≡ true → false ≡ eqb (k - start vs k) 0
+  begins-before h l =
+      let s : start vs k ≤ k - 1 = rw (start-more h l) (start-le vs (k - 1)) in
+      sym (ne-eqb (k - start vs k) 0 (λ z. omega arith))
+
+  -- so it begins exactly where the second before is standing
+  pub begins-not : 0 < k → not (moving (at vs (k - 1))) ≡ eqb (k - start vs k) 0
+  begins-not h =
+      by-test (moving (at vs (k - 1)))
+      (λ t. rw t (begins-before h t))
+      (λ t. rw t (begins-here (start-here h t)))

@@ -1,0 +1,58 @@
+-- `checks::calm::fastest` meets its contract: none of the seconds so far is faster than what is kept.
+-- Assumes nothing.
+use Prim.Native.Nat.{_-_, _≤_}
+use native.Mathlib.Omega.{arith}
+use Rattle.rules.specs.Words.{at}
+use Rattle.checks.specs.Calm.{AtMost}
+use Rattle.checks.proofs.Calmness.{each-none, most-more}
+use borrow.Author.Needs.{needs}
+use Rattle.checks.proofs.calm.fastest.Statement.{statement}
+use Rattle.checks.proofs.calm.fastest.Tie as tie
+
+abbrev Inv-loop : tie.InvT-loop
+Inv-loop speeds span most₀ i₀ most i = (span .lo ≤ i) × AtMost (at speeds) (span .lo) i most
+
+abbrev μ-loop : tie.MeasureT-loop
+μ-loop speeds span most₀ i₀ most i = span .hi - i
+
+loop-holds : tie.Need-loop-holds Inv-loop μ-loop
+loop-holds c = let a = c .before .args in (omega arith, each-none (λ j. at (a .speeds .now) j ≤ 0) (a .span .lo))
+
+mul-larger : tie.Need-mul-larger Inv-loop μ-loop
+mul-larger c = search needs
+
+shared-slice-read-larger : tie.Need-shared-slice-read-larger Inv-loop μ-loop
+shared-slice-read-larger c = search needs
+
+larger-requires : tie.Need-larger-requires Inv-loop μ-loop
+larger-requires c κs = search needs
+
+add-i : tie.Need-add-i Inv-loop μ-loop
+add-i c = search needs
+
+loop-less : tie.Need-loop-less Inv-loop μ-loop
+loop-less c = search needs
+
+loop-again : tie.Need-loop-again Inv-loop μ-loop
+loop-again c =
+    let a = c .before .before .before .before .before .before .args in
+    let l = c .before .before .before .before .loop in
+    (omega arith, most-more (at (a .speeds .now)) (a .span .lo) (l .i) (l .inv .1) (c .larger .ensures .0) (c .larger .ensures .1))
+
+returns : tie.Need-returns Inv-loop μ-loop
+returns c = λ i a b. c .before .before .loop .inv .1 i a (omega arith)
+
+pub fastest-spec : {M : Type 1} → statement M
+fastest-spec =
+    tie.close
+    (tie.spec
+    Inv-loop
+    μ-loop
+    loop-holds
+    mul-larger
+    shared-slice-read-larger
+    larger-requires
+    add-i
+    loop-less
+    loop-again
+    returns)

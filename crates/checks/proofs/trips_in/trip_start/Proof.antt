@@ -1,0 +1,55 @@
+-- `checks::trips_in::trip_start` meets its contract. The invariant: the trip of `k` begins where that of `i` does.
+-- Assumes nothing.
+use Prim.Native.Nat.{_≤_}
+use native.Mathlib.Omega.{arith}
+use mathlib.Core.Path.{_≡_, refl, sym, _∙_}
+use borrow.Author.Needs.{needs}
+use Rattle.rules.specs.Units.{start}
+use Rattle.checks.proofs.Scans.{not-so, so, start-zero, start-here, start-more}
+use Rattle.checks.proofs.trips_in.trip_start.Statement.{statement}
+use Rattle.checks.proofs.trips_in.trip_start.Tie as tie
+
+abbrev Inv-loop : tie.InvT-loop
+Inv-loop speeds i k₀ k = (k ≤ i) × (start speeds i ≡ start speeds k)
+
+abbrev μ-loop : tie.MeasureT-loop
+μ-loop speeds i k₀ k = k
+
+loop-holds : tie.Need-loop-holds Inv-loop μ-loop
+loop-holds c = (omega arith, refl)
+
+sub-moving : tie.Need-sub-moving Inv-loop μ-loop
+sub-moving c = search needs
+
+mul-moving : tie.Need-mul-moving Inv-loop μ-loop
+mul-moving c = search needs
+
+shared-slice-read-moving : tie.Need-shared-slice-read-moving Inv-loop μ-loop
+shared-slice-read-moving c = search needs
+
+moving-requires : tie.Need-moving-requires Inv-loop μ-loop
+moving-requires c κs = search needs
+
+returns : tie.Need-returns Inv-loop μ-loop
+returns c =
+    let l = c .before .before .before .before .loop in
+    let vs = c .before .before .before .before .before .before .args .speeds .now in
+    start-here vs (l .k) (omega arith) (not-so (c .before .moving .ensures) (c .if1 .taken)) ∙ sym (l .inv .1)
+
+sub-k : tie.Need-sub-k Inv-loop μ-loop
+sub-k c = search needs
+
+loop-less : tie.Need-loop-less Inv-loop μ-loop
+loop-less c = search needs
+
+loop-again : tie.Need-loop-again Inv-loop μ-loop
+loop-again c =
+    let l = c .before .before .before .before .loop in
+    let vs = c .before .before .before .before .before .before .args .speeds .now in
+    (omega arith, l .inv .1 ∙ start-more vs (l .k) (omega arith) (so (c .before .moving .ensures) (c .if1 .left)))
+
+returns-2 : tie.Need-returns-2 Inv-loop μ-loop
+returns-2 c = start-zero (c .before .before .before .args .speeds .now) (c .before .loop .k) (omega arith) ∙ sym (c .before .loop .inv .1)
+
+pub trip-start-spec : {M : Type 1} → statement M
+trip-start-spec = tie.close (tie.spec Inv-loop μ-loop loop-holds sub-moving mul-moving shared-slice-read-moving moving-requires returns sub-k loop-less loop-again returns-2)

@@ -1,0 +1,53 @@
+-- `checks::trips_in::trip_stop` meets its contract. The invariant: the trip of `k` ends where that of `i` does.
+-- Assumes nothing.
+use Prim.Native.Nat.{_-_, _≤_}
+use lib.ListN.{length}
+use native.Mathlib.Omega.{arith}
+use mathlib.Core.Path.{_≡_, refl, sym, _∙_}
+use borrow.Author.Needs.{needs}
+use Rattle.rules.specs.Units.{stop}
+use Rattle.checks.proofs.Scans.{not-so, so, stop-here, stop-more, stop-end}
+use Rattle.checks.proofs.trips_in.trip_stop.Statement.{statement}
+use Rattle.checks.proofs.trips_in.trip_stop.Tie as tie
+
+abbrev Inv-loop : tie.InvT-loop
+Inv-loop speeds i k₀ k = (k ≤ length speeds) × (stop speeds i ≡ stop speeds k)
+
+abbrev μ-loop : tie.MeasureT-loop
+μ-loop speeds i k₀ k = length speeds - k
+
+loop-holds : tie.Need-loop-holds Inv-loop μ-loop
+loop-holds c = (omega arith, refl)
+
+mul-moving : tie.Need-mul-moving Inv-loop μ-loop
+mul-moving c = search needs
+
+shared-slice-read-moving : tie.Need-shared-slice-read-moving Inv-loop μ-loop
+shared-slice-read-moving c = search needs
+
+moving-requires : tie.Need-moving-requires Inv-loop μ-loop
+moving-requires c κs = search needs
+
+returns : tie.Need-returns Inv-loop μ-loop
+returns c =
+    let l = c .before .before .before .before .loop in
+    let vs = c .before .before .before .before .before .before .args .speeds .now in
+    stop-here vs (l .k) (omega arith) (not-so (c .before .moving .ensures) (c .if1 .taken)) ∙ sym (l .inv .1)
+
+add-k : tie.Need-add-k Inv-loop μ-loop
+add-k c = search needs
+
+loop-less : tie.Need-loop-less Inv-loop μ-loop
+loop-less c = search needs
+
+loop-again : tie.Need-loop-again Inv-loop μ-loop
+loop-again c =
+    let l = c .before .before .before .before .loop in
+    let vs = c .before .before .before .before .before .before .args .speeds .now in
+    (omega arith, l .inv .1 ∙ stop-more vs (l .k) (omega arith) (so (c .before .moving .ensures) (c .if1 .left)))
+
+returns-2 : tie.Need-returns-2 Inv-loop μ-loop
+returns-2 c = stop-end (c .before .before .before .args .speeds .now) (c .before .loop .k) (omega arith) ∙ sym (c .before .loop .inv .1)
+
+pub trip-stop-spec : {M : Type 1} → statement M
+trip-stop-spec = tie.close (tie.spec Inv-loop μ-loop loop-holds mul-moving shared-slice-read-moving moving-requires returns add-k loop-less loop-again returns-2)

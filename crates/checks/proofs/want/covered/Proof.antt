@@ -1,0 +1,66 @@
+-- `checks::want::covered` meets its contract: each gear so far hands on to the next.
+-- Assumes nothing.
+use Prim.Native.Nat.{_-_, _≤_}
+use native.Mathlib.Omega.{arith}
+use mathlib.Core.Path.{refl}
+use borrow.Author.Tests.{not-false}
+use borrow.Author.Needs.{needs}
+use Rattle.rules.proofs.Laws.Words.{clash}
+use Rattle.checks.specs.Calm.{Each, Follows}
+use Rattle.checks.proofs.Calmness.{each-none, each-more}
+use Rattle.checks.proofs.want.covered.Statement.{statement}
+use Rattle.checks.proofs.want.covered.Tie as tie
+
+abbrev Inv-loop : tie.InvT-loop
+Inv-loop k ratio ng j₀ j = (1 ≤ j) × Each (Follows k ratio) 1 j
+
+abbrev μ-loop : tie.MeasureT-loop
+μ-loop k ratio ng j₀ j = ng - j
+
+cast-ng : tie.Need-cast-ng Inv-loop μ-loop
+cast-ng c = search needs
+
+loop-holds : tie.Need-loop-holds Inv-loop μ-loop
+loop-holds c = let a = c .before .args in (omega arith, each-none (Follows (a .k) (a .ratio .now)) 1)
+
+add-hands-on : tie.Need-add-hands-on Inv-loop μ-loop
+add-hands-on c = search needs
+
+sub-hands-on : tie.Need-sub-hands-on Inv-loop μ-loop
+sub-hands-on c = search needs
+
+mul-hands-on : tie.Need-mul-hands-on Inv-loop μ-loop
+mul-hands-on c = search needs
+
+element-copy-out-hands-on : tie.Need-element-copy-out-hands-on Inv-loop μ-loop
+element-copy-out-hands-on c = search needs
+
+mul-hands-on-2 : tie.Need-mul-hands-on-2 Inv-loop μ-loop
+mul-hands-on-2 c = search needs
+
+element-copy-out-hands-on-2 : tie.Need-element-copy-out-hands-on-2 Inv-loop μ-loop
+element-copy-out-hands-on-2 c = search needs
+
+hands-on-requires : tie.Need-hands-on-requires Inv-loop μ-loop
+hands-on-requires c κs = search needs
+
+returns : tie.Need-returns Inv-loop μ-loop
+returns c = λ e. clash e refl
+
+add-j : tie.Need-add-j Inv-loop μ-loop
+add-j c = search needs
+
+loop-less : tie.Need-loop-less Inv-loop μ-loop
+loop-less c = search needs
+
+loop-again : tie.Need-loop-again Inv-loop μ-loop
+loop-again c =
+    let a = c .before .before .before .before .before .before .before .args in
+    let l = c .before .before .before .before .before .loop in
+    (omega arith, each-more (Follows (a .k) (a .ratio .now)) 1 (l .j) (l .inv .1) (c .before .hands-on .ensures (not-false _ (c .if1 .left))))
+
+returns-2 : tie.Need-returns-2 Inv-loop μ-loop
+returns-2 c = λ e g a b. c .before .loop .inv .1 g a (omega arith)
+
+pub covered-spec : {M : Type 1} → statement M
+covered-spec = tie.close (tie.spec Inv-loop μ-loop cast-ng loop-holds add-hands-on sub-hands-on mul-hands-on element-copy-out-hands-on mul-hands-on-2 element-copy-out-hands-on-2 hands-on-requires returns add-j loop-less loop-again returns-2)

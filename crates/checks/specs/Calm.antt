@@ -1,0 +1,57 @@
+-- What the cheap tests of a span ask and find.
+-- Assumes nothing.
+use Prim.Native.Nat.{ℕ, _+_, _-_, _*_, _≤_, _<_}
+use mathlib.Core.Path.{_≡_}
+use mathlib.Core.Logic.{_≢_}
+use mathlib.Core.Bool.{false}
+use mathlib.Core.List.{List}
+use lib.ListN.{length}
+use Rattle.rules.specs.declared.Vehicle.{Vehicle}
+use Rattle.rules.specs.Words.{at}
+use Rattle.rules.specs.Units.{moving}
+use Rattle.rules.specs.Gears.{minimum}
+use Rattle.gears.specs.declared.Numbers.{Numbers}
+use Rattle.gears.specs.Parts.{Counts, Has}
+use Rattle.checks.specs.Checks.{fault-no, hold-checks}
+
+-- seconds of the trace, from lo up to hi
+pub record Seconds (vs : List ℕ) (lo hi : ℕ) : Type 0 where
+  pub order : lo ≤ hi
+  pub inside : hi ≤ length vs
+
+-- so it is at each place from lo up to hi
+abbrev pub Each : (ℕ → Type 0) → ℕ → ℕ → Type 0
+Each P lo hi = (i : ℕ) → lo ≤ i → i < hi → P i
+
+-- nothing from lo up to hi is above r
+abbrev pub AtMost : (ℕ → ℕ) → ℕ → ℕ → ℕ → Type 0
+AtMost f lo hi r = Each (λ i. f i ≤ r) lo hi
+
+-- how far apart a second and the one before it are
+abbrev pub gap-at : List ℕ → ℕ → ℕ
+gap-at vs i = (at vs (i - 1) - at vs i) + (at vs i - at vs (i - 1))
+
+-- the span has seconds, and the first and the last stand
+pub record Stands (vs : List ℕ) (lo hi : ℕ) : Type 0 where
+  pub some : lo < hi
+  pub first : moving (at vs lo) ≡ false
+  pub last : moving (at vs (hi - 1)) ≡ false
+
+-- gear g, of ratio `this`, has reached its minimum wherever the gear below it turns past nmax, by the ratios alone
+abbrev pub HandsOn : Numbers → ℕ → ℕ → ℕ → Type 0
+HandsOn k g below this = (car : Vehicle) → Counts car k → minimum car g * below ≤ k .nmax * this
+
+-- so gear j + 1, whose ratio stands at place j
+abbrev pub Follows : Numbers → List ℕ → ℕ → Type 0
+Follows k ratio j = HandsOn k (j + 1) (at ratio (j - 1)) (at ratio j)
+
+-- up to the speed `most` some gear fits; at the first second of a trip, up to 159, gear 1 does
+pub record NoGap (k : Numbers) (ratio : List ℕ) (most : ℕ) : Type 0 where
+  pub some : 1 ≤ k .ng
+  pub at-first : at ratio 0 * 159 ≤ 1000 * k .nmax
+  pub at-most : at ratio (k .ng - 1) * most ≤ 1000 * k .nmax
+  pub covered : Each (Follows k ratio) 1 (k .ng)
+
+-- a second passes the checks that look at a hold, if it is held
+abbrev pub HoldPasses : Numbers → List ℕ → List ℕ → List ℕ → ℕ → ℕ → Type 0
+HoldPasses k ratio vs hs lo i = at hs i ≢ 0 → (car : Vehicle) → Has car k ratio → 10 ≡ fault-no car vs hs lo i hold-checks

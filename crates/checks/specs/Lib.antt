@@ -1,0 +1,3 @@
+-- What the checks promise and ask, in the words of their contracts.
+pub mod Checks
+pub mod Calm

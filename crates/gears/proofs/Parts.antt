@@ -1,0 +1,82 @@
+-- The parts of a vehicle, number by number.
+-- Assumes nothing.
+use Prim.Native.Nat.{ℕ, _-_, _*_}
+use mathlib.Core.Path.{_≡_, refl, ap}
+use mathlib.Core.List.{List, []}
+use lib.IntN.{ℤ, pos, _+ℤ_, _*ℤ_}
+use Rattle.rules.specs.declared.Vehicle.{Vehicle}
+use Rattle.rules.specs.Words.{at}
+use Rattle.rules.specs.Units.{ratio-of, low}
+use Rattle.rules.specs.Gears.{engine, required}
+use Rattle.gears.specs.declared.Numbers.{Numbers}
+use Rattle.gears.specs.Parts.{numbers-of, Counts, Has}
+
+-- the lowest gear, which the code writes as a number
+pub low-is : (car : Vehicle) → low car ≡ 1
+unfolding low
+low-is car = refl
+
+module _ {car : Vehicle} {k : Numbers} (C : Counts car k) where
+  pub ng-of : car .ng ≡ k .ng
+  ng-of = ap (λ (x : Numbers). x .ng) (C .numbers)
+
+  pub idle-of : car .idle ≡ k .idle
+  idle-of = ap (λ (x : Numbers). x .idle) (C .numbers)
+
+  pub rated-of : car .rated ≡ k .rated
+  rated-of = ap (λ (x : Numbers). x .rated) (C .numbers)
+
+  pub nmax-of : car .nmax ≡ k .nmax
+  nmax-of = ap (λ (x : Numbers). x .nmax) (C .numbers)
+
+  pub margin-of : car .margin ≡ k .margin
+  margin-of = ap (λ (x : Numbers). x .margin) (C .numbers)
+
+  pub points-of : car .points ≡ k .points
+  points-of = ap (λ (x : Numbers). x .points) (C .numbers)
+
+  pub f0-of : car .f0 ≡ k .f0
+  f0-of = ap (λ (x : Numbers). x .f0) (C .numbers)
+
+  pub f1-of : car .f1 ≡ k .f1
+  f1-of = ap (λ (x : Numbers). x .f1) (C .numbers)
+
+  pub f2-of : car .f2 ≡ k .f2
+  f2-of = ap (λ (x : Numbers). x .f2) (C .numbers)
+
+  pub tm-of : car .tm ≡ k .tm
+  tm-of = ap (λ (x : Numbers). x .tm) (C .numbers)
+
+  -- required power, from the numbers
+  pub required-of : (v : ℕ) (d : ℤ)
+      → pos 9000000 *ℤ pos (k .f0) *ℤ pos v +ℤ pos 9000 *ℤ k .f1 *ℤ pos v *ℤ pos v +ℤ pos 9 *ℤ pos (k .f2) *ℤ pos v *ℤ pos v *ℤ pos v +ℤ pos 2575000 *ℤ d *ℤ pos v *ℤ pos (k .tm)
+      ≡ required car v d
+  unfolding required
+  required-of v d = rw (f0-of, f1-of, f2-of, tm-of)
+
+-- engine speed, from the ratios
+pub engine-of : {car : Vehicle} {k : Numbers} {ratio : List ℕ} → Has car k ratio → (g v : ℕ) → engine car g v ≡ at ratio (g - 1) * v
+unfolding engine ratio-of
+engine-of H g v = rw (H .ratios)
+
+-- some vehicle of these parts
+unfoldable pub built : Numbers → List ℕ → Vehicle
+built k ratio = record {
+  ng = k .ng;
+  ratio = ratio;
+  idle = k .idle;
+  rated = k .rated;
+  nmax = k .nmax;
+  f0 = k .f0;
+  f1 = k .f1;
+  f2 = k .f2;
+  tm = k .tm;
+  margin = k .margin;
+  points = k .points;
+  n = [];
+  p = [];
+}
+
+pub built-has : (k : Numbers) (ratio : List ℕ) → Has (built k ratio) k ratio
+unfolding built
+built-has k ratio = record { counts = record { numbers = refl }; ratios = refl }

@@ -1,0 +1,164 @@
+-- Document 01, "Sums done on paper": the starred cases, one table, one theorem; and a few rows of our own, each for a slip that the paper's rows let pass.
+-- Assumes nothing.
+use Prim.Native.Nat.{ℕ}
+use mathlib.Core.Path.{_≡_, refl}
+use mathlib.Core.Bool.{Bool, true, false}
+use mathlib.Core.List.{List, [], _∷_}
+use lib.IntN.{ℤ, pos, negℤ}
+use lib.ListN.{replicate}
+use Rattle.rules.specs.declared.Vehicle.{Vehicle}
+use Rattle.rules.specs.Words.{if_then_else_, _and_, _or_, within, every, first, highest, pass, table}
+use Rattle.rules.specs.Units.{ratio-of, ratio-good, point-good, bounds, first-failed, bad-field, low, longest, moving, rise, start, run, stop}
+use Rattle.rules.specs.Gears.{Place, engine, minimum-of, minimum, under-nmax, over-minimum, allowed, fits, required, between, on-segment, reaches, segment, power-speed, power, enough, more, suits, beats, strongest, choose}
+use Rattle.rules.specs.Corrections.{floor, closing, ceiling, here, first-choice, free, is-peak, peak, too-high, rising, too-low, slowing, firsts, after-A, after-B, gears, trip-speeds, trip-holds, first-at, gear-at, clutch, byte, card-at, card}
+use Rattle.rules.specs.Refusals.{refuse-at, _orelse_, when, trace-fault, room-fault, vehicle-fault, check-number, checks, last-check, bad, fault-of, seconds-fault, gear-fault, span-fault, work-fault}
+use Rattle.rules.specs.Groups.{Read, got, refused, hand-on, demand, early, group-if, group}
+use Rattle.rules.specs.Forms.{value, checked, bounded, _then_, seen, row-read, row as in-a-row, many, counted, whole}
+use Rattle.rules.specs.Job.{version, gearbox, numbers as eight-numbers, point, curve, seconds, trace as speeds, hold, rising as rising-holds, padded, vehicle-of, vehicle, put, holds, packed, stages, job, job-read}
+use Rattle.rules.specs.Text.{digits, decimal, heading, pedal, line, lines, card-text, refusal-text, worked-text, read-text, printed}
+
+-- car Z, with its idle and rated speeds and its F0
+car-of : ℕ → ℕ → ℕ → Vehicle
+car-of idle rated f0 = record {
+  ng = 5;
+  ratio = 12000 ∷ 7000 ∷ 4500 ∷ 3500 ∷ 2800 ∷ 0 ∷ 0 ∷ 0 ∷ 0 ∷ 0 ∷ [];
+  idle = idle;
+  rated = rated;
+  nmax = 6000;
+  f0 = f0;
+  f1 = pos 0;
+  f2 = 4000;
+  tm = 1500;
+  margin = 10;
+  points = 7;
+  n = 800 ∷ 1800 ∷ 2800 ∷ 3800 ∷ 4800 ∷ 5600 ∷ 6000 ∷ [];
+  p = 100 ∷ 300 ∷ 500 ∷ 700 ∷ 850 ∷ 900 ∷ 880 ∷ [];
+}
+
+car-Z : ℕ → Vehicle
+car-Z = car-of 800 5600
+
+Z : Vehicle
+Z = car-Z 1000
+
+-- nine tenths of its idle speed are 742.5, idle and an eighth of the way to its rated speed 1,400.5
+halves : Vehicle
+halves = car-of 825 5429 1000
+
+-- a second that is not its trip's first
+inside : Place
+inside = record { first-second = false }
+
+-- no holds
+free-trip : List ℕ
+free-trip = replicate 7 0
+
+-- floor 1: a steady speed, and speeds rising throughout
+steady : List ℕ
+steady = replicate 4 100
+
+up : List ℕ
+up = 100 ∷ 110 ∷ 120 ∷ 130 ∷ 140 ∷ 150 ∷ 160 ∷ 170 ∷ []
+
+-- speeds 0, 50, 150, 100, 0
+trace : List ℕ
+trace = 0 ∷ 50 ∷ 150 ∷ 100 ∷ 0 ∷ []
+
+-- a short trip, then a longer one whose first choices are corrected
+two-trips : List ℕ
+two-trips = 0 ∷ 50 ∷ 0 ∷ 150 ∷ 300 ∷ 450 ∷ 600 ∷ 450 ∷ 300 ∷ 150 ∷ 0 ∷ []
+
+-- car Z and these speeds, without holds, as a job
+job-Z : List ℕ
+job-Z =
+    1 ∷ 5 ∷ 224 ∷ 93 ∷ 216 ∷ 54 ∷ 148 ∷ 35 ∷ 172 ∷ 27 ∷ 240 ∷ 21 ∷ 160 ∷ 6 ∷ 224 ∷ 43 ∷ 240 ∷ 46 ∷ 232 ∷ 7 ∷ 136 ∷ 39 ∷ 160 ∷ 31 ∷ 220 ∷ 11 ∷ 10 ∷
+    7 ∷ 160 ∷ 6 ∷ 100 ∷ 136 ∷ 14 ∷ 172 ∷ 2 ∷ 240 ∷ 21 ∷ 244 ∷ 3 ∷ 216 ∷ 29 ∷ 188 ∷ 5 ∷ 192 ∷ 37 ∷ 210 ∷ 6 ∷ 224 ∷ 43 ∷ 132 ∷ 7 ∷ 240 ∷ 46 ∷ 240 ∷ 6 ∷
+    5 ∷ 0 ∷ 50 ∷ 150 ∷ 1 ∷ 100 ∷ 0 ∷ 0 ∷ []
+
+-- what a row is about: numbers, a power, a test, a group that is read
+data Value : Type 0 where
+  numbers : List ℕ → Value
+  scaled : ℤ → Value
+  test : Bool → Value
+  reading : Read ℕ → Value
+
+-- what the definitions work out, beside what the paper prints
+record Row : Type 0 where
+  pub worked : Value
+  pub paper : Value
+
+row : Value → Value → Row
+row w p = record { worked = w; paper = p }
+
+-- the first choice of car Z inside a trip
+choice : ℕ → ℤ → Value
+choice v d = numbers (choose Z inside v d ∷ [])
+
+rows : List Row
+rows =
+    -- car Z minimum speeds
+    row (numbers (minimum Z 1 ∷ minimum Z 2 ∷ minimum Z 3 ∷ [])) (numbers (800 ∷ 720 ∷ 1400 ∷ []))
+    -- V 500, D 0
+    ∷ row (scaled (required Z 500 (pos 0))) (scaled (pos 9000000000000))
+    ∷ row (numbers (engine Z 5 500 ∷ [])) (numbers (1400000 ∷ []))
+    ∷ row (test (fits Z inside 500 5)) (test true)
+    ∷ row (choice 500 (pos 0)) (numbers (5 ∷ []))
+    -- V 499, D 0
+    ∷ row (test (fits Z inside 499 5)) (test false)
+    ∷ row (choice 499 (pos 0)) (numbers (4 ∷ []))
+    -- V 500, D 36
+    ∷ row (scaled (required Z 500 (pos 36))) (scaled (pos 78525000000000))
+    ∷ row (scaled (power Z 500 5 .Q)) (scaled (pos 220000000))
+    ∷ row (test (enough Z 500 (pos 36) 5)) (test false)
+    ∷ row (scaled (power Z 500 4 .Q)) (scaled (pos 290000000))
+    ∷ row (test (enough Z 500 (pos 36) 4)) (test true)
+    ∷ row (choice 500 (pos 36)) (numbers (4 ∷ []))
+    -- pass A, no holds, floor 1
+    ∷ row (numbers (pass (peak Z steady free-trip) 3 (3 ∷ 4 ∷ 3 ∷ []))) (numbers (3 ∷ 3 ∷ 3 ∷ []))
+    ∷ row (numbers (pass (peak Z steady free-trip) 3 (3 ∷ 4 ∷ 2 ∷ []))) (numbers (3 ∷ 3 ∷ 2 ∷ []))
+    ∷ row (numbers (pass (peak Z steady free-trip) 3 (2 ∷ 4 ∷ 3 ∷ []))) (numbers (2 ∷ 3 ∷ 3 ∷ []))
+    ∷ row (numbers (pass (peak Z steady free-trip) 3 (2 ∷ 4 ∷ 2 ∷ []))) (numbers (2 ∷ 4 ∷ 2 ∷ []))
+    -- pass B, rising throughout, floor 1
+    ∷ row (numbers (pass (rising Z up free-trip) 7 (1 ∷ 2 ∷ 3 ∷ 3 ∷ 3 ∷ 3 ∷ 3 ∷ []))) (numbers (1 ∷ 1 ∷ 2 ∷ 2 ∷ 3 ∷ 3 ∷ 3 ∷ []))
+    -- car Z, speeds 0, 50, 150, 100, 0; and with gear 3 held at second 2
+    ∷ row (numbers (card Z trace (replicate 5 0))) (numbers (17 ∷ 1 ∷ 2 ∷ 18 ∷ 0 ∷ []))
+    ∷ row (numbers (card Z trace (0 ∷ 0 ∷ 3 ∷ 0 ∷ 0 ∷ []))) (numbers (17 ∷ 1 ∷ 19 ∷ 18 ∷ 0 ∷ []))
+    -- groups: 12000 is E0 5D; 65535 is FF FF 03; 80 00 and 80 80 04 are refused by 13
+    ∷ row (reading (group (0xE0 ∷ 0x5D ∷ []) 0)) (reading (got 12000 2))
+    ∷ row (reading (group (0xFF ∷ 0xFF ∷ 0x03 ∷ []) 0)) (reading (got 65535 3))
+    ∷ row (reading (group (0x80 ∷ 0x00 ∷ []) 0)) (reading (refused (record { no = 13; spot = 0 })))
+    ∷ row (reading (group (0x80 ∷ 0x80 ∷ 0x04 ∷ []) 0)) (reading (refused (record { no = 13; spot = 0 })))
+    -- our own: braking asks for no power; no rounding to whole watts, down or to the nearest
+    ∷ row (choice 500 (negℤ (pos 36))) (numbers (5 ∷ []))
+    ∷ row (numbers (choose (car-Z 927) inside 1139 (pos 34) ∷ [])) (numbers (4 ∷ []))
+    ∷ row (numbers (choose (car-Z 928) inside 1309 (pos 29) ∷ [])) (numbers (3 ∷ []))
+    -- minimum speeds round halves up: X 742,000 is too low for gear 2, X 1,400,000 for gear 5
+    ∷ row (numbers (minimum halves 1 ∷ minimum halves 2 ∷ minimum halves 3 ∷ [])) (numbers (825 ∷ 743 ∷ 1401 ∷ []))
+    ∷ row (numbers (choose halves inside 106 (pos 0) ∷ [])) (numbers (1 ∷ []))
+    ∷ row (numbers (choose halves inside 500 (pos 0) ∷ [])) (numbers (4 ∷ []))
+    -- a second is moving from V 10 on; a trace of one standing second
+    ∷ row (numbers (card Z (0 ∷ 10 ∷ 0 ∷ []) (replicate 3 0))) (numbers (17 ∷ 17 ∷ 0 ∷ []))
+    ∷ row (numbers (card Z (0 ∷ 9 ∷ 0 ∷ []) (replicate 3 0))) (numbers (0 ∷ 0 ∷ 0 ∷ []))
+    ∷ row (numbers (card Z (0 ∷ []) (replicate 1 0))) (numbers (0 ∷ []))
+    -- later trips are corrected too: at second 6 the first choice is 5, the gear 2
+    ∷ row (numbers (first-at Z two-trips (replicate 11 0) 6 ∷ [])) (numbers (5 ∷ []))
+    ∷ row (numbers (card Z two-trips (replicate 11 0))) (numbers (17 ∷ 17 ∷ 17 ∷ 1 ∷ 1 ∷ 1 ∷ 2 ∷ 4 ∷ 2 ∷ 2 ∷ 0 ∷ []))
+    -- what the card program prints of car Z's job
+    ∷ row (numbers (printed job-Z)) (numbers (
+    115 ∷ 101 ∷ 99 ∷ 111 ∷ 110 ∷ 100 ∷ 32 ∷ 115 ∷ 112 ∷ 101 ∷ 101 ∷ 100 ∷ 32 ∷ 103 ∷ 101 ∷ 97 ∷ 114 ∷ 32 ∷ 99 ∷ 108 ∷ 117 ∷ 116 ∷ 99 ∷ 104 ∷ 10 ∷
+    48 ∷ 32 ∷ 48 ∷ 46 ∷ 48 ∷ 32 ∷ 49 ∷ 32 ∷ 100 ∷ 111 ∷ 119 ∷ 110 ∷ 10 ∷ 49 ∷ 32 ∷ 53 ∷ 46 ∷ 48 ∷ 32 ∷ 49 ∷ 32 ∷ 117 ∷ 112 ∷ 10 ∷ 50 ∷ 32 ∷ 49 ∷
+    53 ∷ 46 ∷ 48 ∷ 32 ∷ 50 ∷ 32 ∷ 117 ∷ 112 ∷ 10 ∷ 51 ∷ 32 ∷ 49 ∷ 48 ∷ 46 ∷ 48 ∷ 32 ∷ 50 ∷ 32 ∷ 100 ∷ 111 ∷ 119 ∷ 110 ∷ 10 ∷ 52 ∷ 32 ∷ 48 ∷ 46 ∷
+    48 ∷ 32 ∷ 48 ∷ 32 ∷ 117 ∷ 112 ∷ 10 ∷ []))
+    ∷ []
+
+sums : List Row → List Value
+sums [] = []
+sums (r ∷ rs) = r .worked ∷ sums rs
+
+papers : List Row → List Value
+papers [] = []
+papers (r ∷ rs) = r .paper ∷ papers rs
+
+sums-done-on-paper : sums rows ≡ papers rows
+unfolding sums papers rows row choice car-of car-Z Z halves inside free-trip steady up trace two-trips job-Z _and_ _or_ within every first highest pass table ratio-of ratio-good point-good bounds first-failed bad-field low longest moving rise start run stop engine minimum-of minimum under-nmax over-minimum allowed fits required between on-segment reaches segment power-speed power enough more suits beats strongest choose floor closing ceiling here first-choice free is-peak peak too-high rising too-low slowing firsts after-A after-B gears trip-speeds trip-holds first-at gear-at clutch byte card-at card refuse-at _orelse_ when trace-fault room-fault vehicle-fault check-number checks last-check bad fault-of seconds-fault gear-fault span-fault work-fault hand-on demand early group-if group value checked bounded _then_ seen row-read in-a-row many counted whole version gearbox eight-numbers point curve seconds speeds hold rising-holds padded vehicle-of vehicle put holds packed stages job job-read digits decimal heading pedal line lines card-text refusal-text worked-text read-text printed
+sums-done-on-paper = refl

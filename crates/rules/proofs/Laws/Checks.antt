@@ -1,0 +1,206 @@
+-- Checks in a row: what it says that none refuses, and when the checks of a window find what those of the whole find.
+-- Assumes nothing.
+use Prim.Native.Nat.{ℕ, zero, suc, _+_, _-_, _≤_, _<_}
+use native.Mathlib.Nat.{sub-zero, not-suc-le-zero, le-of-suc-le-suc}
+use native.Mathlib.Omega.{arith}
+use mathlib.Core.Path.{_≡_, refl, sym, _∙_}
+use mathlib.Core.Logic.{_⊎_, inl, inr}
+use mathlib.Core.Bool.{Bool, true, false, not}
+use mathlib.Core.Option.{Option, none, some}
+use mathlib.Core.List.{List, [], _∷_, _++_}
+use lib.Dec.{ltb, lit<}
+use borrow.Author.Tests.{lt-ltb, le-ltb, ltb-true, eqb-true, not-false}
+use lib.ListN.{length, getD}
+use Rattle.rules.specs.declared.Vehicle.{Vehicle}
+use Rattle.rules.specs.Words.{if_then_else_, _and_, _or_, first}
+use Rattle.rules.specs.Refusals.{Fault, refuse-at, _orelse_, when, trace-fault, room-fault, vehicle-fault, Check, speed, step, ends, over-ng, at-rest, over-rev, no-gear, check-number, checks, last-check, bad, fault-of, seconds-fault, gear-fault, span-fault, work-fault, left, second-fault, edit-fault}
+use Rattle.rules.specs.Units.{bad-field, longest}
+use Rattle.rules.specs.Vocabulary.{InBounds}
+use Rattle.rules.proofs.Laws.Vehicle.{in-bounds, within-lo, within-hi}
+use Rattle.rules.proofs.Laws.Words.{by-test, by-eq, and-left, and-right, none-first, first-ext, first-window}
+
+-- ---- a row of checks
+
+-- where neither of two refuses
+pub orelse-none : (a b : Option Fault) → a orelse b ≡ none → (a ≡ none) × (b ≡ none)
+unfolding _orelse_
+orelse-none none b e = (refl, e)
+orelse-none (some f) b e = let z : _≡_ {A = ℕ} 0 1 = cc in absurd (omega arith)
+
+pub none-orelse : (a b : Option Fault) → a ≡ none → a orelse b ≡ b
+unfolding _orelse_
+none-orelse none b e = refl
+none-orelse (some f) b e = let z : _≡_ {A = ℕ} 0 1 = cc in absurd (omega arith)
+
+pub refuse-none : (n : ℕ) (o : Option ℕ) → refuse-at n o ≡ none → o ≡ none
+unfolding refuse-at
+refuse-none n none e = refl
+refuse-none n (some i) e = let z : _≡_ {A = ℕ} 0 1 = cc in absurd (omega arith)
+
+-- where a test does not refuse, it fails
+pub when-none : (n : ℕ) (t : Bool) (i : ℕ) → refuse-at n (when t i) ≡ none → t ≡ false
+unfolding when
+when-none n t i e = by-test t (λ x. let y : when t i ≡ none = refuse-none n (when t i) e in let z : _≡_ {A = Option ℕ} (some i) none = rw x at y in let w : _≡_ {A = ℕ} 0 1 = cc in absurd (omega arith)) (λ x. x)
+
+pub none-when : (n : ℕ) (t : Bool) (i : ℕ) → t ≡ false → refuse-at n (when t i) ≡ none
+unfolding when refuse-at
+none-when n t i e = rw e
+
+pub orelse-nothing : (a : Option Fault) → a orelse none ≡ a
+unfolding _orelse_
+orelse-nothing none = refl
+orelse-nothing (some f) = refl
+
+pub orelse-assoc : (a b c : Option Fault) → (a orelse b) orelse c ≡ a orelse (b orelse c)
+unfolding _orelse_
+orelse-assoc none b c = refl
+orelse-assoc (some f) b c = refl
+
+-- where the trace and the rooms are not refused
+pub trace-in : (vs : List ℕ) → trace-fault vs ≡ none → (1 ≤ length vs) × (length vs ≤ longest)
+unfolding trace-fault
+trace-in vs e = let t = not-false _ (when-none 1 _ 0 e) in (within-lo 1 longest (length vs) t, within-hi 1 longest (length vs) t)
+
+pub rooms-in : (vs hs old : List ℕ) → room-fault vs hs old ≡ none → (length hs ≡ length vs) × (length old ≡ length vs)
+unfolding room-fault
+rooms-in vs hs old e = let t = not-false _ (when-none 2 _ 0 e) in (eqb-true _ _ (and-left _ _ t), eqb-true _ _ (and-right _ _ t))
+
+-- where the vehicle is not refused, it is in bounds
+pub vehicle-in : (car : Vehicle) → vehicle-fault car ≡ none → InBounds car
+unfolding vehicle-fault
+vehicle-in car e = in-bounds car (refuse-none 3 (bad-field car) e)
+
+-- ---- the row of checks of the working, and of an edit, taken apart
+
+pub record Accepted (car : Vehicle) (vs hs old : List ℕ) : Type 0 where
+  pub trace : trace-fault vs ≡ none
+  pub room : room-fault vs hs old ≡ none
+  pub vehicle : vehicle-fault car ≡ none
+  pub span : span-fault car vs hs 0 (length vs) ≡ none
+
+pub accepted : (car : Vehicle) (vs hs old : List ℕ) → work-fault car vs hs old ≡ none → Accepted car vs hs old
+unfolding work-fault
+accepted car vs hs old e =
+    let a = orelse-none _ _ e in
+    let b = orelse-none _ _ (a .1) in
+    let c = orelse-none _ _ (b .1) in
+    record { trace = a .0; room = b .0; vehicle = c .0; span = c .1 }
+
+-- the same record for an edit that is not refused, and its own checks
+pub record Taken (car : Vehicle) (vs hs old : List ℕ) (s : ℕ) (own : Option Fault) : Type 0 where
+  pub trace : trace-fault vs ≡ none
+  pub room : room-fault vs hs old ≡ none
+  pub vehicle : vehicle-fault car ≡ none
+  pub second : s < length vs
+  pub checks-pass : own ≡ none
+
+pub taken : (car : Vehicle) (vs hs old : List ℕ) (s : ℕ) (own : Option Fault) → edit-fault car vs hs old s own ≡ none → Taken car vs hs old s own
+unfolding edit-fault second-fault
+taken car vs hs old s own e =
+    let a = orelse-none _ _ e in
+    let b = orelse-none _ _ (a .1) in
+    let c = orelse-none _ _ (b .1) in
+    let d = orelse-none _ _ (c .1) in
+    record { trace = a .0; room = b .0; vehicle = c .0; second = ltb-true s (length vs) (not-false _ (when-none 11 (not (ltb s (length vs))) s (d .0))); checks-pass = d .1 }
+
+-- what is left by one answer
+pub left-same : (f : Option Fault) (old : List ℕ) {a b : List ℕ} → (f ≡ none → a ≡ b) → left f old a ≡ left f old b
+unfolding left
+left-same none old e = e refl
+left-same (some f) old e = refl
+
+pub left-by : (P : List ℕ → Type 0) (f : Option Fault) (old new : List ℕ) → P old → (f ≡ none → P new) → P (left f old new)
+unfolding left
+left-by P none old new p q = q refl
+left-by P (some f) old new p q = p
+
+-- ---- where a span passes, each check passes at each of its seconds
+
+module _ (car : Vehicle) (vs hs : List ℕ) (lo hi : ℕ) where
+  none-at : (cs : List Check) → fault-of car vs hs lo hi cs ≡ none → (k : ℕ) → k < length cs → first (bad (getD cs k speed) car vs hs lo) lo (hi - lo) ≡ none
+  unfolding fault-of
+  none-at [] e k h = absurd (not-suc-le-zero h)
+  none-at (c ∷ cs) e zero h = refuse-none _ _ (orelse-none _ _ e .0)
+  none-at (c ∷ cs) e (suc k) h = none-at cs (orelse-none _ _ e .1) k (le-of-suc-le-suc h)
+
+  -- 4 to 9 passed, and 10
+  pub span-none : span-fault car vs hs lo hi ≡ none → (seconds-fault car vs hs lo hi ≡ none) × (gear-fault car vs hs lo hi ≡ none)
+  unfolding span-fault
+  span-none e = orelse-none _ _ e
+
+  -- a check of a list whose checks found nothing passes
+  pub listed : (cs : List Check) → fault-of car vs hs lo hi cs ≡ none → (k : ℕ) → k < length cs → (i : ℕ) → lo ≤ i → i < hi → bad (getD cs k speed) car vs hs lo i ≡ false
+  listed cs e k l i a b = none-first (bad (getD cs k speed) car vs hs lo) (hi - lo) lo (none-at cs e k l) i a (omega arith)
+
+  pub passed : span-fault car vs hs lo hi ≡ none → (c : Check) (i : ℕ) → lo ≤ i → i < hi → bad c car vs hs lo i ≡ false
+  unfolding seconds-fault gear-fault checks last-check
+  passed e speed = listed checks (span-none e .0) 0 (lit< tt)
+  passed e step = listed checks (span-none e .0) 1 (lit< tt)
+  passed e ends = listed checks (span-none e .0) 2 (lit< tt)
+  passed e over-ng = listed checks (span-none e .0) 3 (lit< tt)
+  passed e at-rest = listed checks (span-none e .0) 4 (lit< tt)
+  passed e over-rev = listed checks (span-none e .0) 5 (lit< tt)
+  passed e no-gear = listed last-check (span-none e .1) 0 (lit< tt)
+
+  -- the step, of 4 to 9 alone
+  pub step-passed : seconds-fault car vs hs lo hi ≡ none → (i : ℕ) → lo ≤ i → i < hi → bad step car vs hs lo i ≡ false
+  unfolding seconds-fault checks
+  step-passed e = listed checks e 1 (lit< tt)
+
+-- the step into a span's first second is not checked
+pub step-first : (car : Vehicle) (vs hs : List ℕ) (lo : ℕ) → bad step car vs hs lo lo ≡ false
+unfolding bad _and_
+step-first car vs hs lo = rw (le-ltb lo lo (omega arith))
+
+-- ---- a window. Where the checks passed for vs, hs, and those for ws, ks say the same outside lo to hi, the checks of the window find what
+-- those of the whole find
+
+module _ (car : Vehicle) (vs hs ws ks : List ℕ) (n : length ws ≡ length vs) (lo hi : ℕ) (a : lo ≤ hi) (b : hi ≤ length ws)
+    (same : (c : Check) (i : ℕ) → i < length vs → (i < lo) ⊎ (hi ≤ i) → bad c car ws ks 0 i ≡ bad c car vs hs 0 i)
+    (step-in : bad step car ws ks 0 lo ≡ bad step car vs hs 0 lo) where
+  -- in the window a check says what it says of the whole; the step into its first second passed before
+  bad-inside : (c : Check) → ((i : ℕ) → i < length vs → bad c car vs hs 0 i ≡ false) → (i : ℕ) → lo ≤ i → i < length vs → bad c car ws ks 0 i ≡ bad c car ws ks lo i
+  unfolding bad _and_
+  bad-inside speed ok i x y = refl
+  bad-inside step ok i x y =
+      by-eq x
+      (λ e. rw (← e) (step-in ∙ ok lo (omega arith) ∙ sym (step-first car ws ks lo)))
+      (λ m. rw (lt-ltb 0 i (omega arith), lt-ltb lo i m))
+  bad-inside ends ok i x y = refl
+  bad-inside over-ng ok i x y = refl
+  bad-inside at-rest ok i x y = refl
+  bad-inside over-rev ok i x y = refl
+  bad-inside no-gear ok i x y = refl
+
+  first-inside : (c : Check) → first (bad c car vs hs 0) 0 (length vs) ≡ none
+      → first (bad c car ws ks 0) 0 (length ws) ≡ first (bad c car ws ks lo) lo (hi - lo)
+  first-inside c e =
+      let ok : (i : ℕ) → i < length vs → bad c car vs hs 0 i ≡ false = λ i h. none-first (bad c car vs hs 0) (length vs) 0 e i (omega arith) (omega arith) in
+      first-window (bad c car ws ks 0) (bad c car ws ks lo) (length ws) lo hi a b
+      (λ i h o. same c i (omega arith) o ∙ ok i (omega arith)) (λ i x y. bad-inside c ok i x (omega arith))
+
+  fault-inside : (cs : List Check) → fault-of car vs hs 0 (length vs) cs ≡ none → fault-of car ws ks 0 (length ws) cs ≡ fault-of car ws ks lo hi cs
+  unfolding fault-of
+  fault-inside [] e = refl
+  fault-inside (c ∷ cs) e =
+      let o = orelse-none (refuse-at (check-number c) (first (bad c car vs hs 0) 0 (length vs - 0))) (fault-of car vs hs 0 (length vs) cs) e in
+      rw (fault-inside cs (o .1), sub-zero, first-inside c (rw sub-zero at (refuse-none (check-number c) (first (bad c car vs hs 0) 0 (length vs - 0)) (o .0))))
+
+  pub fault-window : span-fault car vs hs 0 (length vs) ≡ none → span-fault car ws ks 0 (length ws) ≡ span-fault car ws ks lo hi
+  unfolding span-fault seconds-fault gear-fault
+  fault-window e = let o = span-none car vs hs 0 (length vs) e in rw (fault-inside checks (o .0), fault-inside last-check (o .1))
+
+-- ---- two spans of which each check says the same
+
+pub fault-ext : (car : Vehicle) (vs hs ws ks : List ℕ) (lo hi : ℕ)
+    → ((c : Check) (i : ℕ) → lo ≤ i → i < hi → bad c car vs hs lo i ≡ bad c car ws ks lo i) → (cs : List Check)
+    → fault-of car vs hs lo hi cs ≡ fault-of car ws ks lo hi cs
+unfolding fault-of
+fault-ext car vs hs ws ks lo hi same [] = refl
+fault-ext car vs hs ws ks lo hi same (c ∷ cs) =
+    rw (fault-ext car vs hs ws ks lo hi same cs, first-ext (bad c car vs hs lo) (bad c car ws ks lo) (hi - lo) lo (λ i x y. same c i x (omega arith)))
+
+pub span-ext : (car : Vehicle) (vs hs ws ks : List ℕ) (lo hi : ℕ)
+    → ((c : Check) (i : ℕ) → lo ≤ i → i < hi → bad c car vs hs lo i ≡ bad c car ws ks lo i) → span-fault car vs hs lo hi ≡ span-fault car ws ks lo hi
+unfolding span-fault seconds-fault gear-fault
+span-ext car vs hs ws ks lo hi same = rw (fault-ext car vs hs ws ks lo hi same checks, fault-ext car vs hs ws ks lo hi same last-check)

@@ -1,0 +1,106 @@
+-- A job is no longer than so many groups of three bytes; those, and one byte more, say all that is printed.
+-- Assumes nothing.
+use Prim.Native.Nat.{ℕ, zero, suc, _+_, _-_, _*_, _≤_, _<_}
+use native.Mathlib.Omega.{arith}
+use mathlib.Core.Path.{_≡_}
+use mathlib.Core.Bool.{true}
+use mathlib.Core.List.{List}
+use lib.ListN.{length, take}
+use lib.Dec.{leb, ltb}
+use borrow.Author.Tests.{leb-true, ltb-true}
+use Rattle.rules.specs.Words.{_and_}
+use Rattle.rules.specs.Units.{longest}
+use Rattle.rules.specs.Groups.{hand-on}
+use Rattle.rules.specs.Forms.{value, checked, bounded, _then_, row-read, row}
+use Rattle.rules.specs.Job.{version, gearbox, numbers, point, curve, vehicle, seconds, trace, hold, rising, holds, stages, job, job-read, most-groups, longest-job}
+use Rattle.rules.specs.Text.{printed}
+use Rattle.rules.proofs.Laws.Words.{by-test, by-order, and-left, and-right}
+use Rattle.rules.proofs.Laws.Forms.{says-now, value-sound, checked-sound, bounded-sound}
+use Rattle.rules.proofs.Laws.Takes.{takes-bounded}
+use Rattle.rules.proofs.Laws.Gathers.{takes-hold, hold-sound}
+use Rattle.rules.proofs.Laws.Jobs.{version-sound, gearbox-sound, numbers-sound, vehicle-sound, trace-sound, few-seconds, few-speeds}
+use Rattle.rules.proofs.Laws.Reach.{went, then-both, stop-both, Reach, group-both, value-reach, less, checked-reach, then-reach, seen-reach, many-reach, counted-reach, counted-many-reach, bounded-reach, long-whole}
+
+-- ---- holds are two groups each, and their seconds rise: no more of them than seconds are left
+
+hold-reach : (count next : ℕ) → Reach (hold count next) 6
+unfolding hold
+hold-reach count next = checked-reach (then-reach (checked-sound value-sound _ _ _) (checked-reach value-reach _ _ _) (λ s t. value-reach)) _ _ _
+
+-- no second is left
+past : {P : Type 0} (count next s : ℕ) → count ≤ next → leb next s and ltb s count ≡ true → P
+past count next s h t = let a : next ≤ s = leb-true _ _ (and-left _ _ t) in let b : s < count = ltb-true _ _ (and-right _ _ t) in absurd (omega arith)
+
+-- then a hold's second is looked at, and refused
+past-second : (count next : ℕ) → count ≤ next → Reach (checked value (λ s. leb next s and ltb s count) 15 (λ first. first)) 0
+unfolding checked value hand-on
+past-second count next none-left = record {
+  reach = λ alike {i} {p} h room.
+      then-both (group-both alike h (omega arith)) (λ s j e l.
+      by-test (leb next s and ltb s count) (λ t. past count next s none-left t) (λ t. stop-both {l = p + 0} _ _ 15 i j _ _ t t));
+}
+
+past-reach : (count next : ℕ) → count ≤ next → Reach (hold count next) 0
+unfolding hold checked
+past-reach count next none-left =
+    checked-reach (then-reach {k = 0} (checked-sound value-sound _ _ _) (past-second count next none-left) (λ s t. past count next s none-left (t .1))) _ _ _
+
+rising-reach : (count next k : ℕ) → Reach (row (hold count) (λ next h. suc (h .0)) next k) (6 * (count - next))
+unfolding row row-read
+rising-reach count next zero = record { reach = λ alike {i} {p} h room. let w : i ≤ p + 6 * (count - next) = omega arith in went w }
+rising-reach count next (suc k) =
+    by-order next count
+    (λ some-left. record {
+      reach = λ {job} alike {i} {p} h room.
+          then-both (hold-reach count next .reach alike h (omega arith)) (λ x j e l.
+          let y = takes-hold count next x (says-now e (hold-sound count next .one-form job i) .taken) in
+          then-both (rising-reach count (suc (x .0)) k .reach alike l (omega arith)) (λ b m e u. went (omega arith)));
+    })
+    (λ none-left. record {
+      reach = λ {job} alike {i} {p} h room.
+          then-both (past-reach count next none-left .reach alike h (omega arith)) (λ x j e l.
+          let y = takes-hold count next x (says-now e (hold-sound count next .one-form job i) .taken) in absurd (omega arith));
+    })
+
+holds-reach : (count : ℕ) → count ≤ longest → Reach (holds count) (3 + 6 * longest)
+unfolding holds rising
+holds-reach count h = seen-reach _ _ (counted-reach value-sound value-reach (λ k t. less {m = 6 * longest} (omega arith) (rising-reach count 0 k)))
+
+-- ---- the stages
+
+version-reach : Reach version 1
+unfolding version
+version-reach = bounded-reach 1 1 14 0 (omega arith)
+
+gearbox-reach : Reach gearbox (1 + 10 * 3)
+unfolding gearbox
+gearbox-reach = counted-many-reach 10 (bounded-sound _ _ _ _) (bounded-reach 2 10 3 1 (omega arith)) (takes-bounded 2 10 3 1) value-reach
+
+numbers-reach : Reach numbers (8 * 3)
+unfolding numbers
+numbers-reach = many-reach value-reach 8
+
+curve-reach : Reach curve (1 + 64 * (3 + 3))
+unfolding curve point
+curve-reach = counted-many-reach 64 (bounded-sound _ _ _ _) (bounded-reach 2 64 3 11 (omega arith)) (takes-bounded 2 64 3 11) (then-reach value-sound value-reach (λ n _. value-reach))
+
+vehicle-reach : Reach vehicle (31 + (24 + 385))
+unfolding vehicle
+vehicle-reach = seen-reach _ _ (then-reach gearbox-sound gearbox-reach (λ _ _. then-reach numbers-sound numbers-reach (λ _ _. curve-reach)))
+
+trace-reach : (a b : ℕ) → Reach (trace a b) (3 + longest * 3)
+unfolding trace seconds bounded
+trace-reach a b = counted-many-reach longest (checked-sound (bounded-sound 1 longest 1 0) _ _ _) (checked-reach (checked-reach value-reach _ _ _) _ _ _) (few-seconds a b) value-reach
+
+stages-reach : (a b : ℕ) → Reach (stages a b) (1 + (440 + (3 + longest * 3 + (3 + 6 * longest))))
+unfolding stages
+stages-reach a b =
+    then-reach version-sound version-reach (λ _ _.
+    then-reach vehicle-sound vehicle-reach (λ _ _.
+    then-reach (trace-sound a b) (trace-reach a b) (λ vs t.
+    holds-reach (length vs) (few-speeds a b vs t))))
+
+-- Theorem, "long jobs": of a job that is longer than the longest, what its first bytes say, one more than the longest job has, is all that is printed
+pub long-job : (bytes : List ℕ) → longest-job < length bytes → printed (take (suc longest-job) bytes) ≡ printed bytes
+unfolding printed job-read job longest-job most-groups
+long-job bytes h = rw (long-whole (seen-reach _ _ (stages-reach longest longest)) (suc longest-job) (omega arith) bytes h)

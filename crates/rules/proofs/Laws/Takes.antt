@@ -1,0 +1,43 @@
+-- What forms take, told from plain facts.
+-- Assumes nothing.
+use Prim.Native.Nat.{ℕ, _≤_}
+use Prim.{Unit, tt}
+use native.Mathlib.Omega.{arith}
+use mathlib.Core.Path.{_≡_, refl}
+use mathlib.Core.Bool.{true}
+use mathlib.Core.List.{List, [], _∷_}
+use lib.ListN.{length}
+use Rattle.rules.specs.Words.{within}
+use Rattle.rules.specs.Forms.{Form, value, checked, bounded, _then_, seen, row, RowTakes, many, counted}
+use Rattle.rules.proofs.Laws.Vehicle.{within-hi}
+
+-- every one of a list
+unfoldable pub All : {A : Type 0} → (A → Type 0) → List A → Type 0
+All P [] = Unit {0}
+All P (a ∷ l) = P a × All P l
+
+all-take : {A : Type 0} (part : Form A) (l : List A) → All (part .Takes) l → RowTakes (λ (s : Unit {0}). part) (λ s a. s) tt l
+unfolding All RowTakes
+all-take part [] t = tt
+all-take part (a ∷ l) t = (t .0, all-take part l (t .1))
+
+pub many-takes : {A : Type 0} (part : Form A) (k : ℕ) (l : List A) → length l ≡ k → All (part .Takes) l → many part k .Takes l
+unfolding many row
+many-takes part k l e t = (all-take part l t, e)
+
+pub counted-takes : {A : Type 0} (count : Form ℕ) (part : Form A) (l : List A) → count .Takes (length l) → All (part .Takes) l → counted count (many part) .Takes l
+unfolding counted seen _then_
+counted-takes count part l c t = ((c, many-takes part (length l) l refl t), refl)
+
+pub bounded-takes : (lo hi refusal spot n : ℕ) → hi ≤ 65535 → within lo hi n ≡ true → bounded lo hi refusal spot .Takes n
+unfolding bounded checked value
+bounded-takes lo hi refusal spot n h t = (omega (arith, within-hi lo hi n t), t)
+
+pub takes-bounded : (lo hi refusal spot n : ℕ) → bounded lo hi refusal spot .Takes n → n ≤ hi
+unfolding bounded checked
+takes-bounded lo hi refusal spot n t = within-hi lo hi n (t .1)
+
+infixr 4 _also_
+-- a pair, so that stages in a row are written in a row
+abbrev pub _also_ : {A B : Type 0} → A → B → A × B
+a also b = (a, b)

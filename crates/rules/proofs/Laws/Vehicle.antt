@@ -1,0 +1,87 @@
+-- A vehicle in bounds: what the thirteen tests say, as facts.
+-- Assumes nothing.
+use Prim.Native.Nat.{ℕ, zero, suc, _+_, _-_, _≤_, _<_}
+use native.Mathlib.Nat.{not-suc-le-zero, le-of-suc-le-suc}
+use native.Mathlib.Omega.{arith}
+use mathlib.Core.Path.{_≡_, refl, sym, _∙_}
+use mathlib.Core.Bool.{Bool, true, false}
+use mathlib.Core.Option.{Option, none, some}
+use mathlib.Core.List.{List, [], _∷_}
+use lib.ListN.{length, getD}
+use lib.Dec.{leb, ltb, eqb, lit<}
+use lib.IntN.{ℤ, pos, negsuc, negℤ, natAbs}
+use lib.Signed.{leZ}
+use borrow.Author.Tests.{leb-true, ltb-true, eqb-true, ne-eqb}
+use Rattle.rules.specs.declared.Vehicle.{Vehicle}
+use Rattle.rules.specs.Words.{if_then_else_, _and_, _or_, within, at, every}
+use Rattle.rules.specs.Units.{ratio-of, ratio-good, point-good, bounds, first-failed, bad-field, low}
+use Rattle.rules.specs.Vocabulary.{InBounds}
+use Rattle.rules.proofs.Laws.Words.{by-test, by-eq, and-left, and-right, or-skip}
+
+-- ---- the lowest gear, of which only this is known
+
+-- gears count from 1
+pub low-from : (car : Vehicle) → 1 ≤ low car
+unfolding low
+low-from car = omega arith
+
+-- where no test fails, each holds
+none-failed : (ts : List Bool) (k : ℕ) → first-failed k ts ≡ none → (j : ℕ) → j < length ts → getD ts j true ≡ true
+unfolding first-failed
+none-failed [] k e j h = absurd (not-suc-le-zero h)
+none-failed (t ∷ ts) k e zero h = by-test t (λ x. x) (λ x. let z : _≡_ {A = Option ℕ} (some k) none = rw x at e in let y : _≡_ {A = ℕ} 0 1 = cc in absurd (omega arith))
+none-failed (t ∷ ts) k e (suc j) h =
+    by-test t (λ x. none-failed ts (suc k) (rw x at e) j (le-of-suc-le-suc h)) (λ x. let z : _≡_ {A = Option ℕ} (some k) none = rw x at e in let y : _≡_ {A = ℕ} 0 1 = cc in absurd (omega arith))
+
+pub every-at : (p : ℕ → Bool) (k lo : ℕ) → every p lo k ≡ true → (i : ℕ) → lo ≤ i → i < lo + k → p i ≡ true
+unfolding every
+every-at p zero lo e i a b = absurd (omega arith)
+every-at p (suc k) lo e i a b = by-eq a (λ x. rw (← x) (and-left _ _ e)) (λ x. every-at p k (suc lo) (and-right _ _ e) i x (omega arith))
+
+pub within-lo : (lo hi x : ℕ) → within lo hi x ≡ true → lo ≤ x
+unfolding within
+within-lo lo hi x t = leb-true _ _ (and-left _ _ t)
+
+pub within-hi : (lo hi x : ℕ) → within lo hi x ≡ true → x ≤ hi
+unfolding within
+within-hi lo hi x t = leb-true _ _ (and-right _ _ t)
+
+-- from -n to n
+size-in : (z : ℤ) (n : ℕ) → leZ (negℤ (pos n)) z ≡ true → leZ z (pos n) ≡ true → natAbs z ≤ n
+size-in (pos m) n a b = leb-true m n b
+size-in (negsuc m) zero a b = let z : _≡_ {A = ℕ} 0 1 = cc in absurd (omega arith)
+size-in (negsuc m) (suc n) a b = let h : m ≤ n = leb-true m n a in omega arith
+
+pub in-bounds : (car : Vehicle) → bad-field car ≡ none → InBounds car
+unfolding bad-field bounds ratio-good point-good low
+in-bounds car e =
+    let t : (j : ℕ) → j < 13 → getD (bounds car) j true ≡ true = none-failed (bounds car) 1 e in
+    let ratio : (g : ℕ) → 1 ≤ g → g ≤ car .ng → ratio-good car g ≡ true = λ g a b. every-at (ratio-good car) (car .ng) 1 (t 1 (lit< tt)) g a (omega arith) in
+    let point : (k : ℕ) → k < car .points → point-good car k ≡ true = λ k a. every-at (point-good car) (car .points) 0 (t 11 (lit< tt)) k (omega arith) (omega arith) in
+    let rising : (k : ℕ) → suc k < car .points → within (at (car .n) k + 1) (at (car .n) k + 1000) (at (car .n) (suc k)) ≡ true =
+    λ k a. let x : suc k - 1 ≡ k = omega arith in rw x at (or-skip _ _ (ne-eqb (suc k) 0 (λ z. omega arith)) (and-right _ _ (and-left _ _ (point (suc k) a)))) in
+    record {
+      low-to = omega arith;
+      low-ng = within-lo _ _ _ (t 0 (lit< tt));
+      ng-to = within-hi _ _ _ (t 0 (lit< tt));
+      ratio-to = λ g a b. within-hi _ _ _ (and-left _ _ (ratio g a b));
+      falling = λ g a b. let x : suc g - 1 ≡ g = omega arith in
+          ltb-true _ _ (rw x at (or-skip _ _ (ne-eqb (suc g) 1 (λ z. omega arith)) (and-right _ _ (ratio (suc g) (omega arith) b))));
+      idle-to = within-hi _ _ _ (t 2 (lit< tt));
+      rated-from = ltb-true _ _ (and-left _ _ (t 3 (lit< tt)));
+      nmax-from = within-lo _ _ _ (t 4 (lit< tt));
+      nmax-to = within-hi _ _ _ (t 4 (lit< tt));
+      f0-to = leb-true _ _ (t 5 (lit< tt));
+      f1-in = size-in (car .f1) 5000 (and-left _ _ (t 6 (lit< tt))) (and-right _ _ (t 6 (lit< tt)));
+      f2-to = leb-true _ _ (t 7 (lit< tt));
+      tm-to = within-hi _ _ _ (t 8 (lit< tt));
+      margin-to = leb-true _ _ (t 9 (lit< tt));
+      points-from = within-lo _ _ _ (t 10 (lit< tt));
+      points-to = within-hi _ _ _ (t 10 (lit< tt));
+      n-to = λ k a. within-hi _ _ _ (and-left _ _ (and-left _ _ (point k a)));
+      n-rises = λ k a. let h : at (car .n) k + 1 ≤ at (car .n) (suc k) = within-lo _ _ _ (rising k a) in omega arith;
+      n-rises-by = λ k a. within-hi _ _ _ (rising k a);
+      p-to = λ k a. leb-true _ _ (and-right _ _ (point k a));
+      first-point = leb-true _ _ (and-left _ _ (t 12 (lit< tt)));
+      last-point = leb-true _ _ (and-right _ _ (t 12 (lit< tt)));
+    }

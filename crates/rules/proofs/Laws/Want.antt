@@ -1,0 +1,140 @@
+-- Refused for want of a gear: refusal 10 of a trace that passes the other checks.
+-- Assumes nothing.
+use Prim.Native.Nat.{ℕ, zero, suc, _+_, _-_, _*_, _≤_, _<_}
+use native.Mathlib.Nat.{sub-zero}
+use native.Mathlib.Omega.{arith}
+use mathlib.Core.Path.{_≡_, refl, sym, ap, _∙_}
+use mathlib.Core.Logic.{_≢_, _↔_}
+use mathlib.Core.Bool.{Bool, true, false, not}
+use mathlib.Core.Option.{Option, none, some}
+use mathlib.Core.List.{List, [], _∷_}
+use lib.Dec.{leb, eqb}
+use lib.ListN.{length}
+use borrow.Author.Tests.{leb-true, le-leb, eqb-true, eqb-false, eq-eqb, ne-eqb, not-true}
+use Rattle.rules.specs.declared.Vehicle.{Vehicle}
+use Rattle.rules.specs.Words.{if_then_else_, _and_, _or_, at, first}
+use Rattle.rules.specs.Units.{low, moving, rise, start}
+use Rattle.rules.specs.Gears.{Place, engine, minimum, under-nmax, over-minimum, allowed, fits, choose}
+use Rattle.rules.specs.Corrections.{here, trip-speeds, trip-holds, first-at}
+use Rattle.rules.specs.Refusals.{Fault, refuse-at, _orelse_, trace-fault, room-fault, vehicle-fault, no-gear, check-number, last-check, bad, fault-of, gear-fault, span-fault, work-fault}
+use Rattle.rules.specs.Vocabulary.{InBounds, Turns, Allowed, Wanting, PassesOthers}
+use Rattle.rules.proofs.Laws.Words.{clash, by-test, by-order, both, and-left, and-right, or-skip, Found, first-found, first-none, none-first}
+use Rattle.rules.proofs.Laws.Trips.{start-le, moving-in}
+use Rattle.rules.proofs.Laws.Checks.{none-orelse, orelse-nothing, rooms-in, vehicle-in}
+use Rattle.rules.proofs.Laws.Cards.{at-trip, first-at-is}
+use Rattle.rules.proofs.Laws.Choice.{first-choice-plainly}
+
+module _ (car : Vehicle) (v g : ℕ) where
+  inside-true : Turns car v g → over-minimum car v g and under-nmax car v g ≡ true
+  unfolding _and_ _or_ over-minimum under-nmax
+  inside-true I =
+      by-test (eqb g (low car))
+      (λ t. rw (t, le-leb _ _ (I .to)))
+      (λ t. rw (t, le-leb _ _ (I .from (eqb-false _ _ t)), le-leb _ _ (I .to)))
+
+  true-inside : over-minimum car v g and under-nmax car v g ≡ true → Turns car v g
+  unfolding over-minimum under-nmax
+  true-inside t = record {
+    from = λ n. leb-true _ _ (or-skip _ _ (ne-eqb g (low car) n) (and-left _ _ t));
+    to = leb-true _ _ (and-right _ _ t);
+  }
+
+module _ (car : Vehicle) (vs hs : List ℕ) (i : ℕ) where
+  allowed-true : (spot : Place) → spot .first-second ≡ eqb (i - start vs i) 0 → (g : ℕ) → Allowed car vs i g → allowed car spot g ≡ true
+  unfolding _and_ _or_ allowed
+  allowed-true spot e g A =
+      let l = start-le vs i in
+      by-test (eqb g (low car))
+      (λ t. rw (le-leb _ _ (A .from), t))
+      (λ t. rw (le-leb _ _ (A .from), t, e, ne-eqb (i - start vs i) 0 (λ z. eqb-false _ _ t (A .at-first (omega arith)))))
+
+  true-allowed : (spot : Place) → spot .first-second ≡ eqb (i - start vs i) 0 → (g : ℕ) → g ≤ car .ng → allowed car spot g ≡ true → Allowed car vs i g
+  unfolding allowed
+  true-allowed spot e g h t = record {
+    from = leb-true _ _ (and-left _ _ t);
+    to = h;
+    at-first = λ z.
+        let y : eqb (i - start vs i) 0 ≡ true = eq-eqb (i - start vs i) 0 (omega arith) in
+        by-test (eqb g (low car)) (λ u. eqb-true _ _ u) (λ u. clash (e ∙ y) (not-true _ (or-skip _ _ u (and-right _ _ t))));
+  }
+
+  module _ (n : length hs ≡ length vs) (C : InBounds car) where
+    -- check 10 fails at a moving second exactly when it is wanting
+    bad-wanting : bad no-gear car vs hs 0 i ≡ true → Wanting car vs hs i
+    unfolding bad fits here
+    bad-wanting t =
+        let m : moving (at vs i) ≡ true = and-left _ _ t in
+        let z : first-at car vs hs i ≡ 0 = eqb-true _ _ (and-right _ _ t) in
+        let f = first-at-is car vs hs n i m in
+        let spot = at-trip car vs hs n i m in
+        by-test (eqb (at hs i) 0)
+        (λ h.
+        let c : choose car spot (at vs i) (rise (trip-speeds vs i) (i - start vs i)) ≡ 0 = sym (rw h at f) ∙ z in
+        record {
+          moves = m;
+          no-hold = eqb-true _ _ h;
+          no-gear-there = λ g A I.
+              let x : fits car spot (at vs i) g ≡ false = first-choice-plainly car spot (at vs i) (rise (trip-speeds vs i) (i - start vs i)) C .none-fits c g (A .to) in
+              clash (both (allowed-true spot refl g A) (inside-true car (at vs i) g I)) x;
+        })
+        (λ h. absurd (eqb-false _ _ h (sym (rw h at f) ∙ z)))
+
+    wanting-bad : Wanting car vs hs i → bad no-gear car vs hs 0 i ≡ true
+    unfolding bad fits here
+    wanting-bad W =
+        let m = W .moves in
+        let f = first-at-is car vs hs n i m in
+        let spot = at-trip car vs hs n i m in
+        let d = rise (trip-speeds vs i) (i - start vs i) in
+        let c : choose car spot (at vs i) d ≡ 0 =
+        first-choice-plainly car spot (at vs i) d C .choice-none (λ g l.
+        by-test (fits car spot (at vs i) g)
+        (λ t. absurd (W .no-gear-there g (true-allowed spot refl g l (and-left _ _ t)) (true-inside car (at vs i) g (and-right _ _ t)))) (λ t. t)) in
+        both m (eq-eqb _ _ (rw (eq-eqb (at hs i) 0 (W .no-hold)) at f ∙ c))
+
+nothing : {P : Type 0} {f : Fault} → some f ≡ none → P
+nothing e = let z : _≡_ {A = ℕ} 0 1 = cc in absurd (omega arith)
+
+spot-of : ℕ → Option Fault → ℕ
+spot-of i none = i
+spot-of i (some f) = f .spot
+
+module _ (car : Vehicle) (vs hs old : List ℕ) (P : PassesOthers car vs hs old) where
+  -- where the other checks pass, the tenth decides
+  tenth : work-fault car vs hs old ≡ refuse-at 10 (first (bad no-gear car vs hs 0) 0 (length vs))
+  unfolding work-fault span-fault gear-fault last-check fault-of check-number
+  tenth =
+      none-orelse _ _ (P .one) ∙ none-orelse _ _ (P .two) ∙ none-orelse _ _ (P .three) ∙ none-orelse _ _ (P .four-to-nine) ∙ orelse-nothing _ ∙ rw sub-zero
+
+  -- a second at which it is refused is wanting
+  refused-wanting : (i : ℕ) → work-fault car vs hs old ≡ some (record { no = 10; spot = i }) → Wanting car vs hs i
+  unfolding refuse-at spot-of
+  refused-wanting i e = found (first (bad no-gear car vs hs 0) 0 (length vs)) refl
+    where
+      found : (o : Option ℕ) → first (bad no-gear car vs hs 0) 0 (length vs) ≡ o → Wanting car vs hs i
+      found none f = nothing (sym e ∙ rw f at tenth)
+      found (some j) f =
+          let y : j ≡ i = ap (spot-of i) (sym (rw f at tenth) ∙ e) in
+          rw (← y) (bad-wanting car vs hs j (rooms-in vs hs old (P .two) .0) (vehicle-in car (P .three)) (first-found (bad no-gear car vs hs 0) (length vs) 0 j f .holds))
+
+  -- where a second is wanting, it is refused, at the lowest such
+  wanting-refused : (i : ℕ) → Wanting car vs hs i → (j : ℕ) × (work-fault car vs hs old ≡ some (record { no = 10; spot = j })) × (j ≤ i)
+  unfolding refuse-at
+  wanting-refused i W = found (first (bad no-gear car vs hs 0) 0 (length vs)) refl
+    where
+      wrong : bad no-gear car vs hs 0 i ≡ true
+      wrong = wanting-bad car vs hs i (rooms-in vs hs old (P .two) .0) (vehicle-in car (P .three)) W
+
+      found : (o : Option ℕ) → first (bad no-gear car vs hs 0) 0 (length vs) ≡ o → (j : ℕ) × (work-fault car vs hs old ≡ some (record { no = 10; spot = j })) × (j ≤ i)
+      found none f = clash wrong (none-first (bad no-gear car vs hs 0) (length vs) 0 f i (omega arith) (omega (arith, moving-in vs i (W .moves))))
+      found (some j) f =
+          (j, rw f at tenth, by-order i j (λ h. clash wrong (first-found (bad no-gear car vs hs 0) (length vs) 0 j f .lowest i (omega arith) h)) (λ h. h))
+
+  -- such a trace is refused for want of a gear exactly when some second is wanting
+  pub refused-for-want : ((i : ℕ) × (work-fault car vs hs old ≡ some (record { no = 10; spot = i }))) ↔ ((i : ℕ) × Wanting car vs hs i)
+  refused-for-want = (λ r. (r .0, refused-wanting (r .0) (r .1)), λ w. let f = wanting-refused (w .0) (w .1) in (f .0, f .1))
+
+  -- and the second given is the lowest
+  pub lowest-wanting : (i j : ℕ) → work-fault car vs hs old ≡ some (record { no = 10; spot = i }) → Wanting car vs hs j → i ≤ j
+  unfolding spot-of
+  lowest-wanting i j e W = let f = wanting-refused j W in let y : i ≡ f .0 = ap (spot-of i) (sym e ∙ f .1) in omega (arith, f .2)

@@ -1,0 +1,188 @@
+-- The mathematics of document 01: what a reader of the paper may conclude from the definitions. The proofs are in Laws/.
+-- Assumes nothing.
+use Prim.Native.Nat.{ℕ, suc, _+_, _-_, _*_, _≤_, _<_, _%_, min}
+use native.Mathlib.Omega.{arith}
+use mathlib.Core.Path.{_≡_, refl, _∙_}
+use mathlib.Core.Logic.{_≢_, _↔_, _⊎_, inl, inr}
+use mathlib.Core.Bool.{true, false}
+use mathlib.Core.Option.{none, some}
+use mathlib.Core.List.{List}
+use lib.ListN.{length, set, take}
+use lib.IntN.{ℤ, pos, natAbs, _-ℤ_, _*ℤ_}
+use Rattle.rules.specs.declared.Vehicle.{Vehicle}
+use Rattle.rules.specs.declared.Answer.{Answer}
+use Rattle.rules.specs.Words.{at, pass, patch}
+use Rattle.rules.specs.Units.{bad-field, longest, fastest, steepest, moving, start, stop}
+use Rattle.rules.specs.Gears.{Place, engine, under-nmax, fits, required, Power, on-segment, segment, power-speed, choose}
+use Rattle.rules.specs.Corrections.{peak, rising, slowing, gear-at, card-at, card}
+use Rattle.rules.specs.Refusals.{said, span-fault, work-fault, left, work-card, edit-fault}
+use Rattle.rules.specs.Job.{most-groups, longest-job}
+use Rattle.rules.specs.Text.{printed}
+use Rattle.rules.specs.Quick.{span-lo, own-fault, quick-fault, reworked, quick-holds, quick-card}
+use Rattle.rules.specs.Vocabulary.{IsTrip, FirstChoice, OnSegment, Wanting, PassesOthers, Out, Edit, SameSpan, OneForm, _times_, In64, engine-sum, idle-sum, required-sum, w-sum, Q-sum, margin-sum}
+use Rattle.rules.proofs.Laws.Words.{by-order, pass-keeps}
+use Rattle.rules.proofs.Laws.Trips.{trip-of, trip-le, trip-start, trip-stop, start-before, stop-after, stop-in, moving-in}
+use Rattle.rules.proofs.Laws.Vehicle.{in-bounds}
+use Rattle.rules.proofs.Laws.Power.{gear-segment, same-power as shared-point}
+use Rattle.rules.proofs.Laws.Sizes.{comparison-in-64-bits, more-in-64-bits, speed-in-64-bits}
+use Rattle.rules.proofs.Laws.Choice.{first-choice-plainly}
+use Rattle.rules.proofs.Laws.Held.{not-free, peak-fixed, rising-fixed, slowing-fixed}
+use Rattle.rules.proofs.Laws.Checks.{vehicle-in, rooms-in, Accepted, accepted}
+use Rattle.rules.proofs.Laws.Cards.{fit-of, held-shows, byte-gear, no-over-rev}
+use Rattle.rules.proofs.Laws.Want.{refused-for-want, lowest-wanting}
+use Rattle.rules.proofs.Laws.Edits.{reaches, edit-as-whole}
+use Rattle.rules.proofs.Laws.Quick.{quick-whole}
+use Rattle.rules.proofs.Laws.Span.{looks-at-span, reworks-span, card-frame, card-standing, holds-frame, quick-shows}
+use Rattle.rules.proofs.Laws.Groups.{one-form}
+use Rattle.rules.proofs.Laws.Long.{long-job}
+use Rattle.rules.proofs.Laws.Refusals.{said-once}
+
+-- ---- 1. Trips
+
+-- each moving second lies in a trip, of which `start` is the first second and `stop` the second after the last
+pub trip-at : (vs : List ℕ) (i : ℕ) → moving (at vs i) ≡ true → IsTrip vs (start vs i) (stop vs i) × (start vs i ≤ i) × (i < stop vs i)
+trip-at = trip-of
+
+-- seconds of one trip have the same first and last
+pub same-first-and-last : (vs : List ℕ) {a b : ℕ} → IsTrip vs a b → (i : ℕ) → a ≤ i → i < b → (start vs i ≡ a) × (stop vs i ≡ b)
+same-first-and-last vs T i p q = (trip-start vs T i p q, trip-stop vs T i p q)
+
+-- two trips that share a second are one
+pub one-trip : (vs : List ℕ) {a b c d : ℕ} → IsTrip vs a b → IsTrip vs c d → (i : ℕ) → a ≤ i → i < b → c ≤ i → i < d → (a ≡ c) × (b ≡ d)
+one-trip vs T U i p q r s = let x = trip-le vs T U i p q r s in let y = trip-le vs U T i r s p q in (omega arith, omega arith)
+
+-- its neighbours are standing, or the trace ends
+pub neighbours : (vs : List ℕ) (i : ℕ) → moving (at vs i) ≡ true
+    → ((start vs i ≡ 0) ⊎ (moving (at vs (start vs i - 1)) ≡ false)) × ((stop vs i ≡ length vs) ⊎ ((stop vs i < length vs) × (moving (at vs (stop vs i)) ≡ false)))
+neighbours vs i m =
+    let c = stop-in vs i m in (
+      by-order 0 (start vs i) (λ h. inr (start-before vs i (start vs i - 1) (omega arith))) (λ h. inl (omega arith)),
+      by-order (stop vs i) (length vs) (λ h. inr (h, stop-after vs i)) (λ h. inl (omega arith)),
+    )
+
+-- ---- 2. First choice, said plainly
+
+pub first-choice : (car : Vehicle) (here : Place) (v : ℕ) (d : ℤ) → bad-field car ≡ none → FirstChoice car here v d (choose car here v d)
+first-choice car here v d e = first-choice-plainly car here v d (in-bounds car e)
+
+-- ---- 3. Power
+
+-- the segment found holds x
+pub segment-found : (car : Vehicle) → bad-field car ≡ none → (here : Place) (v g : ℕ) → fits car here v g ≡ true → OnSegment car (power-speed car v g) (segment car (power-speed car v g))
+segment-found car e = gear-segment car (in-bounds car e)
+
+-- at a shared point both neighbours give the same power: Q/w is Q'/w'
+pub same-power : (car : Vehicle) (k : ℕ) → let x = 1000 * at (car .n) (suc k) in on-segment car x k .Q *ℤ on-segment car x (suc k) .w ≡ on-segment car x (suc k) .Q *ℤ on-segment car x k .w
+same-power = shared-point
+
+-- ---- 4. Every product and sum of the power comparison, the engine speeds X and 1000 x idle among them, stays inside a signed 64-bit number
+
+pub speeds-in-64-bits : (car : Vehicle) → bad-field car ≡ none → (v : ℕ) → v ≤ fastest → (g : ℕ) → 1 ≤ g → g ≤ car .ng
+    → In64 (engine-sum car g v) (pos (engine car g v)) × In64 (idle-sum car) (pos (1000 * car .idle))
+speeds-in-64-bits car e = speed-in-64-bits car (in-bounds car e)
+
+pub enough-in-64-bits : (car : Vehicle) → bad-field car ≡ none → (v : ℕ) → v ≤ fastest → (d : ℤ) → natAbs d ≤ steepest → (x k : ℕ) → OnSegment car x k
+    → In64 (required-sum car v d times w-sum car k) (required car v d *ℤ on-segment car x k .w)
+    × In64 (margin-sum car x k) ((pos 100 -ℤ pos (car .margin)) *ℤ on-segment car x k .Q *ℤ pos 3240000)
+enough-in-64-bits car e = comparison-in-64-bits car (in-bounds car e)
+
+pub most-in-64-bits : (car : Vehicle) → bad-field car ≡ none → (x k : ℕ) → OnSegment car x k → (y j : ℕ) → OnSegment car y j
+    → In64 (Q-sum car y j times w-sum car k) (on-segment car y j .Q *ℤ on-segment car x k .w)
+    × In64 (Q-sum car x k times w-sum car j) (on-segment car x k .Q *ℤ on-segment car y j .w)
+most-in-64-bits car e = more-in-64-bits car (in-bounds car e)
+
+-- ---- 5. A trace that passes checks 1 to 9 is refused by 10 exactly when at some moving second without a hold no gear allowed there turns the
+-- engine inside its limits; the second given is the lowest such
+
+pub want-of-a-gear : (car : Vehicle) (vs hs old : List ℕ) → PassesOthers car vs hs old
+    → ((i : ℕ) × (work-fault car vs hs old ≡ some (record { no = 10; spot = i }))) ↔ ((i : ℕ) × Wanting car vs hs i)
+want-of-a-gear = refused-for-want
+
+pub lowest-want : (car : Vehicle) (vs hs old : List ℕ) → PassesOthers car vs hs old
+    → (i j : ℕ) → work-fault car vs hs old ≡ some (record { no = 10; spot = i }) → Wanting car vs hs j → i ≤ j
+lowest-want = lowest-wanting
+
+-- ---- 6. Passes never change a held second, and its byte shows the held gear
+
+module _ (car : Vehicle) (us hs gs : List ℕ) (k j : ℕ) (l : j < length gs) (in-trip : j < length hs) (held : at hs j ≢ 0) where
+  pub A-keeps-holds : at (pass (peak car us hs) k gs) j ≡ at gs j
+  A-keeps-holds = pass-keeps (peak car us hs) gs k j l (λ rs. peak-fixed car us hs j rs (not-free car us hs j in-trip held))
+
+  pub B-keeps-holds : at (pass (rising car us hs) k gs) j ≡ at gs j
+  B-keeps-holds = pass-keeps (rising car us hs) gs k j l (λ rs. rising-fixed car us hs j rs (not-free car us hs j in-trip held))
+
+  pub C-keeps-holds : at (pass (slowing car us hs) k gs) j ≡ at gs j
+  C-keeps-holds = pass-keeps (slowing car us hs) gs k j l (λ rs. slowing-fixed car us hs j rs (not-free car us hs j in-trip held))
+
+module _ (car : Vehicle) (vs hs old : List ℕ) (ok : work-fault car vs hs old ≡ none) (i : ℕ) (m : moving (at vs i) ≡ true) where
+  A : Accepted car vs hs old
+  A = accepted car vs hs old ok
+
+  pub held-byte : at hs i ≢ 0 → card-at car vs hs i % 16 ≡ at hs i
+  held-byte h =
+      let n = rooms-in vs hs old (A .room) .0 in
+      byte-gear car vs hs n i m (vehicle-in car (A .vehicle)) (fit-of car vs hs 0 (length vs) (A .span) i (omega arith) (moving-in vs i m)) ∙ held-shows car vs hs n i m h
+
+  -- and on an accepted trace no gear turns the engine past nmax
+  pub engine-in-limits : under-nmax car (at vs i) (gear-at car vs hs i) ≡ true
+  engine-in-limits = no-over-rev car vs hs (rooms-in vs hs old (A .room) .0) i m (vehicle-in car (A .vehicle)) (fit-of car vs hs 0 (length vs) (A .span) i (omega arith) (moving-in vs i m))
+
+-- ---- 7. An edit of one second, of its hold or of its speed: where the old trace and holds pass every check and the old card is theirs, the checks of
+-- the span find what those of the whole find, and the card re-worked within reach is the whole card; in a refusal it is the old one
+
+pub edit-of-one-second : (car : Vehicle) {vs hs ws ks : List ℕ} {s : ℕ} → Edit vs hs ws ks s → (old : List ℕ) → work-fault car vs hs old ≡ none → old ≡ card car vs hs
+    → let lo = start ws s - 1 in let hi = stop ws (suc s) in
+    let f = edit-fault car vs hs old s (span-fault car ws ks lo (min (suc hi) (length ws))) in
+    (f ≡ work-fault car ws ks old) × (left f old (patch old lo hi (card-at car ws ks)) ≡ work-card car ws ks old)
+edit-of-one-second car {vs} {hs} {ws} {ks} {s} E old ok right = edit-as-whole car (reaches car E) old (accepted car vs hs old ok) right s (E .in-trace)
+
+-- One hold, the quick way
+
+module _ (car : Vehicle) (vs hs old : List ℕ) (s g : ℕ) where
+  -- if the old holds pass every check and the old card is their card, the very refusal, or the very card, of the whole working on the new holds
+  pub quick-as-whole : work-fault car vs hs old ≡ none → old ≡ card car vs hs → s < length vs
+      → (quick-fault car vs hs old s g ≡ work-fault car vs (set hs s g) old) × (quick-card car vs hs old s g ≡ work-card car vs (set hs s g) old)
+  quick-as-whole ok right l = quick-whole car vs hs old s g (accepted car vs hs old ok) l right
+
+  -- with no such assumption: no byte changes outside the second, its trip and the one standing second before
+  pub card-untouched : (i : ℕ) → Out (span-lo vs s) (stop vs s) i → at (quick-card car vs hs old s g) i ≡ at old i
+  card-untouched = card-frame car vs hs old s g
+
+  pub card-untouched-standing : moving (at vs s) ≡ false → quick-card car vs hs old s g ≡ old
+  card-untouched-standing = card-standing car vs hs old s g
+
+  pub holds-untouched : (i : ℕ) → i ≢ s → at (quick-holds car vs hs old s g) i ≡ at hs i
+  holds-untouched = holds-frame car vs hs old s g
+
+  -- the held second shows its hold
+  pub hold-shown : quick-fault car vs hs old s g ≡ none → g ≢ 0 → at (quick-card car vs hs old s g) s % 16 ≡ g
+  hold-shown = quick-shows car vs hs old s g
+
+-- what its checks say of a moving second depends on the seconds of its span and on no others
+pub quick-looks-at-span : (car : Vehicle) (vs hs ws ks : List ℕ) (s g : ℕ) → SameSpan vs hs ws ks s → moving (at vs s) ≡ true → own-fault car ws ks s g ≡ own-fault car vs hs s g
+quick-looks-at-span = looks-at-span
+
+-- and so does what it leaves in the card
+pub quick-reworks-span : (car : Vehicle) (vs hs ws ks : List ℕ) (s g : ℕ) → SameSpan vs hs ws ks s → moving (at vs s) ≡ true
+    → (old : List ℕ) → reworked car ws (set ks s g) old s ≡ reworked car vs (set hs s g) old s
+quick-reworks-span = reworks-span
+
+-- ---- 8. Groups: every value 0 to 65,535 has exactly one form that is accepted, and reading that form gives the value and the place after it
+
+pub one-form-each : (n : ℕ) → n ≤ 65535 → OneForm n
+one-form-each = one-form
+
+-- ---- The card program: of an input that is longer than the longest job, as many bytes as the longest job has and one more say all that is printed
+
+pub long-input : (bytes : List ℕ) → longest-job < length bytes → printed (take (suc longest-job) bytes) ≡ printed bytes
+long-input = long-job
+
+-- and that is 18,886 bytes
+pub longest-job-is : suc longest-job ≡ 18886
+unfolding longest-job most-groups longest
+longest-job-is = refl
+
+-- ---- Refusals: two answers with one number and one place are one
+
+pub said-of-one : (a b : Answer) → said a ≡ said b → a ≡ b
+said-of-one = said-once

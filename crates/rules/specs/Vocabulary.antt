@@ -1,0 +1,220 @@
+-- The words of the theorems: what they say, as records of plain facts. A reader who has the definitions reads these, and then the theorems, without
+-- any law.
+-- Assumes nothing.
+use Prim.Native.Nat.{ℕ, suc, _+_, _-_, _*_, _^_, _≤_, _<_}
+use mathlib.Core.Path.{_≡_}
+use mathlib.Core.Logic.{_≢_, _⊎_}
+use mathlib.Core.Bool.{Bool, true, false}
+use mathlib.Core.Option.{none}
+use mathlib.Core.List.{List, _++_}
+use lib.ListN.{length}
+use lib.IntN.{ℤ, pos, natAbs, _+ℤ_, _-ℤ_, _*ℤ_}
+use Rattle.rules.specs.declared.Vehicle.{Vehicle}
+use Rattle.rules.specs.Words.{at}
+use Rattle.rules.specs.Units.{ratio-of, low, moving, start}
+use Rattle.rules.specs.Gears.{Place, engine, minimum, fits, power, enough, more, suits}
+use Rattle.rules.specs.Refusals.{trace-fault, room-fault, vehicle-fault, over-ng, over-rev, no-gear, bad, seconds-fault}
+use Rattle.rules.specs.Quick.{span-lo, span-hi}
+use Rattle.rules.specs.Groups.{got, group, form}
+
+-- ---- the vehicle
+
+-- every field is in bounds: what refusal 3 leaves
+pub record InBounds (car : Vehicle) : Type 0 where
+  pub low-to : low car ≤ 2
+  pub low-ng : low car < car .ng
+  pub ng-to : car .ng ≤ 10
+  pub ratio-to : (g : ℕ) → 1 ≤ g → g ≤ car .ng → ratio-of car g ≤ 50000
+  pub falling : (g : ℕ) → 1 ≤ g → g < car .ng → ratio-of car (suc g) < ratio-of car g
+  pub idle-to : car .idle ≤ 3000
+  pub rated-from : car .idle < car .rated
+  pub nmax-from : car .rated ≤ car .nmax
+  pub nmax-to : car .nmax ≤ 15000
+  pub f0-to : car .f0 ≤ 10000
+  pub f1-in : natAbs (car .f1) ≤ 5000
+  pub f2-to : car .f2 ≤ 20000
+  pub tm-to : car .tm ≤ 4000
+  pub margin-to : car .margin ≤ 50
+  pub points-from : 2 ≤ car .points
+  pub points-to : car .points ≤ 64
+  pub n-to : (k : ℕ) → k < car .points → at (car .n) k ≤ 16000
+  pub n-rises : (k : ℕ) → suc k < car .points → at (car .n) k < at (car .n) (suc k)
+  pub n-rises-by : (k : ℕ) → suc k < car .points → at (car .n) (suc k) ≤ at (car .n) k + 1000
+  pub p-to : (k : ℕ) → k < car .points → at (car .p) k ≤ 5000
+  pub first-point : at (car .n) 0 ≤ car .idle
+  pub last-point : car .nmax ≤ at (car .n) (car .points - 1)
+
+-- ---- the trace
+
+-- The seconds from a up to b are a trip: all are moving, and the run cannot be lengthened. Past the trace's end a second counts as standing
+pub record IsTrip (vs : List ℕ) (a b : ℕ) : Type 0 where
+  pub some-second : a < b
+  pub inside : (k : ℕ) → a ≤ k → k < b → moving (at vs k) ≡ true
+  pub before : (k : ℕ) → suc k ≡ a → moving (at vs k) ≡ false
+  pub after : moving (at vs b) ≡ false
+
+-- ---- choosing a gear
+
+-- c is the highest gear that fits and has enough power
+pub record HighestEnough (car : Vehicle) (here : Place) (v : ℕ) (d : ℤ) (c : ℕ) : Type 0 where
+  pub a-gear : c ≤ car .ng
+  pub fitting : fits car here v c ≡ true
+  pub with-enough : enough car v d c ≡ true
+  pub none-higher : (h : ℕ) → c < h → h ≤ car .ng → suits car here v d h ≡ false
+
+-- c is the fitting gear with most power, the higher gear on a tie
+pub record MostPower (car : Vehicle) (here : Place) (v c : ℕ) : Type 0 where
+  pub a-gear : c ≤ car .ng
+  pub fitting : fits car here v c ≡ true
+  pub none-stronger : (h : ℕ) → h ≤ car .ng → fits car here v h ≡ true → more (power car v h) (power car v c) ≡ false
+  pub none-higher : (h : ℕ) → c < h → h ≤ car .ng → fits car here v h ≡ true → more (power car v c) (power car v h) ≡ true
+
+-- no gear up to ng passes a test
+abbrev pub NoGear : Vehicle → (ℕ → Bool) → Type 0
+NoGear car p = (g : ℕ) → g ≤ car .ng → p g ≡ false
+
+-- document 01, "First choice at a moving second" without a hold; c is the choice
+pub record FirstChoice (car : Vehicle) (here : Place) (v : ℕ) (d : ℤ) (c : ℕ) : Type 0 where
+  -- the highest gear that fits and has enough power, if one does
+  pub choice-enough : (g : ℕ) → g ≤ car .ng → suits car here v d g ≡ true → HighestEnough car here v d c
+  -- if none has enough, the fitting gear with most power, if one fits
+  pub choice-most : NoGear car (suits car here v d) → (g : ℕ) → g ≤ car .ng → fits car here v g ≡ true → MostPower car here v c
+  -- if none fits, 0, for which the trace is refused
+  pub choice-none : NoGear car (fits car here v) → c ≡ 0
+  -- 0 is given in no other case
+  pub none-fits : c ≡ 0 → NoGear car (fits car here v)
+
+-- x lies on the segment from point k to the next
+pub record OnSegment (car : Vehicle) (x k : ℕ) : Type 0 where
+  pub next-point : suc k < car .points
+  pub from : 1000 * at (car .n) k ≤ x
+  pub to : x ≤ 1000 * at (car .n) (suc k)
+
+-- ---- every product stays inside a signed 64-bit number
+
+infixl 6 _plus_ _less_
+infixl 7 _times_
+-- a sum, written out
+pub data Sum : Type 0 where
+  num : ℤ → Sum
+  _plus_ _less_ _times_ : Sum → Sum → Sum
+
+-- its value
+abbrev pub worth : Sum → ℤ
+worth (num z) = z
+worth (a plus b) = worth a +ℤ worth b
+worth (a less b) = worth a -ℤ worth b
+worth (a times b) = worth a *ℤ worth b
+
+-- each number in it, and the value of each sum and product in it, is below 2^63 in size
+abbrev pub Everywhere : Sum → Type 0
+Everywhere (num z) = natAbs z < 2 ^ 63
+Everywhere (a plus b) = (natAbs (worth a +ℤ worth b) < 2 ^ 63) × Everywhere a × Everywhere b
+Everywhere (a less b) = (natAbs (worth a -ℤ worth b) < 2 ^ 63) × Everywhere a × Everywhere b
+Everywhere (a times b) = (natAbs (worth a *ℤ worth b) < 2 ^ 63) × Everywhere a × Everywhere b
+
+-- a sum of this value that is below 2^63 at every step
+pub record In64 (e : Sum) (z : ℤ) : Type 0 where
+  pub same : worth e ≡ z
+  pub each : Everywhere e
+
+-- X = G x V
+unfoldable pub engine-sum : Vehicle → ℕ → ℕ → Sum
+engine-sum car g v = num (pos (ratio-of car g)) times num (pos v)
+
+-- 1000 x idle
+unfoldable pub idle-sum : Vehicle → Sum
+idle-sum car = num (pos 1000) times num (pos (car .idle))
+
+-- E = 9,000,000 F0 V + 9,000 F1 V^2 + 9 F2 V^3 + 2,575,000 D V TM
+unfoldable pub required-sum : Vehicle → ℕ → ℤ → Sum
+required-sum car v d =
+    num (pos 9000000) times num (pos (car .f0)) times num (pos v)
+    plus num (pos 9000) times num (car .f1) times num (pos v) times num (pos v)
+    plus num (pos 9) times num (pos (car .f2)) times num (pos v) times num (pos v) times num (pos v)
+    plus num (pos 2575000) times num d times num (pos v) times num (pos (car .tm))
+
+-- w = n2 - n1
+unfoldable pub w-sum : Vehicle → ℕ → Sum
+w-sum car k = num (pos (at (car .n) (suc k))) less num (pos (at (car .n) k))
+
+-- x - 1000 n1
+unfoldable pub past-sum : Vehicle → ℕ → ℕ → Sum
+past-sum car x k = num (pos x) less num (pos 1000) times num (pos (at (car .n) k))
+
+-- Q = 1000 p1 w + (p2 - p1)(x - 1000 n1)
+unfoldable pub Q-sum : Vehicle → ℕ → ℕ → Sum
+Q-sum car x k =
+    num (pos 1000) times num (pos (at (car .p) k)) times w-sum car k
+    plus (num (pos (at (car .p) (suc k))) less num (pos (at (car .p) k))) times past-sum car x k
+
+-- (100 - M) x Q x 3,240,000
+unfoldable pub margin-sum : Vehicle → ℕ → ℕ → Sum
+margin-sum car x k = (num (pos 100) less num (pos (car .margin))) times Q-sum car x k times num (pos 3240000)
+
+-- ---- refused for want of a gear
+
+-- gear g turns the engine inside its limits at road speed v: from its minimum, which the lowest gear has not, to nmax
+pub record Turns (car : Vehicle) (v g : ℕ) : Type 0 where
+  pub from : g ≢ low car → 1000 * minimum car g ≤ engine car g v
+  pub to : engine car g v ≤ 1000 * car .nmax
+
+-- a gear that is allowed at second i: one of the vehicle's; at the first second of a trip the lowest
+pub record Allowed (car : Vehicle) (vs : List ℕ) (i g : ℕ) : Type 0 where
+  pub from : low car ≤ g
+  pub to : g ≤ car .ng
+  pub at-first : i ≡ start vs i → g ≡ low car
+
+-- a moving second without a hold at which no gear allowed there turns the engine inside its limits
+pub record Wanting (car : Vehicle) (vs hs : List ℕ) (i : ℕ) : Type 0 where
+  pub moves : moving (at vs i) ≡ true
+  pub no-hold : at hs i ≡ 0
+  pub no-gear-there : (g : ℕ) → Allowed car vs i g → Turns car (at vs i) g → ⊥
+
+-- the trace passes checks 1 to 9
+pub record PassesOthers (car : Vehicle) (vs hs old : List ℕ) : Type 0 where
+  pub one : trace-fault vs ≡ none
+  pub two : room-fault vs hs old ≡ none
+  pub three : vehicle-fault car ≡ none
+  pub four-to-nine : seconds-fault car vs hs 0 (length vs) ≡ none
+
+-- the checks of a second on which its gear leans
+pub record Fit (car : Vehicle) (vs hs : List ℕ) (i : ℕ) : Type 0 where
+  pub hold-in-ng : bad over-ng car vs hs 0 i ≡ false
+  pub hold-in-nmax : bad over-rev car vs hs 0 i ≡ false
+  pub some-gear : bad no-gear car vs hs 0 i ≡ false
+
+-- ---- an edit of one second
+
+-- i is outside the places from lo up to hi
+abbrev pub Out : ℕ → ℕ → ℕ → Type 0
+Out lo hi i = (i < lo) ⊎ (hi ≤ i)
+
+-- the speeds and holds ws, ks are vs, hs but for second s
+pub record Edit (vs hs ws ks : List ℕ) (s : ℕ) : Type 0 where
+  pub in-trace : s < length vs
+  pub speeds : length ws ≡ length vs
+  pub holds : length ks ≡ length hs
+  pub speed-at : (i : ℕ) → i ≢ s → at ws i ≡ at vs i
+  pub hold-at : (i : ℕ) → i ≢ s → at ks i ≡ at hs i
+
+-- two traces with their holds that say the same of each second of the span of s in the first
+pub record SameSpan (vs hs ws ks : List ℕ) (s : ℕ) : Type 0 where
+  pub speeds : length ws ≡ length vs
+  pub holds : length ks ≡ length hs
+  pub speed-at : (i : ℕ) → span-lo vs s ≤ i → i < span-hi vs s → at ws i ≡ at vs i
+  pub hold-at : (i : ℕ) → span-lo vs s ≤ i → i < span-hi vs s → at ks i ≡ at hs i
+
+-- ---- groups
+
+-- a list of bytes
+pub record Bytes (l : List ℕ) : Type 0 where
+  pub each : (k : ℕ) → at l k < 256
+
+-- the value has exactly one form that is accepted: bytes read as a value are its form and no others,
+-- and its form, wherever it stands, is read as the value with the place after it
+pub record OneForm (n : ℕ) : Type 0 where
+  pub bytes : Bytes (form n)
+  pub accepted : (before after : List ℕ) → group (before ++ (form n ++ after)) (length before) ≡ got n (length before + length (form n))
+  pub no-other : (before written after : List ℕ) → Bytes (before ++ (written ++ after))
+      → group (before ++ (written ++ after)) (length before) ≡ got n (length before + length written) → written ≡ form n

@@ -1,0 +1,29 @@
+-- What the functions of one trip promise, in the words of their contracts.
+-- Assumes nothing.
+use Prim.Native.Nat.{ℕ, suc, _+_, _<_, max, min}
+use mathlib.Core.Path.{_≡_}
+use mathlib.Core.Bool.{Bool, true}
+use mathlib.Core.List.{List}
+use lib.Dec.{leb, eqb}
+use lib.ListN.{length, drop}
+use Rattle.rules.specs.declared.Vehicle.{Vehicle}
+use Rattle.rules.specs.Words.{_and_, _or_, at, table}
+use Rattle.rules.specs.Units.{moving}
+use Rattle.rules.specs.Corrections.{closing, gears, byte}
+
+-- every second of the trip is moving
+pub record AllMoving (us : List ℕ) : Type 0 where
+  pub second : (i : ℕ) → suc i < length us → moving (at us i) ≡ true
+
+-- the closing run begins at second r: the last of us is no second of the trip
+pub record RunFrom (us : List ℕ) (r : ℕ) : Type 0 where
+  pub within : r < length us
+  pub run : (i : ℕ) → suc i < length us → closing (drop i us) ≡ leb r i
+
+-- g is one above the larger of p and q, and one or two above the smaller
+unfoldable pub one-above : ℕ → ℕ → ℕ → Bool
+one-above p g q = eqb g (max p q + 1) and (eqb g (min p q + 1) or eqb g (min p q + 2))
+
+-- the bytes of a trip, from its own speeds with the one that follows, and its own holds
+unfoldable pub trip-bytes : Vehicle → List ℕ → List ℕ → List ℕ
+trip-bytes car us hs = table (λ j. byte car us j (at (gears car us hs) j)) 0 (length hs)
