@@ -1,13 +1,15 @@
 -- The parts of a vehicle, number by number.
 -- Assumes nothing.
 use Prim.Native.Nat.{ℕ, _-_, _*_}
-use mathlib.Core.Path.{_≡_, refl, ap}
+use mathlib.Core.Path.{_≡_, refl, sym, ap, _∙_}
 use mathlib.Core.List.{List, []}
 use lib.IntN.{ℤ, pos, _+ℤ_, _*ℤ_}
 use Rattle.rules.specs.declared.Vehicle.{Vehicle}
 use Rattle.rules.specs.Words.{at}
 use Rattle.rules.specs.Units.{ratio-of, low}
 use Rattle.rules.specs.Gears.{engine, required}
+use Rattle.rules.specs.Vocabulary.{nested}
+use Rattle.rules.proofs.Laws.Nested.{required-nested}
 use Rattle.gears.specs.declared.Numbers.{Numbers}
 use Rattle.gears.specs.Parts.{numbers-of, Counts, Has}
 
@@ -49,10 +51,9 @@ module _ {car : Vehicle} {k : Numbers} (C : Counts car k) where
 
   -- required power, from the numbers
   pub required-of : (v : ℕ) (d : ℤ)
-      → pos 9000000 *ℤ pos (k .f0) *ℤ pos v +ℤ pos 9000 *ℤ k .f1 *ℤ pos v *ℤ pos v +ℤ pos 9 *ℤ pos (k .f2) *ℤ pos v *ℤ pos v *ℤ pos v +ℤ pos 2575000 *ℤ d *ℤ pos v *ℤ pos (k .tm)
-      ≡ required car v d
-  unfolding required
-  required-of v d = rw (f0-of, f1-of, f2-of, tm-of)
+      → pos v *ℤ (pos 9000000 *ℤ pos (k .f0) +ℤ pos 2575000 *ℤ d *ℤ pos (k .tm) +ℤ pos v *ℤ (pos 9000 *ℤ k .f1 +ℤ pos v *ℤ (pos 9 *ℤ pos (k .f2)))) ≡ required car v d
+  unfolding nested
+  required-of v d = sym (required-nested car v d ∙ rw (f0-of, f1-of, f2-of, tm-of))
 
 -- engine speed, from the ratios
 pub engine-of : {car : Vehicle} {k : Numbers} {ratio : List ℕ} → Has car k ratio → (g v : ℕ) → engine car g v ≡ at ratio (g - 1) * v

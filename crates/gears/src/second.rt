@@ -107,14 +107,14 @@ pub fn step_of(this: u16, next: u16) -> i64
     next as i64 - this as i64
 }
 
-// Required power E, negative while braking.
+// Required power E, negative while braking, as the bench writes it: speed is taken out as a factor as often as it goes.
 pub fn required(k: Numbers, v: u16, d: i64) -> i64
     requires { ⌜ Load k v d ⌝ }
     ensures { λ r. ⌜ ((car : Vehicle) → Counts car k → r ≡ required car v d) ⌝ }
 {
     let v = v as i64;
-    9_000_000 * (k.f0 as i64) * v
-        + 9_000 * (k.f1 as i64) * v * v
-        + 9 * (k.f2 as i64) * v * v * v
-        + 2_575_000 * d * v * (k.tm as i64)
+    v
+        * (9_000_000 * (k.f0 as i64)
+            + 2_575_000 * d * (k.tm as i64)
+            + v * (9_000 * (k.f1 as i64) + v * (9 * (k.f2 as i64))))
 }

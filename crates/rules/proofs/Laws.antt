@@ -7,6 +7,7 @@ pub mod Integers
 pub mod Range
 pub mod Power
 pub mod Sizes
+pub mod Nested
 pub mod Strongest
 pub mod Choice
 pub mod Held

@@ -19,12 +19,13 @@ use Rattle.rules.specs.Refusals.{said, span-fault, work-fault, left, wor
 use Rattle.rules.specs.Job.{most-groups, longest-job}
 use Rattle.rules.specs.Text.{printed}
 use Rattle.rules.specs.Quick.{span-lo, own-fault, quick-fault, reworked, quick-holds, quick-card}
-use Rattle.rules.specs.Vocabulary.{IsTrip, FirstChoice, OnSegment, Wanting, PassesOthers, Out, Edit, SameSpan, OneForm, _times_, In64, engine-sum, idle-sum, required-sum, w-sum, Q-sum, margin-sum}
+use Rattle.rules.specs.Vocabulary.{IsTrip, FirstChoice, OnSegment, Wanting, PassesOthers, Out, Edit, SameSpan, OneForm, _times_, In64, nested, nested-sum, engine-sum, idle-sum, required-sum, w-sum, Q-sum, margin-sum}
 use Rattle.rules.proofs.Laws.Words.{by-order, pass-keeps}
 use Rattle.rules.proofs.Laws.Trips.{trip-of, trip-le, trip-start, trip-stop, start-before, stop-after, stop-in, moving-in}
 use Rattle.rules.proofs.Laws.Vehicle.{in-bounds}
 use Rattle.rules.proofs.Laws.Power.{gear-segment, same-power as shared-point}
 use Rattle.rules.proofs.Laws.Sizes.{comparison-in-64-bits, more-in-64-bits, speed-in-64-bits}
+use Rattle.rules.proofs.Laws.Nested.{required-nested, nested-inside}
 use Rattle.rules.proofs.Laws.Choice.{first-choice-plainly}
 use Rattle.rules.proofs.Laws.Held.{not-free, peak-fixed, rising-fixed, slowing-fixed}
 use Rattle.rules.proofs.Laws.Checks.{vehicle-in, rooms-in, Accepted, accepted}
@@ -90,6 +91,14 @@ pub most-in-64-bits : (car : Vehicle) → bad-field car ≡ none → (x k : ℕ)
     → In64 (Q-sum car y j times w-sum car k) (on-segment car y j .Q *ℤ on-segment car x k .w)
     × In64 (Q-sum car x k times w-sum car j) (on-segment car x k .Q *ℤ on-segment car y j .w)
 most-in-64-bits car e = more-in-64-bits car (in-bounds car e)
+
+-- Request Four: the required power as the bench writes it has the same value at every input, and stays inside a signed 64-bit number too
+
+pub as-the-bench-writes-it : (car : Vehicle) (v : ℕ) (d : ℤ) → required car v d ≡ nested car v d
+as-the-bench-writes-it = required-nested
+
+pub bench-in-64-bits : (car : Vehicle) → bad-field car ≡ none → (v : ℕ) → v ≤ fastest → (d : ℤ) → natAbs d ≤ steepest → In64 (nested-sum car v d) (nested car v d)
+bench-in-64-bits car e = nested-inside car (in-bounds car e)
 
 -- ---- 5. A trace that passes checks 1 to 9 is refused by 10 exactly when at some moving second without a hold no gear allowed there turns the
 -- engine inside its limits; the second given is the lowest such

@@ -134,6 +134,19 @@ required-sum car v d =
     plus num (pos 9) times num (pos (car .f2)) times num (pos v) times num (pos v) times num (pos v)
     plus num (pos 2575000) times num d times num (pos v) times num (pos (car .tm))
 
+-- the same with speed taken out as a factor as often as it goes, as the bench writes it:
+-- E = V x (9,000,000 F0 + 2,575,000 D TM + V x (9,000 F1 + V x 9 F2))
+unfoldable pub nested : Vehicle → ℕ → ℤ → ℤ
+nested car v d =
+    pos v *ℤ (pos 9000000 *ℤ pos (car .f0) +ℤ pos 2575000 *ℤ d *ℤ pos (car .tm) +ℤ pos v *ℤ (pos 9000 *ℤ car .f1 +ℤ pos v *ℤ (pos 9 *ℤ pos (car .f2))))
+
+unfoldable pub nested-sum : Vehicle → ℕ → ℤ → Sum
+nested-sum car v d =
+    num (pos v)
+    times (num (pos 9000000) times num (pos (car .f0))
+    plus num (pos 2575000) times num d times num (pos (car .tm))
+    plus num (pos v) times (num (pos 9000) times num (car .f1) plus num (pos v) times (num (pos 9) times num (pos (car .f2)))))
+
 -- w = n2 - n1
 unfoldable pub w-sum : Vehicle → ℕ → Sum
 w-sum car k = num (pos (at (car .n) (suc k))) less num (pos (at (car .n) k))

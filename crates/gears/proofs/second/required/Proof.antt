@@ -28,21 +28,21 @@ v s = var (pos (s .args .v)) 2000 (s .pre .v-to)
 abbrev d : tie.Start → E
 d s = var (s .args .d) 150 (s .pre .d-in)
 
--- the four terms of E, and E
-abbrev const : tie.Start → E
-const s = lit (pos 9000000) ⊗ f0 s ⊗ v s
-
-abbrev linear : tie.Start → E
-linear s = lit (pos 9000) ⊗ f1 s ⊗ v s ⊗ v s
-
+-- the parts of E from the inside out, and E
 abbrev square : tie.Start → E
-square s = lit (pos 9) ⊗ f2 s ⊗ v s ⊗ v s ⊗ v s
+square s = lit (pos 9) ⊗ f2 s
+
+abbrev inner : tie.Start → E
+inner s = lit (pos 9000) ⊗ f1 s ⊕ v s ⊗ square s
 
 abbrev mass : tie.Start → E
-mass s = lit (pos 2575000) ⊗ d s ⊗ v s ⊗ tm s
+mass s = lit (pos 2575000) ⊗ d s ⊗ tm s
+
+abbrev outer : tie.Start → E
+outer s = lit (pos 9000000) ⊗ f0 s ⊕ mass s ⊕ v s ⊗ inner s
 
 abbrev power : tie.Start → E
-power s = const s ⊕ linear s ⊕ square s ⊕ mass s
+power s = v s ⊗ outer s
 
 cast-v : tie.Need-cast-v
 cast-v c = search needs
@@ -54,81 +54,46 @@ mul-result : tie.Need-mul-result
 mul-result c = fits (lit (pos 9000000) ⊗ f0 (c .before)) tt
 
 mul-result-2 : tie.Need-mul-result-2
-mul-result-2 c = fits (const (c .before)) tt
+mul-result-2 c = fits (lit (pos 2575000) ⊗ d (c .before)) tt
 
 cast-result-2 : tie.Need-cast-result-2
-cast-result-2 c = from-i32-fits (small-i32 (c .before .before .before .args .k .f1) (omega (arith, c .before .before .before .pre .f1-in)))
+cast-result-2 c = search needs
 
 mul-result-3 : tie.Need-mul-result-3
-mul-result-3 c = fits (lit (pos 9000) ⊗ f1 (c .before .before .before)) tt
-
-mul-result-4 : tie.Need-mul-result-4
-mul-result-4 c = fits (lit (pos 9000) ⊗ f1 (c .before .before .before) ⊗ v (c .before .before .before)) tt
-
-mul-result-5 : tie.Need-mul-result-5
-mul-result-5 c = fits (linear (c .before .before .before)) tt
+mul-result-3 c = fits (mass (c .before .before)) tt
 
 add-result : tie.Need-add-result
-add-result c = fits (const (c .before .before .before) ⊕ linear (c .before .before .before)) tt
+add-result c = fits (lit (pos 9000000) ⊗ f0 (c .before .before) ⊕ mass (c .before .before)) tt
 
 cast-result-3 : tie.Need-cast-result-3
-cast-result-3 c = search needs
+cast-result-3 c = from-i32-fits (small-i32 (c .before .before .before .before .args .k .f1) (omega (arith, c .before .before .before .before .pre .f1-in)))
 
-mul-result-6 : tie.Need-mul-result-6
-mul-result-6 c = fits (lit (pos 9) ⊗ f2 (c .before .before .before .before)) tt
-
-mul-result-7 : tie.Need-mul-result-7
-mul-result-7 c = fits (lit (pos 9) ⊗ f2 (c .before .before .before .before) ⊗ v (c .before .before .before .before)) tt
-
-mul-result-8 : tie.Need-mul-result-8
-mul-result-8 c = fits (lit (pos 9) ⊗ f2 (c .before .before .before .before) ⊗ v (c .before .before .before .before) ⊗ v (c .before .before .before .before)) tt
-
-mul-result-9 : tie.Need-mul-result-9
-mul-result-9 c = fits (square (c .before .before .before .before)) tt
-
-add-result-2 : tie.Need-add-result-2
-add-result-2 c = fits (const (c .before .before .before .before) ⊕ linear (c .before .before .before .before) ⊕ square (c .before .before .before .before)) tt
-
-mul-result-10 : tie.Need-mul-result-10
-mul-result-10 c = fits (lit (pos 2575000) ⊗ d (c .before .before .before .before)) tt
-
-mul-result-11 : tie.Need-mul-result-11
-mul-result-11 c = fits (lit (pos 2575000) ⊗ d (c .before .before .before .before) ⊗ v (c .before .before .before .before)) tt
+mul-result-4 : tie.Need-mul-result-4
+mul-result-4 c = fits (lit (pos 9000) ⊗ f1 (c .before .before .before .before)) tt
 
 cast-result-4 : tie.Need-cast-result-4
 cast-result-4 c = search needs
 
-mul-result-12 : tie.Need-mul-result-12
-mul-result-12 c = fits (mass (c .before .before .before .before .before)) tt
+mul-result-5 : tie.Need-mul-result-5
+mul-result-5 c = fits (square (c .before .before .before .before .before)) tt
+
+mul-result-6 : tie.Need-mul-result-6
+mul-result-6 c = fits (v (c .before .before .before .before .before) ⊗ square (c .before .before .before .before .before)) tt
+
+add-result-2 : tie.Need-add-result-2
+add-result-2 c = fits (inner (c .before .before .before .before .before)) tt
+
+mul-result-7 : tie.Need-mul-result-7
+mul-result-7 c = fits (v (c .before .before .before .before .before) ⊗ inner (c .before .before .before .before .before)) tt
 
 add-result-3 : tie.Need-add-result-3
-add-result-3 c = fits (power (c .before .before .before .before .before)) tt
+add-result-3 c = fits (outer (c .before .before .before .before .before)) tt
+
+mul-result-8 : tie.Need-mul-result-8
+mul-result-8 c = fits (power (c .before .before .before .before .before)) tt
 
 returns : tie.Need-returns
 returns c = λ car C. let s = c .before .before .before .before .before in read (power s) tt ∙ required-of C (s .args .v) (s .args .d)
 
 pub required-spec : {M : Type 1} → statement M
-required-spec =
-    tie.close
-    (tie.spec
-    cast-v
-    cast-result
-    mul-result
-    mul-result-2
-    cast-result-2
-    mul-result-3
-    mul-result-4
-    mul-result-5
-    add-result
-    cast-result-3
-    mul-result-6
-    mul-result-7
-    mul-result-8
-    mul-result-9
-    add-result-2
-    mul-result-10
-    mul-result-11
-    cast-result-4
-    mul-result-12
-    add-result-3
-    returns)
+required-spec = tie.close (tie.spec cast-v cast-result mul-result mul-result-2 cast-result-2 mul-result-3 add-result cast-result-3 mul-result-4 cast-result-4 mul-result-5 mul-result-6 add-result-2 mul-result-7 add-result-3 mul-result-8 returns)
