@@ -27,7 +27,7 @@ static void stop(const char *what) {
 }
 
 /* ---- cases ---- */
-enum kind { WORK, HOLD, READ };
+enum kind { WORK, HOLD, READ, FILL };
 typedef struct {
   char name[40];
   enum kind kind;
@@ -137,6 +137,13 @@ static const struct {
 
 static uint16_t room_v[ROOM];
 static uint8_t room_h[ROOM];
+static uint16_t cycle[GEARCARD_CYCLE]; /* the twin of filling copies it by memcpy */
+static __attribute__((noinline)) verdict_t twin_cycle(uint32_t part, uint16_t *room, size_t room_length) {
+  if (part > 4) return (verdict_t){18, 0};
+  if (room_length < GEARCARD_CYCLE) return (verdict_t){2, 0};
+  memcpy(room, cycle, sizeof cycle);
+  return (verdict_t){0, 0};
+}
 static __attribute__((noinline)) void call(case_t *c, int twin, long reps) {
   size_t n = c->count;
   uint32_t refused = 0;
@@ -149,6 +156,12 @@ static __attribute__((noinline)) void call(case_t *c, int twin, long reps) {
     break;
   case READ:
     for (long r = 0; r < reps; r++) refused |= sides[twin].read(c->job, c->length, room_v, ROOM, room_h, ROOM).verdict.number;
+    break;
+  case FILL:
+    for (long r = 0; r < reps; r++) {
+      refused |= (twin ? twin_cycle : gearcard_cycle)(0, room_v, ROOM).number;
+      __asm__ volatile("" : : "r"(room_v) : "memory"); /* the room counts as read */
+    }
   }
   if (refused) stop("a benchmark input was refused");
 }
@@ -286,6 +299,14 @@ static void random_checks(long rounds) {
   }
 }
 
+static uint32_t same_cycle(void) {
+  uint16_t a[ROOM], b[ROOM];
+  memset(a, 0xa5, sizeof a), memset(b, 0xa5, sizeof b);
+  verdict_t x = gearcard_cycle(0, a, ROOM), y = twin_cycle(0, b, ROOM);
+  if (memcmp(a, b, sizeof a)) stop("fill: bytes differ");
+  return same_verdict("fill", x, y);
+}
+
 /* ---- the cases ---- */
 typedef struct { size_t a, b; } span_t;
 static span_t trips[ROOM];
@@ -369,6 +390,10 @@ static void build(const char *path) {
   static uint16_t far[ROOM];
   for (size_t i = 0; i < ROOM; i++) far[i] = (uint16_t)(16384 + rnd(49152)), h[i] = (uint8_t)(128 + rnd(128));
   c->length = encode(c->job, &big, far, ROOM, h);
+  /* the built-in cycle, which is the job's */
+  fresh("fill.class3", FILL);
+  if (n != GEARCARD_CYCLE) stop("the job is not the Class 3 cycle");
+  memcpy(cycle, v, sizeof cycle);
 }
 
 /* ---- time ---- */
@@ -423,6 +448,7 @@ int main(int argc, char **argv) {
     uint32_t no = 0;
     if (c->kind == WORK) no = same_work(&c->car, c->v, c->count, c->h, c->count, c->count);
     if (c->kind == READ) no = same_read(c->job, c->length, ROOM, ROOM);
+    if (c->kind == FILL) no = same_cycle();
     if (c->kind == HOLD) {
       uint8_t h[ROOM], card[ROOM];
       memcpy(h, c->h, ROOM), memcpy(card, c->card, ROOM);

@@ -16,6 +16,9 @@
 /* The longest trace, in seconds. */
 #define GEARCARD_LONGEST 2048
 
+/* The seconds of the built-in Class 3 cycle, 0 to 1800. */
+#define GEARCARD_CYCLE 1801
+
 /* Document 01's vehicle record, with its numbers of fields, which refusal 3 gives; field 13 is that the first n is at most idle and the last at least
    nmax. Places of ratio past ng, and of n and p past points, are no part of it: they may hold any number. */
 struct gearcard_vehicle {
@@ -39,7 +42,8 @@ struct gearcard_vehicle {
 
     1  trace empty or over 2,048 seconds                              place 0
     2  holds or card not as long as the trace;                        place 0
-       in gearcard_read, a room smaller than the count
+       in gearcard_read, a room smaller than the count;
+       in gearcard_cycle, a room under 1,801
     3  a vehicle field out of bounds, the first such                  field, 1 to 13
    11  second outside the trace (gearcard_hold)                       second asked
     4  speed over 2,000                                               second
@@ -54,7 +58,8 @@ struct gearcard_vehicle {
    14  version not 1                                                  place 0
    15  hold second not rising or past the trace,                      first byte of the second
        or its gear 0 or over 255
-   16  bytes after the end                                            first of them */
+   16  bytes after the end                                            first of them
+   18  part number not 0 to 4 (gearcard_cycle; before 2)              place 0 */
 struct gearcard_verdict {
   uint32_t number;
   size_t place;
@@ -80,5 +85,19 @@ struct gearcard_verdict gearcard_work(struct gearcard_vehicle vehicle, const uin
    that gearcard_work would give for the new holds. At a standing second 0 is accepted, and only its hold written; a gear is refused. */
 struct gearcard_verdict gearcard_hold(struct gearcard_vehicle vehicle, const uint16_t *speeds, size_t speeds_length, uint8_t *holds, size_t holds_length,
                                       uint8_t *card, size_t card_length, size_t second, uint8_t gear);
+
+/* Fills the first 1,801 places of the room with the Class 3 cycle for top speeds of 120 km/h and over, the whole of it whatever the part. Room beyond is
+   untouched. Part 0 is the whole cycle, 1 to 4 are Low, Medium, High and Extra High. */
+struct gearcard_verdict gearcard_cycle(uint32_t part, uint16_t *room, size_t room_length);
+
+/* Seconds of a room that follow each other. */
+struct gearcard_part {
+  size_t first;
+  size_t count;
+};
+
+/* Where a part stands in a filled room of that length, with the standing second on either side: 0 to 1800, 0 to 589, 589 to 1022, 1022 to 1477 and 1477 to
+   1800, ends included. The part is the count speeds from room + first on. The count is 0 where gearcard_cycle would refuse. */
+struct gearcard_part gearcard_cycle_part(uint32_t part, size_t room_length);
 
 #endif

@@ -1,6 +1,6 @@
 -- Each public function's contract allows one outcome. `Reads` is the contract's own reading, which the check makes of the clauses.
 -- Assumes nothing.
-use mathlib.Core.Path.{_≡_, sym, _∙_}
+use mathlib.Core.Path.{_≡_, refl, sym, _∙_}
 use Rattle.once.specs.Determined.{Determined}
 use Rattle.screen.proofs.gearcard_read.Kinds as read-kinds
 use Rattle.screen.proofs.gearcard_read.Reads as read-reads
@@ -8,6 +8,10 @@ use Rattle.screen.proofs.gearcard_work.Kinds as work-kinds
 use Rattle.screen.proofs.gearcard_work.Reads as work-reads
 use Rattle.screen.proofs.gearcard_hold.Kinds as hold-kinds
 use Rattle.screen.proofs.gearcard_hold.Reads as hold-reads
+use Rattle.screen.proofs.gearcard_cycle.Kinds as cycle-kinds
+use Rattle.screen.proofs.gearcard_cycle.Reads as cycle-reads
+use Rattle.screen.proofs.gearcard_cycle_part.Kinds as cycle-part-kinds
+use Rattle.screen.proofs.gearcard_cycle_part.Reads as cycle-part-reads
 
 pub gearcard-read : Determined read-kinds.ps read-kinds.r read-reads.Asked read-reads.Learnt
 gearcard-read κs a asked z z′ ws ws′ p q = (
@@ -25,3 +29,9 @@ gearcard-work κs a asked z z′ ws ws′ p q = (p .0 ∙ sym (q .0), λ i. (tt,
 pub gearcard-hold : Determined hold-kinds.ps hold-kinds.r hold-reads.Asked hold-reads.Learnt
 gearcard-hold κs a asked z z′ ws ws′ p q =
     (p .0 ∙ sym (q .0), λ i. (tt, (tt, ((p .1 .0 ∙ sym (q .1 .0)) i, ((p .1 .1 ∙ sym (q .1 .1)) i, (tt, (tt, tt)))))))
+
+pub gearcard-cycle : Determined cycle-kinds.ps cycle-kinds.r cycle-reads.Asked cycle-reads.Learnt
+gearcard-cycle κs a asked z z′ ws ws′ p q = (p .0 ∙ sym (q .0), λ i. (tt, ((p .1 ∙ sym (q .1)) i, tt)))
+
+pub gearcard-cycle-part : Determined cycle-part-kinds.ps cycle-part-kinds.r cycle-part-reads.Asked cycle-part-reads.Learnt
+gearcard-cycle-part κs a asked z z′ ws ws′ p q = (p ∙ sym q, refl)

@@ -1,8 +1,12 @@
-// The C functions for driver's aid screens: thin wrappers over the reader, the working and the quick way. include/gearcard.h declares them.
+// The C functions for driver's aid screens: thin wrappers over the reader, the working, the quick way and the built-in cycle. include/gearcard.h declares
+// them.
 ghost use mathlib.Core.Path.{_≡_};
 ghost use Rattle.rules.specs.Refusals.{work-fault, work-card};
 ghost use Rattle.rules.specs.Quick.{quick-fault, quick-holds, quick-card};
+ghost use lib.ListN.{length};
+ghost use Rattle.cycles.specs.Parts.{fill-fault, fill-room, stretch};
 ghost use Rattle.screen.specs.Screen.{says, as-verdict, ScreenRead};
+use cycles::Stretch;
 use rules::Answer;
 use rules::Vehicle;
 
@@ -77,4 +81,22 @@ pub extern "C" fn gearcard_hold(
 {
     let answer = cards::hold(vehicle, speeds, holds, card, second, gear);
     verdict_of(answer)
+}
+
+// Fills the first 1,801 places with the Class 3 cycle.
+#[no_mangle]
+pub extern "C" fn gearcard_cycle(part: u32, room: &mut [u16]) -> Verdict
+    ensures answer { λ r. ⌜ r ≡ as-verdict (fill-fault part (length (now (room .entry)))) ⌝ }
+    ensures room { λ r. ⌜ now (room .exit) ≡ fill-room part (now (room .entry)) ⌝ }
+{
+    let answer = cycles::fill(part, room);
+    verdict_of(answer)
+}
+
+// Where a part of the cycle stands in a room of that many places.
+#[no_mangle]
+pub extern "C" fn gearcard_cycle_part(part: u32, room: usize) -> Stretch
+    ensures { λ r. ⌜ r ≡ stretch part room ⌝ }
+{
+    cycles::stretch_of(part, room)
 }

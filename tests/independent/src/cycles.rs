@@ -27,24 +27,30 @@ pub fn parse(name: &str, text: &str) -> (usize, Vec<u16>) {
     (first, speeds)
 }
 
+/// The phases that are there, by name, and their speeds, one after the other.
+fn joined(dir: &Path, parts: &[&'static str]) -> (Vec<&'static str>, Vec<u16>) {
+    let mut there = Vec::new();
+    let mut speeds: Vec<u16> = Vec::new();
+    for name in parts {
+        let text = match fs::read_to_string(dir.join(format!("{name}.txt"))) {
+            Ok(text) => text,
+            Err(e) if e.kind() == ErrorKind::NotFound => continue,
+            Err(e) => panic!("{name}: {e}"),
+        };
+        let (first, phase) = parse(name, &text);
+        // Second 0 is the start of the cycle; a low phase driven again begins with its second 1.
+        let again = !speeds.is_empty() && first == 0;
+        speeds.extend(&phase[again as usize..]);
+        there.push(*name);
+    }
+    (there, speeds)
+}
+
 /// Each cycle of which some phase is there: its name, with the phases it is made of, and its speeds.
 pub fn traces(dir: &Path) -> Vec<(String, Vec<u16>)> {
     let mut traces = Vec::new();
     for (cycle, parts, whole) in CYCLES {
-        let mut there = Vec::new();
-        let mut speeds: Vec<u16> = Vec::new();
-        for name in parts {
-            let text = match fs::read_to_string(dir.join(format!("{name}.txt"))) {
-                Ok(text) => text,
-                Err(e) if e.kind() == ErrorKind::NotFound => continue,
-                Err(e) => panic!("{name}: {e}"),
-            };
-            let (first, phase) = parse(name, &text);
-            // Second 0 is the start of the cycle; a low phase driven again begins with its second 1.
-            let again = !speeds.is_empty() && first == 0;
-            speeds.extend(&phase[again as usize..]);
-            there.push(*name);
-        }
+        let (there, speeds) = joined(dir, parts);
         if there.len() == parts.len() {
             assert_eq!(speeds.len(), whole, "{cycle}: number of samples");
         }
@@ -54,4 +60,12 @@ pub fn traces(dir: &Path) -> Vec<(String, Vec<u16>)> {
     }
     assert!(!traces.is_empty(), "{}: no phase of any cycle", dir.display());
     traces
+}
+
+/// The whole Class 3 cycle for top speeds of 120 km/h and over.
+pub fn class_3(dir: &Path) -> Vec<u16> {
+    let (_, parts, whole) = CYCLES[3];
+    let (there, speeds) = joined(dir, parts);
+    assert_eq!((there.len(), speeds.len()), (parts.len(), whole), "{}: the Class 3 cycle is not whole", dir.display());
+    speeds
 }

@@ -114,6 +114,18 @@ pub struct Loan {
 }
 
 impl Loan {
+    /// A room for speeds alone.
+    pub fn room(r: &mut Rng, speeds: &[u16]) -> Loan {
+        Loan::new(r, speeds, &[], &[])
+    }
+
+    /// Every element afterwards is what it was, but the first speeds, which are `expected`.
+    fn same_but_speeds(&self, after: &Loan, expected: &[u16]) -> Result<(), String> {
+        self.speeds.compare("speeds", &after.speeds, expected)?;
+        self.holds.compare("holds", &after.holds, &[])?;
+        self.third.compare("third", &after.third, &[])
+    }
+
     pub fn new(r: &mut Rng, speeds: &[u16], holds: &[u8], third: &[u8]) -> Loan {
         Loan { speeds: Lent::new(r, speeds, |x| x as u16), holds: Lent::new(r, holds, |x| x as u8), third: Lent::new(r, third, |x| x as u8) }
     }
@@ -124,6 +136,8 @@ enum Call {
     Read,
     Work,
     Hold,
+    Cycle,
+    CyclePart,
 }
 
 struct Request<'a> {
@@ -231,6 +245,22 @@ impl Library {
         loan.speeds.compare("speeds", &answer.loan.speeds, &[])?;
         loan.holds.compare("holds", &answer.loan.holds, holds)?;
         loan.third.compare("card", &answer.loan.third, card)
+    }
+
+    /// `expected`: the first places of the room, which is lent as the speeds.
+    pub fn cycle(&mut self, part: u32, loan: &Loan, expected: &Result<Vec<u16>, Refusal>) -> Result<(), String> {
+        let answer = self.call(&Request { call: Call::Cycle, vehicle: &ZERO, second: part as usize, gear: 0, loan })?;
+        answer.compare(expected.as_ref().err().copied())?;
+        loan.same_but_speeds(&answer.loan, expected.as_deref().unwrap_or(&[]))
+    }
+
+    /// `expected`: the part's first second and how many there are, in a room as long as the speeds.
+    pub fn cycle_part(&mut self, part: u32, loan: &Loan, expected: (usize, usize)) -> Result<(), String> {
+        let answer = self.call(&Request { call: Call::CyclePart, vehicle: &ZERO, second: part as usize, gear: 0, loan })?;
+        if (answer.place, answer.number as u64) != (expected.0 as u64, expected.1 as u64) {
+            return Err(format!("part: expected {} from {}, library {} from {}", expected.1, expected.0, answer.number, answer.place));
+        }
+        loan.same_but_speeds(&answer.loan, &[])
     }
 
     pub fn read(&mut self, loan: &Loan, expected: &Result<Job, Refusal>) -> Result<(), String> {

@@ -1,9 +1,11 @@
 //! Compares the gear card library with a working of its own, written from docs/01-scope.md alone.
 //!
-//!   independent [--seed S] [--cases N] [--cycles DIR] -- DRIVER..    the cycles of DIR, then N cases of each kind (read, work, hold)
+//!   independent [--seed S] [--cases N] [--cycles DIR] -- DRIVER..    the cycles of DIR and the built-in cycle, then N cases of each kind (read, work, hold)
+//!   with --class-3 FILE: that job must have the speeds of the built-in cycle
 //!   independent [--seed S] --case KIND I -- DRIVER..                 one case again (KIND read, work or hold)
 //!   independent --job FILE                                           what the card program would print of a job, from the reference alone
 
+mod builtin;
 mod cases;
 mod cycles;
 mod drives;
@@ -35,6 +37,7 @@ struct Options {
     /// Kind and number.
     case: Option<(usize, u64)>,
     cycles: Option<String>,
+    class_3: Option<String>,
 }
 
 fn main() {
@@ -61,12 +64,12 @@ fn main() {
 }
 
 fn usage() -> ! {
-    eprintln!("use: [--seed S] [--cases N] [--cycles DIR] -- DRIVER.. | [--seed S] --case KIND I -- DRIVER.. | --job FILE");
+    eprintln!("use: [--seed S] [--cases N] [--cycles DIR [--class-3 FILE]] -- DRIVER.. | [--seed S] --case KIND I -- DRIVER.. | --job FILE");
     exit(2)
 }
 
 fn options(words: &[String]) -> Options {
-    let mut options = Options { seed: DEFAULT_SEED, cases: DEFAULT_CASES, case: None, cycles: None };
+    let mut options = Options { seed: DEFAULT_SEED, cases: DEFAULT_CASES, case: None, cycles: None, class_3: None };
     let mut words = words.iter().map(String::as_str);
     while let Some(option) = words.next() {
         let mut value = || words.next().unwrap_or_else(|| usage());
@@ -74,6 +77,7 @@ fn options(words: &[String]) -> Options {
             "--seed" => options.seed = number(value()),
             "--cases" => options.cases = number(value()),
             "--cycles" => options.cycles = Some(String::from(value())),
+            "--class-3" => options.class_3 = Some(String::from(value())),
             "--case" => options.case = Some((kind(value()), number(value()))),
             _ => usage(),
         }
@@ -110,6 +114,7 @@ fn run(mut library: Library, options: &Options) -> Result<(), String> {
     println!("the paper's own sums: agreed");
     if let Some(dir) = &options.cycles {
         drives::run(&mut library, options.seed, Path::new(dir))?;
+        builtin::run(&mut library, options.seed, Path::new(dir), options.class_3.as_deref().map(Path::new))?;
     }
     let mut met: Counts = [[0; 17]; 3];
     let mut spent = [Duration::ZERO; 3];

@@ -1,0 +1,54 @@
+-- `cycles::parts::stretch_of` meets its contract: no seconds where filling refuses, else the part's.
+-- Assumes nothing.
+use native.Mathlib.Omega.{arith}
+use mathlib.Core.Path.{_≡_, sym, ap, _∙_}
+use Rattle.rules.specs.Refusals.{said}
+use Rattle.cycles.proofs.Ways.{passed}
+use Rattle.cycles.proofs.Stretches.{ordered, stretch-part, no-stretch}
+use borrow.Author.Needs.{needs}
+use Rattle.cycles.proofs.parts.stretch_of.Statement.{statement}
+use Rattle.cycles.proofs.parts.stretch_of.Tie as tie
+
+check-requires : tie.Need-check-requires
+check-requires c κs = search needs
+
+enum-told : tie.Need-enum-told
+enum-told c = search needs
+
+enum-told-2 : tie.Need-enum-told-2
+enum-told-2 c = search needs
+
+returns : tie.Need-returns
+unfolding said
+returns c = sym (no-stretch _ _ (sym (c .before .before .check .ensures) ∙ ap said (c .enum-told2 .given .1)))
+
+first-second-requires : tie.Need-first-second-requires
+first-second-requires c κs = search needs
+
+last-second-requires : tie.Need-last-second-requires
+last-second-requires c κs = search needs
+
+add-t6 : tie.Need-add-t6
+add-t6 c = omega (arith, ordered (c .before .before .before .before .before .args .part) .1, c .last-second .ensures)
+
+sub-t7 : tie.Need-sub-t7
+sub-t7 c = omega (arith, ordered (c .before .before .before .before .before .args .part) .0, c .last-second .ensures, c .before .first-second .ensures)
+
+returns-2 : tie.Need-returns-2
+returns-2 c =
+    let p = c .before .before in
+    rw (c .last-second .ensures, c .before .first-second .ensures) (sym (stretch-part _ _ (passed (p .before .before .check .ensures) (p .enum-told .given .1))))
+
+pub stretch-of-spec : {M : Type 1} → statement M
+stretch-of-spec =
+    tie.close
+    (tie.spec
+    check-requires
+    enum-told
+    enum-told-2
+    returns
+    first-second-requires
+    last-second-requires
+    add-t6
+    sub-t7
+    returns-2)
