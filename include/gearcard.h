@@ -43,7 +43,8 @@ struct gearcard_vehicle {
     1  trace empty or over 2,048 seconds                              place 0
     2  holds or card not as long as the trace;                        place 0
        in gearcard_read, a room smaller than the count;
-       in gearcard_cycle, a room under 1,801
+       in gearcard_cycle, a room under 1,801;
+       in gearcard_downscale, a room not 1,801
     3  a vehicle field out of bounds, the first such                  field, 1 to 13
    11  second outside the trace (gearcard_hold)                       second asked
     4  speed over 2,000                                               second
@@ -59,7 +60,8 @@ struct gearcard_vehicle {
    15  hold second not rising or past the trace,                      first byte of the second
        or its gear 0 or over 255
    16  bytes after the end                                            first of them
-   18  part number not 0 to 4 (gearcard_cycle; before 2)              place 0 */
+   18  part number not 0 to 4 (gearcard_cycle; before 2)              place 0
+   23  factor over 500 (gearcard_downscale; before 2)                 place 0 */
 struct gearcard_verdict {
   uint32_t number;
   size_t place;
@@ -99,5 +101,10 @@ struct gearcard_part {
 /* Where a part stands in a filled room of that length, with the standing second on either side: 0 to 1800, 0 to 589, 589 to 1022, 1022 to 1477 and 1477 to
    1800, ends included. The part is the count speeds from room + first on. The count is 0 where gearcard_cycle would refuse. */
 struct gearcard_part gearcard_cycle_part(uint32_t part, size_t room_length);
+
+/* Fills the room, which is 1,801 long, with the same cycle scaled down for a weak car (Annex 1, "Downscaling procedure for Class 3 vehicles"): the rise
+   of the extra high part from second 1533, the fall brought back to the cycle at 1763. The factor is in thousandths, 0 to 500; 0 gives the cycle. Speeds
+   are worked out exactly and rounded once, to the nearest tenth of km/h, halves up. The parts stand where gearcard_cycle_part says. */
+struct gearcard_verdict gearcard_downscale(uint32_t factor, uint16_t *room, size_t room_length);
 
 #endif

@@ -5,13 +5,13 @@
    is READ, else the card) the number of elements of the guard before it, of the slice and of the guard after it (u32 each); then the elements of the
    three, guards included. An answer: number (u32), place (u64); where kind is READ the vehicle's fields and the count (u64); then the elements again.
    Where kind is CYCLE or CYCLE_PART the second is the part's number and the speeds are the room; CYCLE_PART answers the count as number and the first
-   second as place. All little-endian, as x86-64 is. Exit 0 at the end of the requests, 2 where one is cut or past the limits here. */
+   second as place. Where kind is DOWNSCALE the second is the factor. All little-endian, as x86-64 is. Exit 0 at the end of the requests, 2 where one is cut or past the limits here. */
 #include "gearcard.h"
 
 #include <stdio.h>
 #include <stdlib.h>
 
-enum { READ, WORK, HOLD, CYCLE, CYCLE_PART };
+enum { READ, WORK, HOLD, CYCLE, CYCLE_PART, DOWNSCALE };
 enum { SECONDS = 4096, BYTES = 32768 };
 
 struct span {
@@ -75,6 +75,8 @@ static void answer(uint32_t kind, uint32_t gear, uint64_t second, struct gearcar
     verdict = gearcard_hold(vehicle, v, s.length, held, h.length, last, t.length, second, (uint8_t)gear);
   } else if (kind == CYCLE) {
     verdict = gearcard_cycle((uint32_t)second, v, s.length);
+  } else if (kind == DOWNSCALE) {
+    verdict = gearcard_downscale((uint32_t)second, v, s.length);
   } else {
     struct gearcard_part part = gearcard_cycle_part((uint32_t)second, s.length);
     verdict = (struct gearcard_verdict){(uint32_t)part.count, part.first};
@@ -109,7 +111,7 @@ int main(void) {
     get(&second, sizeof second);
     vehicle_fields(&vehicle, get);
     get(spans, sizeof spans);
-    if (kind > CYCLE_PART || gear > 255) refuse("no such request");
+    if (kind > DOWNSCALE || gear > 255) refuse("no such request");
     answer(kind, gear, second, vehicle, spans[0], spans[1], spans[2]);
   }
 }

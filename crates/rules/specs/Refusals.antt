@@ -8,7 +8,7 @@ use lib.ListN.{length}
 use lib.Dec.{leb, ltb, eqb}
 use Rattle.rules.specs.declared.Vehicle.{Vehicle}
 use Rattle.rules.specs.declared.Refusal.{Refusal}
-use Rattle.rules.specs.declared.Refusal.the-variants.{TraceLength, RoomLength, VehicleField, OutsideTrace, SpeedOver, StepOver, EndMoving, HoldOverNg, HoldStanding, HoldOverRev, NoGear, JobEndsEarly, BadGroup, BadVersion, BadHold, BytesAfter, BadPart}
+use Rattle.rules.specs.declared.Refusal.the-variants.{TraceLength, RoomLength, VehicleField, OutsideTrace, SpeedOver, StepOver, EndMoving, HoldOverNg, HoldStanding, HoldOverRev, NoGear, JobEndsEarly, BadGroup, BadVersion, BadHold, BytesAfter, BadPart, BadFactor}
 use Rattle.rules.specs.declared.Answer.{Answer}
 use Rattle.rules.specs.declared.Answer.the-variants.{Done, Refused}
 use Rattle.rules.specs.Words.{if_then_else_, _and_, _or_, within, at, first}
@@ -38,6 +38,8 @@ number (BadHold b) = 15
 number (BytesAfter b) = 16
 -- document 02, request Three
 number BadPart = 18
+-- document 02, request Eleven
+number BadFactor = 23
 
 -- the place of each case
 abbrev pub place : Refusal → ℕ
@@ -58,6 +60,7 @@ place BadVersion = 0
 place (BadHold b) = b
 place (BytesAfter b) = b
 place BadPart = 0
+place BadFactor = 0
 
 -- a number and a place
 pub record Fault : Type 0 where

@@ -12,6 +12,8 @@ use Rattle.screen.proofs.gearcard_cycle.Kinds as cycle-kinds
 use Rattle.screen.proofs.gearcard_cycle.Reads as cycle-reads
 use Rattle.screen.proofs.gearcard_cycle_part.Kinds as cycle-part-kinds
 use Rattle.screen.proofs.gearcard_cycle_part.Reads as cycle-part-reads
+use Rattle.screen.proofs.gearcard_downscale.Kinds as downscale-kinds
+use Rattle.screen.proofs.gearcard_downscale.Reads as downscale-reads
 
 pub gearcard-read : Determined read-kinds.ps read-kinds.r read-reads.Asked read-reads.Learnt
 gearcard-read κs a asked z z′ ws ws′ p q = (
@@ -35,3 +37,6 @@ gearcard-cycle κs a asked z z′ ws ws′ p q = (p .0 ∙ sym (q .0), λ i. (tt
 
 pub gearcard-cycle-part : Determined cycle-part-kinds.ps cycle-part-kinds.r cycle-part-reads.Asked cycle-part-reads.Learnt
 gearcard-cycle-part κs a asked z z′ ws ws′ p q = (p ∙ sym q, refl)
+
+pub gearcard-downscale : Determined downscale-kinds.ps downscale-kinds.r downscale-reads.Asked downscale-reads.Learnt
+gearcard-downscale κs a asked z z′ ws ws′ p q = (p .0 ∙ sym (q .0), λ i. (tt, ((p .1 ∙ sym (q .1)) i, tt)))

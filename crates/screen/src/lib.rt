@@ -5,6 +5,7 @@ ghost use Rattle.rules.specs.Refusals.{work-fault, work-card};
 ghost use Rattle.rules.specs.Quick.{quick-fault, quick-holds, quick-card};
 ghost use lib.ListN.{length};
 ghost use Rattle.cycles.specs.Parts.{fill-fault, fill-room, stretch};
+ghost use Rattle.downscale.specs.Steps.{down-fault, down-room};
 ghost use Rattle.screen.specs.Screen.{says, as-verdict, ScreenRead};
 use cycles::Stretch;
 use rules::Answer;
@@ -99,4 +100,14 @@ pub extern "C" fn gearcard_cycle_part(part: u32, room: usize) -> Stretch
     ensures { λ r. ⌜ r ≡ stretch part room ⌝ }
 {
     cycles::stretch_of(part, room)
+}
+
+// Fills the room with the Class 3 cycle scaled down by a factor in thousandths.
+#[no_mangle]
+pub extern "C" fn gearcard_downscale(factor: u32, room: &mut [u16]) -> Verdict
+    ensures answer { λ r. ⌜ r ≡ as-verdict (down-fault factor (length (now (room .entry)))) ⌝ }
+    ensures room { λ r. ⌜ now (room .exit) ≡ down-room factor (now (room .entry)) ⌝ }
+{
+    let answer = downscale::downscale(factor, room);
+    verdict_of(answer)
 }

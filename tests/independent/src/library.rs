@@ -138,6 +138,7 @@ enum Call {
     Hold,
     Cycle,
     CyclePart,
+    Downscale,
 }
 
 struct Request<'a> {
@@ -250,6 +251,13 @@ impl Library {
     /// `expected`: the first places of the room, which is lent as the speeds.
     pub fn cycle(&mut self, part: u32, loan: &Loan, expected: &Result<Vec<u16>, Refusal>) -> Result<(), String> {
         let answer = self.call(&Request { call: Call::Cycle, vehicle: &ZERO, second: part as usize, gear: 0, loan })?;
+        answer.compare(expected.as_ref().err().copied())?;
+        loan.same_but_speeds(&answer.loan, expected.as_deref().unwrap_or(&[]))
+    }
+
+    /// `expected`: the room, which is lent as the speeds.
+    pub fn downscale(&mut self, factor: u32, loan: &Loan, expected: &Result<Vec<u16>, Refusal>) -> Result<(), String> {
+        let answer = self.call(&Request { call: Call::Downscale, vehicle: &ZERO, second: factor as usize, gear: 0, loan })?;
         answer.compare(expected.as_ref().err().copied())?;
         loan.same_but_speeds(&answer.loan, expected.as_deref().unwrap_or(&[]))
     }

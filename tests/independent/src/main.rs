@@ -1,6 +1,6 @@
 //! Compares the gear card library with a working of its own, written from docs/01-scope.md alone.
 //!
-//!   independent [--seed S] [--cases N] [--cycles DIR] -- DRIVER..    the cycles of DIR and the built-in cycle, then N cases of each kind (read, work, hold)
+//!   independent [--seed S] [--cases N] [--cycles DIR] -- DRIVER..    the cycles of DIR, the built-in and the scaled cycle, then N cases of each kind (read, work, hold)
 //!   with --class-3 FILE: that job must have the speeds of the built-in cycle
 //!   independent [--seed S] --case KIND I -- DRIVER..                 one case again (KIND read, work or hold)
 //!   independent --job FILE                                           what the card program would print of a job, from the reference alone
@@ -8,6 +8,7 @@
 mod builtin;
 mod cases;
 mod cycles;
+mod downscale;
 mod drives;
 mod events;
 mod jobs;
@@ -115,6 +116,7 @@ fn run(mut library: Library, options: &Options) -> Result<(), String> {
     if let Some(dir) = &options.cycles {
         drives::run(&mut library, options.seed, Path::new(dir))?;
         builtin::run(&mut library, options.seed, Path::new(dir), options.class_3.as_deref().map(Path::new))?;
+        downscale::run(&mut library, options.seed, Path::new(dir))?;
     }
     let mut met: Counts = [[0; 17]; 3];
     let mut spent = [Duration::ZERO; 3];

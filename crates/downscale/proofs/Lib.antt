@@ -1,0 +1,8 @@
+-- What belongs to no one function.
+pub mod Fractions
+pub mod Rounding
+pub mod Changes
+pub mod Stepping
+pub mod Whole
+pub mod Theorems
+pub mod Determined

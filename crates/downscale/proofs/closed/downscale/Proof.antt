@@ -1,0 +1,89 @@
+-- `downscale::closed::downscale` meets its contract: refused, or the cycle with its two stretches drawn.
+-- Assumes nothing.
+use Prim.Native.Nat.{ℕ, _≤_}
+use native.Mathlib.Omega.{arith}
+use mathlib.Core.Path.{_≡_, ap, _∙_}
+use mathlib.Core.Option.{none}
+use lib.ListN.{length}
+use denote.Ref.{now}
+use Rattle.cycles.specs.Cycle.{cycle}
+use Rattle.cycles.proofs.Ways.{passed, untouched, written}
+use Rattle.cycles.proofs.Table.{length-cycle}
+use Rattle.downscale.specs.Steps.{down-fault, down-room}
+use Rattle.downscale.proofs.Whole.{accepted-factor, accepted-length, filled-cycle, rise-draws, fall-draws, drawn-whole}
+use borrow.Author.Needs.{needs}
+use Rattle.downscale.proofs.closed.downscale.Statement.{statement}
+use Rattle.downscale.proofs.closed.downscale.Tie as tie
+
+-- past the check: the factor, and the room's length
+module _ (p : tie.After-enum-told) where
+  fine : down-fault (p .before .before .before .before .args .factor) (length (now (p .before .before .before .before .args .room))) ≡ none
+  fine = passed (p .before .before .check .ensures) (p .enum-told .given .1)
+
+  factor-fine : p .before .before .before .before .args .factor ≤ 500
+  factor-fine = accepted-factor _ _ fine
+
+  length-fine : length (now (p .before .before .before .before .args .room)) ≡ 1801
+  length-fine = accepted-length (p .before .before .before .before .args .factor) _ fine
+
+-- the room is then the cycle
+filled-is : (q : tie.After-fill) → q .fill .last .1 .0 ≡ cycle
+filled-is q = q .fill .ensures .1 ∙ filled-cycle _ (length-fine (q .before .before))
+
+filled-length : (q : tie.After-fill) → length (q .fill .last .1 .0) ≡ 1801
+filled-length q = ap length (filled-is q) ∙ length-cycle
+
+check-requires : tie.Need-check-requires
+check-requires c κs = search needs
+
+enum-told : tie.Need-enum-told
+enum-told c = search needs
+
+enum-told-2 : tie.Need-enum-told-2
+enum-told-2 c = search needs
+
+returns : tie.Need-returns
+unfolding down-room
+returns c = let said = c .before .before .check .ensures in (said, untouched said _ _ (c .enum-told2 .given .1))
+
+fill-requires : tie.Need-fill-requires
+fill-requires c κs = search needs
+
+draw-requires : tie.Need-draw-requires
+draw-requires c κs =
+    let p = c .before .before .before .before .before in
+    (rise-draws _ (factor-fine p), omega arith, omega (arith, filled-length (c .before .before .before)))
+
+mul-draw : tie.Need-mul-draw
+mul-draw c = search needs
+
+draw-requires-2 : tie.Need-draw-requires-2
+draw-requires-2 c κs =
+    let p = c .before .before .before .before .before .before .before .before .before in
+    (fall-draws _ (factor-fine p), omega arith, omega (arith, c .before .before .before .draw .ensures .size, filled-length (c .before .before .before .before .before .before .before)))
+
+same-length : tie.Need-same-length
+same-length c = search needs
+
+returns-2 : tie.Need-returns-2
+unfolding down-room
+returns-2 c =
+    let q = c .before .before .before .before .before .before .before .before .before .before in
+    let p = q .before .before in
+    let w = written (p .before .before .check .ensures) _ _ (p .enum-told .given .1) in
+    (w .0, drawn-whole _ (factor-fine p) (filled-is q) (c .before .before .before .before .before .before .draw .ensures) (c .before .before .draw2 .ensures) ∙ w .1)
+
+pub downscale-spec : {M : Type 1} → statement M
+downscale-spec =
+    tie.close
+    (tie.spec
+    check-requires
+    enum-told
+    enum-told-2
+    returns
+    fill-requires
+    draw-requires
+    mul-draw
+    draw-requires-2
+    same-length
+    returns-2)

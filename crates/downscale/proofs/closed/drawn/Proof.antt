@@ -1,0 +1,37 @@
+-- `downscale::closed::drawn` meets its contract: the sum is at most 65,535 wholes.
+-- Assumes nothing.
+use Prim.Native.Nat.{_*_, _+_, _-_, _≤_}
+use native.Mathlib.Omega.{arith}
+use Rattle.downscale.specs.Closed.{drawn, drawn-speed}
+use Rattle.downscale.proofs.Rounding.{drawn-most}
+use borrow.Author.Needs.{needs}
+use Rattle.downscale.proofs.closed.drawn.Statement.{statement}
+use Rattle.downscale.proofs.closed.drawn.Tie as tie
+
+-- the sum, and so each product in it
+sum-most : (c : tie.Start) → (c .args .whole - c .args .parts) * c .args .speed + c .args .parts * c .args .rest ≤ c .args .whole * 65535
+unfolding drawn
+sum-most c = drawn-most (c .args .whole) (c .args .parts) (c .args .rest) (c .pre .parts) (c .args .speed) 65535 (omega arith) (c .pre .speed)
+
+sub-nearest : tie.Need-sub-nearest
+sub-nearest c = search needs
+
+mul-nearest : tie.Need-mul-nearest
+mul-nearest c = let h = sum-most c in search needs
+
+mul-nearest-2 : tie.Need-mul-nearest-2
+mul-nearest-2 c = let h = sum-most c in search needs
+
+add-nearest : tie.Need-add-nearest
+add-nearest c = let h = sum-most c in search needs
+
+nearest-requires : tie.Need-nearest-requires
+nearest-requires c κs = (c .pre .from, c .pre .to, sum-most c)
+
+returns : tie.Need-returns
+unfolding drawn-speed drawn
+returns c = c .nearest .ensures
+
+pub drawn-spec : {M : Type 1} → statement M
+drawn-spec =
+    tie.close (tie.spec sub-nearest mul-nearest mul-nearest-2 add-nearest nearest-requires returns)
