@@ -61,7 +61,13 @@ struct gearcard_vehicle {
        or its gear 0 or over 255
    16  bytes after the end                                            first of them
    18  part number not 0 to 4 (gearcard_cycle; before 2)              place 0
-   23  factor over 500 (gearcard_downscale; before 2)                 place 0 */
+   19  kind unknown or met twice (gearcard_export)                    byte where the record begins
+   20  not a finite number (gearcard_export)                          byte where the record begins
+   21  rounded value outside its field's bounds (gearcard_export)     byte where the record begins
+   22  ended with a kind missing (gearcard_export)                    byte where the record begins
+   23  factor over 500 (gearcard_downscale; before 2)                 place 0
+
+   gearcard_export gives the first fault of the export from left to right, 12 and 16 among them. */
 struct gearcard_verdict {
   uint32_t number;
   size_t place;
@@ -106,5 +112,19 @@ struct gearcard_part gearcard_cycle_part(uint32_t part, size_t room_length);
    of the extra high part from second 1533, the fall brought back to the cycle at 1763. The factor is in thousandths, 0 to 500; 0 gives the cycle. Speeds
    are worked out exactly and rounded once, to the nearest tenth of km/h, halves up. The parts stand where gearcard_cycle_part says. */
 struct gearcard_verdict gearcard_downscale(uint32_t factor, uint16_t *room, size_t room_length);
+
+/* What gearcard_export answers, in the units of struct gearcard_vehicle; where it refuses, all are 0. */
+struct gearcard_coefficients {
+  struct gearcard_verdict verdict;
+  uint16_t f0;
+  int32_t f1;
+  uint16_t f2;
+  uint16_t tm;
+};
+
+/* Reads the bench computer's export: records of a kind byte and single-precision floats, little-endian. Kind 1 carries f0, f1, f2 in N and km/h, kind 2
+   the test mass in kg, each exactly once and in either order; kind 0 ends it. Each number is the nearest whole number of its units to the exact
+   value of the float, halves away from zero, so -0.0 gives 0; accepted, it is within the bounds of its field. */
+struct gearcard_coefficients gearcard_export(const uint8_t *bytes, size_t length);
 
 #endif

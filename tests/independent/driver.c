@@ -2,16 +2,17 @@
    the other end, which so needs no link with the archive.
 
    A request: kind (u32), gear (u32), second (u64), the vehicle's fields in order; for the speeds, the holds and the third slice (the job where kind
-   is READ, else the card) the number of elements of the guard before it, of the slice and of the guard after it (u32 each); then the elements of the
-   three, guards included. An answer: number (u32), place (u64); where kind is READ the vehicle's fields and the count (u64); then the elements again.
-   Where kind is CYCLE or CYCLE_PART the second is the part's number and the speeds are the room; CYCLE_PART answers the count as number and the first
-   second as place. Where kind is DOWNSCALE the second is the factor. All little-endian, as x86-64 is. Exit 0 at the end of the requests, 2 where one is cut or past the limits here. */
+   is READ, the export where it is EXPORT, else the card) the number of elements of the guard before it, of the slice and of the guard after it (u32 each);
+   then the elements of the three, guards included. An answer: number (u32), place (u64); where kind is READ the vehicle's fields and the count (u64), where
+   it is EXPORT F0, F1, F2 and TM; then the elements again. Where kind is CYCLE or CYCLE_PART the second is the part's number and the speeds are the room;
+   CYCLE_PART answers the count as number and the first second as place. Where kind is DOWNSCALE the second is the factor. All little-endian, as x86-64 is.
+   Exit 0 at the end of the requests, 2 where one is cut or past the limits here. */
 #include "gearcard.h"
 
 #include <stdio.h>
 #include <stdlib.h>
 
-enum { READ, WORK, HOLD, CYCLE, CYCLE_PART, DOWNSCALE };
+enum { READ, WORK, HOLD, EXPORT, CYCLE, CYCLE_PART, DOWNSCALE };
 enum { SECONDS = 4096, BYTES = 32768 };
 
 struct span {
@@ -65,8 +66,12 @@ static void answer(uint32_t kind, uint32_t gear, uint64_t second, struct gearcar
   uint16_t *v = speeds + s.before;
   uint8_t *held = holds + h.before, *last = third + t.before;
   struct gearcard_job job;
+  struct gearcard_coefficients coefficients;
   struct gearcard_verdict verdict;
-  if (kind == READ) {
+  if (kind == EXPORT) {
+    coefficients = gearcard_export(last, t.length);
+    verdict = coefficients.verdict;
+  } else if (kind == READ) {
     job = gearcard_read(last, t.length, v, s.length, held, h.length);
     verdict = job.verdict;
   } else if (kind == WORK) {
@@ -87,6 +92,12 @@ static void answer(uint32_t kind, uint32_t gear, uint64_t second, struct gearcar
   if (kind == READ) {
     vehicle_fields(&job.vehicle, put);
     put(&job.count, sizeof job.count);
+  }
+  if (kind == EXPORT) {
+    put(&coefficients.f0, sizeof coefficients.f0);
+    put(&coefficients.f1, sizeof coefficients.f1);
+    put(&coefficients.f2, sizeof coefficients.f2);
+    put(&coefficients.tm, sizeof coefficients.tm);
   }
   put(speeds, all_speeds * sizeof *speeds);
   put(holds, all_holds);

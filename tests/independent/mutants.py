@@ -70,15 +70,41 @@ SLIPS = [
     ("v.n[0] <= v.idle &&", "v.n[0] <= v.idle + 1 &&"), ("v.n[0] <= v.idle &&", "v.n[0] < v.idle &&"), ("- 1] >= v.nmax", "- 1] + 1 >= v.nmax"), ("- 1] >= v.nmax", "- 1] > v.nmax"),
 ]]
 
-def run(k, name, old, new):
+# Slips in src/exports.rs.
+EXPORT_SLIPS = [
+    ("export: fraction cut off", "let rounded = size + half;", "let rounded = size;"),
+    ("export: halves to even", "let rounded = size + half;", "let exact = f32::from_bits(bits).abs() as f64 * units as f64;\n    let rounded = if exact < 1e15 { exact.round_ties_even() as i128 } else { size + half };"),
+    ("export: negative halves up", "        -rounded\n", "        let exact = f32::from_bits(bits) as f64 * units as f64;\n        if exact > -1e15 { (exact + 0.5).floor() as i128 } else { -rounded }\n"),
+    ("export: product in single precision", "let value = in_units(bits, field.units);", "let value = (f32::from_bits(bits) * field.units as f32).round() as i128;"),
+    ("export: -0.0 refused", "if value < field.least ||", "if (bits >> 31 == 1 && field.least == 0) || value < field.least ||"),
+    ("export: mass scaled", "TM: Field = Field { units: 1,", "TM: Field = Field { units: 10,"),
+    ("export: 20 after the record's bytes", "        let mut bits = 0;\n", "        if field.units == 10 && self.at + 12 > self.bytes.len() {\n            return Err((12, self.bytes.len()));\n        }\n        let mut bits = 0;\n"),
+    ("export: 21 before 20", "if !f32::from_bits(bits).is_finite() {\n            return Err((20, record));", "if !f32::from_bits(bits).is_finite() {\n            return Err((21, record));"),
+    ("export: 20 at its float", "return Err((20, record));", "return Err((20, self.at - 4));"),
+    ("export: 21 at its float", "return Err((21, record));", "return Err((21, self.at - 4));"),
+    ("export: kind 1 twice", "1 if loads.is_none() =>", "1 =>"),
+    ("export: kind 2 twice", "2 if mass.is_none() =>", "2 =>"),
+    ("export: 19 after the kind", "_ => return Err((19, record)),", "_ => return Err((19, reading.at)),"),
+    ("export: 22 after the end", "return Err((22, record))", "return Err((22, reading.at))"),
+    ("export: bytes after are taken", "if reading.at < bytes.len() {", "if reading.at + 1 < bytes.len() {"),
+] + [(f"export bound: {a}", a, b) for a, b in [
+    ("least: 0, most: 10_000", "least: -1, most: 10_000"), ("least: 0, most: 10_000", "least: 0, most: 10_001"), ("least: 0, most: 10_000", "least: 0, most: 9_999"),
+    ("least: -5_000", "least: -5_001"), ("least: -5_000", "least: -4_999"), ("most: 5_000", "most: 5_001"), ("most: 5_000", "most: 4_999"),
+    ("least: 0, most: 20_000", "least: -1, most: 20_000"), ("least: 0, most: 20_000", "least: 0, most: 20_001"), ("least: 0, most: 20_000", "least: 0, most: 19_999"),
+    ("least: 400", "least: 399"), ("least: 400", "least: 401"), ("most: 4_000", "most: 4_001"), ("most: 4_000", "most: 3_999"),
+]]
+SLIPS = [(*slip, "paper.rs") for slip in SLIPS] + [(*slip, "exports.rs") for slip in EXPORT_SLIPS]
+
+
+def run(k, name, old, new, file):
     here = os.path.join(OUT, "mutants", str(k))
     shutil.rmtree(here, ignore_errors=True)
     shutil.copytree(os.path.join(HERE, "src"), here)
-    if not replace(os.path.join(here, "paper.rs"), old, new):
+    if not replace(os.path.join(here, file), old, new):
         return f"{k} NOT APPLIED: {name}"
     # The paper's own sums would notice many a slip before any case does.
-    if not replace(os.path.join(here, "main.rs"), "    sums::check();\n", ""):
-        return f"{k} NOT APPLIED: sums::check() is not where it was"
+    if not replace(os.path.join(here, "main.rs"), "    sums::check();\n    exports::check();\n", ""):
+        return f"{k} NOT APPLIED: the checks of the sums are not where they were"
     made = subprocess.run(["rustc", "-C", "opt-level=0", "-C", "debug-assertions=off", "-A", "warnings", "--edition", "2021", "--crate-name", "independent", "main.rs", "-o", "out"], cwd=here, capture_output=True, text=True)
     if made.returncode:
         return f"{k} DOES NOT COMPILE: {name}: {made.stderr[:300]}"
@@ -99,9 +125,9 @@ def replace(path, old, new):
 
 ONLY = [int(word) for word in sys.argv[1:]]
 missed = 0
-for k, (name, old, new) in enumerate(SLIPS):
+for k, (name, old, new, file) in enumerate(SLIPS):
     if not ONLY or k in ONLY:
-        said = run(k, name, old, new)
+        said = run(k, name, old, new, file)
         missed += " noticed" not in said
         print(said, flush=True)
 print(f"{missed} not noticed of {len(ONLY or SLIPS)}")

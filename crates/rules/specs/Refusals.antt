@@ -8,7 +8,7 @@ use lib.ListN.{length}
 use lib.Dec.{leb, ltb, eqb}
 use Rattle.rules.specs.declared.Vehicle.{Vehicle}
 use Rattle.rules.specs.declared.Refusal.{Refusal}
-use Rattle.rules.specs.declared.Refusal.the-variants.{TraceLength, RoomLength, VehicleField, OutsideTrace, SpeedOver, StepOver, EndMoving, HoldOverNg, HoldStanding, HoldOverRev, NoGear, JobEndsEarly, BadGroup, BadVersion, BadHold, BytesAfter, BadPart, BadFactor}
+use Rattle.rules.specs.declared.Refusal.the-variants.{TraceLength, RoomLength, VehicleField, OutsideTrace, SpeedOver, StepOver, EndMoving, HoldOverNg, HoldStanding, HoldOverRev, NoGear, JobEndsEarly, BadGroup, BadVersion, BadHold, BytesAfter, BadPart, BadKind, NotFinite, OutOfBounds, KindMissing, BadFactor}
 use Rattle.rules.specs.declared.Answer.{Answer}
 use Rattle.rules.specs.declared.Answer.the-variants.{Done, Refused}
 use Rattle.rules.specs.Words.{if_then_else_, _and_, _or_, within, at, first}
@@ -38,6 +38,11 @@ number (BadHold b) = 15
 number (BytesAfter b) = 16
 -- document 02, request Three
 number BadPart = 18
+-- document 02, request Five
+number (BadKind b) = 19
+number (NotFinite b) = 20
+number (OutOfBounds b) = 21
+number (KindMissing b) = 22
 -- document 02, request Eleven
 number BadFactor = 23
 
@@ -60,6 +65,10 @@ place BadVersion = 0
 place (BadHold b) = b
 place (BytesAfter b) = b
 place BadPart = 0
+place (BadKind b) = b
+place (NotFinite b) = b
+place (OutOfBounds b) = b
+place (KindMissing b) = b
 place BadFactor = 0
 
 -- a number and a place

@@ -2,6 +2,7 @@
 -- Assumes nothing.
 use mathlib.Core.Path.{_≡_, refl, sym, _∙_}
 use Rattle.once.specs.Determined.{Determined}
+use Rattle.exports.proofs.Determined.{one-number}
 use Rattle.screen.proofs.gearcard_read.Kinds as read-kinds
 use Rattle.screen.proofs.gearcard_read.Reads as read-reads
 use Rattle.screen.proofs.gearcard_work.Kinds as work-kinds
@@ -14,6 +15,8 @@ use Rattle.screen.proofs.gearcard_cycle_part.Kinds as cycle-part-kinds
 use Rattle.screen.proofs.gearcard_cycle_part.Reads as cycle-part-reads
 use Rattle.screen.proofs.gearcard_downscale.Kinds as downscale-kinds
 use Rattle.screen.proofs.gearcard_downscale.Reads as downscale-reads
+use Rattle.screen.proofs.gearcard_export.Kinds as export-kinds
+use Rattle.screen.proofs.gearcard_export.Reads as export-reads
 
 pub gearcard-read : Determined read-kinds.ps read-kinds.r read-reads.Asked read-reads.Learnt
 gearcard-read κs a asked z z′ ws ws′ p q = (
@@ -40,3 +43,15 @@ gearcard-cycle-part κs a asked z z′ ws ws′ p q = (p ∙ sym q, refl)
 
 pub gearcard-downscale : Determined downscale-kinds.ps downscale-kinds.r downscale-reads.Asked downscale-reads.Learnt
 gearcard-downscale κs a asked z z′ ws ws′ p q = (p .0 ∙ sym (q .0), λ i. (tt, ((p .1 ∙ sym (q .1)) i, tt)))
+
+pub gearcard-export : Determined export-kinds.ps export-kinds.r export-reads.Asked export-reads.Learnt
+gearcard-export κs a asked z z′ ws ws′ p q = (
+  λ i. record {
+    verdict = (p .answered ∙ sym (q .answered)) i;
+    f0 = one-number (z .f0) (z′ .f0) (p .the-f0 ∙ sym (q .the-f0)) i;
+    f1 = (p .the-f1 ∙ sym (q .the-f1)) i;
+    f2 = one-number (z .f2) (z′ .f2) (p .the-f2 ∙ sym (q .the-f2)) i;
+    tm = one-number (z .tm) (z′ .tm) (p .the-tm ∙ sym (q .the-tm)) i;
+  },
+  refl,
+)

@@ -5,19 +5,22 @@ use mathlib.Core.Path.{_≡_, refl, sym, ap, _∙_}
 use mathlib.Core.Option.{Option, none, some}
 use mathlib.Core.List.{List}
 use lib.ListN.{length}
+use lib.IntN.{pos}
 use Rattle.rules.specs.declared.Answer.{Answer}
 use Rattle.rules.specs.declared.Answer.the-variants.{Done, Refused}
 use Rattle.rules.specs.Refusals.{Fault, said, answer-number, answer-place}
 use Rattle.rules.specs.Job.{job-read, read-fault, job-of, filled}
+use Rattle.exports.specs.Export.{export-read, numbers-of}
 use Rattle.screen.specs.declared.Verdict.{Verdict}
 use Rattle.screen.specs.declared.Job as screen
+use Rattle.screen.specs.declared.Coefficients.{Coefficients}
 
--- a refusal as the screen is as-verdict it
+-- a refusal as the screen is told it
 unfoldable pub as-verdict : Option Fault → Verdict
 as-verdict none = record { number = 0; place = 0 }
 as-verdict (some f) = record { number = f .no; place = f .spot }
 
--- an answer as the screen is as-verdict it
+-- an answer as the screen is told it
 abbrev pub says : Answer → Verdict
 says a = record { number = answer-number a; place = answer-place a }
 
@@ -34,3 +37,11 @@ pub record ScreenRead (job speeds holds : List ℕ) (r : screen.Job) (speeds′ 
   pub the-count : r .count ≡ length (job-of (job-read job (length speeds) (length holds)) .speeds)
   pub speeds-left : speeds′ ≡ filled speeds (job-of (job-read job (length speeds) (length holds)) .speeds)
   pub holds-left : holds′ ≡ filled holds (job-of (job-read job (length speeds) (length holds)) .holds)
+
+-- the answer r is what is read of the export; all 0 where it is refused
+pub record ScreenExport (bytes : List ℕ) (r : Coefficients) : Type 0 where
+  pub answered : r .verdict ≡ as-verdict (read-fault (export-read bytes 0))
+  pub the-f0 : pos (r .f0) ≡ numbers-of (export-read bytes 0) .f0
+  pub the-f1 : r .f1 ≡ numbers-of (export-read bytes 0) .f1
+  pub the-f2 : pos (r .f2) ≡ numbers-of (export-read bytes 0) .f2
+  pub the-tm : pos (r .tm) ≡ numbers-of (export-read bytes 0) .tm

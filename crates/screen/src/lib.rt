@@ -1,4 +1,4 @@
-// The C functions for driver's aid screens: thin wrappers over the reader, the working, the quick way and the built-in cycle. include/gearcard.h declares
+// The C functions for driver's aid screens: thin wrappers over the readers, the working, the quick way and the built-in cycle. include/gearcard.h declares
 // them.
 ghost use mathlib.Core.Path.{_≡_};
 ghost use Rattle.rules.specs.Refusals.{work-fault, work-card};
@@ -6,7 +6,7 @@ ghost use Rattle.rules.specs.Quick.{quick-fault, quick-holds, quick-card};
 ghost use lib.ListN.{length};
 ghost use Rattle.cycles.specs.Parts.{fill-fault, fill-room, stretch};
 ghost use Rattle.downscale.specs.Steps.{down-fault, down-room};
-ghost use Rattle.screen.specs.Screen.{says, as-verdict, ScreenRead};
+ghost use Rattle.screen.specs.Screen.{says, as-verdict, ScreenRead, ScreenExport};
 use cycles::Stretch;
 use rules::Answer;
 use rules::Vehicle;
@@ -24,6 +24,16 @@ pub struct Job {
     pub verdict: Verdict,
     pub vehicle: Vehicle,
     pub count: usize,
+}
+
+// What the export reader answers: where it refuses, all are 0.
+#[repr(C)]
+pub struct Coefficients {
+    pub verdict: Verdict,
+    pub f0: u16,
+    pub f1: i32,
+    pub f2: u16,
+    pub tm: u16,
 }
 
 fn verdict_of(answer: Answer) -> Verdict
@@ -110,4 +120,21 @@ pub extern "C" fn gearcard_downscale(factor: u32, room: &mut [u16]) -> Verdict
 {
     let answer = downscale::downscale(factor, room);
     verdict_of(answer)
+}
+
+// Reads the bench computer's export.
+#[no_mangle]
+pub extern "C" fn gearcard_export(bytes: &[u8]) -> Coefficients
+    ensures { λ r. ⌜ ScreenExport (now (bytes .entry)) r ⌝ }
+{
+    let export = exports::read_export(bytes);
+    let answer = export.answer;
+    let told = verdict_of(answer);
+    Coefficients {
+        verdict: told,
+        f0: export.f0,
+        f1: export.f1,
+        f2: export.f2,
+        tm: export.tm,
+    }
 }

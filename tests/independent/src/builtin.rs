@@ -8,7 +8,7 @@ use crate::rng::Rng;
 use std::path::Path;
 
 /// Apart from the kinds of a case and the drives.
-const KIND: u64 = 4;
+const KIND: u64 = 5;
 const SAMPLES: usize = 1801;
 const PARTS: [u32; 9] = [0, 1, 2, 3, 4, 5, 6, 256, u32::MAX];
 const ROOMS: [usize; 8] = [0, 1, 590, 1800, 1801, 1802, 2048, 4000];

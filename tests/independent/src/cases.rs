@@ -1,5 +1,6 @@
 //! One case of each kind: generation, the reference's answer, the library's, and their comparison.
 
+use crate::exports;
 use crate::jobs;
 use crate::library::{Library, Loan};
 use crate::paper::{self, Refusal};
@@ -8,7 +9,7 @@ use crate::traces;
 use crate::vehicle::Vehicle;
 use crate::vehicles;
 
-pub const KINDS: [&str; 3] = ["read", "work", "hold"];
+pub const KINDS: [&str; 4] = ["read", "work", "hold", "export"];
 
 /// The number of the answer (0: accepted), or a description of the mismatch.
 pub type Outcome = Result<u32, String>;
@@ -18,7 +19,8 @@ pub fn run(library: &mut Library, seed: u64, kind: usize, index: u64) -> Outcome
     let outcome = match kind {
         0 => read_case(library, &mut r),
         1 => work_case(library, &mut r),
-        _ => hold_case(library, &mut r),
+        2 => hold_case(library, &mut r),
+        _ => export_case(library, &mut r),
     };
     outcome.map_err(|why| format!("FAILED: gearcard_{}, seed {seed}, case {index}\n{why}", KINDS[kind]))
 }
@@ -247,4 +249,14 @@ fn rooms(r: &mut Rng, count: usize) -> (usize, usize) {
         _ => r.below(count + 1),
     };
     (one(r), one(r))
+}
+
+// ---------------------------------------------------------------- the bench's export
+
+fn export_case(library: &mut Library, r: &mut Rng) -> Outcome {
+    let bytes = exports::export(r);
+    let expected = exports::read(&bytes);
+    let loan = Loan::new(r, &[], &[], &bytes);
+    library.export(&loan, &expected).map_err(|why| format!("{why}\nexport ({}) {bytes:?}\nreference: {expected:?}", bytes.len()))?;
+    Ok(number(&expected))
 }

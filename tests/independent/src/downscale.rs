@@ -8,7 +8,7 @@ use crate::rng::Rng;
 use std::path::Path;
 
 /// Apart from the kinds of a case, the drives and the built-in cycle.
-const KIND: u64 = 5;
+const KIND: u64 = 6;
 const SAMPLES: usize = 1801;
 /// Where the scaled stretch begins, its highest speed, and the first second after it.
 const FIRST: usize = 1533;

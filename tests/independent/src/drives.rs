@@ -10,8 +10,8 @@ use crate::vehicle::{car_z, Vehicle};
 use crate::vehicles;
 use std::path::Path;
 
-/// Apart from the kinds of a case, whose numbers are 0 to 2.
-const KIND: u64 = 3;
+/// Apart from the kinds of a case, whose numbers are 0 to 3.
+const KIND: u64 = 4;
 const REALISTIC: usize = 6;
 /// Holds set by one car on one cycle, and as many cleared.
 const HOLDS: usize = 100;

@@ -1,5 +1,6 @@
 //! The library, called through driver.c: each lent slice lies inside a larger one, whose other places are compared too.
 
+use crate::exports::Coefficients;
 use crate::paper::{Job, Refusal};
 use crate::rng::Rng;
 use crate::vehicle::{Vehicle, ZERO};
@@ -105,7 +106,7 @@ impl<T: Wire> Lent<T> {
     }
 }
 
-/// What one call is lent besides the vehicle. The third is the card, or for a read the job.
+/// What one call is lent besides the vehicle. The third is the card, or for a read the job, or the export.
 #[derive(Clone)]
 pub struct Loan {
     speeds: Lent<u16>,
@@ -136,6 +137,7 @@ enum Call {
     Read,
     Work,
     Hold,
+    Export,
     Cycle,
     CyclePart,
     Downscale,
@@ -154,6 +156,8 @@ struct Answer {
     place: u64,
     /// With the count; of a read only.
     vehicle: Option<(Vehicle, u64)>,
+    /// Of an export only.
+    coefficients: Option<Coefficients>,
     loan: Loan,
 }
 
@@ -211,10 +215,14 @@ impl Library {
             Call::Read => Some((get_vehicle(from)?, u64::get(from)?)),
             _ => None,
         };
+        let coefficients = match request.call {
+            Call::Export => Some(Coefficients { f0: u16::get(from)?, f1: i32::get(from)?, f2: u16::get(from)?, tm: u16::get(from)? }),
+            _ => None,
+        };
         get_all(&mut loan.speeds.all, from)?;
         get_all(&mut loan.holds.all, from)?;
         get_all(&mut loan.third.all, from)?;
-        Ok(Answer { number, place, vehicle, loan })
+        Ok(Answer { number, place, vehicle, coefficients, loan })
     }
 
     /// No more requests: the driver then ends, and well.
@@ -284,5 +292,15 @@ impl Library {
         loan.third.compare("job", &answer.loan.third, &[])?;
         loan.speeds.compare("speeds", &answer.loan.speeds, speeds)?;
         loan.holds.compare("holds", &answer.loan.holds, holds)
+    }
+
+    pub fn export(&mut self, loan: &Loan, expected: &Result<Coefficients, Refusal>) -> Result<(), String> {
+        let answer = self.call(&Request { call: Call::Export, vehicle: &ZERO, second: 0, gear: 0, loan })?;
+        answer.compare(expected.as_ref().err().copied())?;
+        let wanted = expected.unwrap_or_default();
+        if answer.coefficients != Some(wanted) {
+            return Err(format!("coefficients: expected {wanted:?}, library {:?}", answer.coefficients));
+        }
+        loan.third.compare("export", &answer.loan.third, &[])
     }
 }

@@ -1,8 +1,8 @@
-//! Compares the gear card library with a working of its own, written from docs/01-scope.md alone.
+//! Compares the gear card library with a working of its own, written from docs/01-scope.md and, for exports, request Five of document 02 alone.
 //!
-//!   independent [--seed S] [--cases N] [--cycles DIR] -- DRIVER..    the cycles of DIR, the built-in and the scaled cycle, then N cases of each kind (read, work, hold)
+//!   independent [--seed S] [--cases N] [--cycles DIR] -- DRIVER..    the cycles of DIR, the built-in and the scaled cycle, then N cases of each kind (read, work, hold, export)
 //!   with --class-3 FILE: that job must have the speeds of the built-in cycle
-//!   independent [--seed S] --case KIND I -- DRIVER..                 one case again (KIND read, work or hold)
+//!   independent [--seed S] --case KIND I -- DRIVER..                 one case again (KIND read, work, hold or export)
 //!   independent --job FILE                                           what the card program would print of a job, from the reference alone
 
 mod builtin;
@@ -11,6 +11,7 @@ mod cycles;
 mod downscale;
 mod drives;
 mod events;
+mod exports;
 mod jobs;
 mod library;
 mod paper;
@@ -25,12 +26,16 @@ use std::path::Path;
 use std::process::exit;
 use std::time::{Duration, Instant};
 
-/// About two minutes for the three kinds together, on a quiet x86-64 machine.
+/// About two minutes for read, work and hold together, on a quiet x86-64 machine; with exports it was timed only beside other work.
 const DEFAULT_CASES: u64 = 600_000;
 const DEFAULT_SEED: u64 = 20_261_115;
 
 /// Answers by kind and number, 0 for accepted.
-type Counts = [[u64; 17]; 3];
+type Counts = [[u64; 23]; 4];
+
+/// The numbers of refusal, and those of an export.
+const NUMBERS: [usize; 20] = [1, 2, 3, 4, 5, 6, 7, 8, 9, 10, 11, 12, 13, 14, 15, 16, 19, 20, 21, 22];
+const OF_EXPORTS: [usize; 6] = [12, 16, 19, 20, 21, 22];
 
 struct Options {
     seed: u64,
@@ -112,16 +117,17 @@ fn one_case(mut library: Library, seed: u64, kind: usize, index: u64) -> Result<
 
 fn run(mut library: Library, options: &Options) -> Result<(), String> {
     sums::check();
+    exports::check();
     println!("the paper's own sums: agreed");
     if let Some(dir) = &options.cycles {
         drives::run(&mut library, options.seed, Path::new(dir))?;
         builtin::run(&mut library, options.seed, Path::new(dir), options.class_3.as_deref().map(Path::new))?;
         downscale::run(&mut library, options.seed, Path::new(dir))?;
     }
-    let mut met: Counts = [[0; 17]; 3];
-    let mut spent = [Duration::ZERO; 3];
+    let mut met: Counts = [[0; 23]; 4];
+    let mut spent = [Duration::ZERO; 4];
     for index in 0..options.cases {
-        for kind in 0..3 {
+        for kind in 0..cases::KINDS.len() {
             let start = Instant::now();
             let number = cases::run(&mut library, options.seed, kind, index)?;
             spent[kind] += start.elapsed();
@@ -139,16 +145,18 @@ fn run(mut library: Library, options: &Options) -> Result<(), String> {
 }
 
 fn print_counts(met: &Counts) {
-    println!("{:>9} {:>8} {:>8} {:>8}", "answer", "read", "work", "hold");
-    for number in 0..=16 {
+    println!("{:>9} {:>8} {:>8} {:>8} {:>8}", "answer", "read", "work", "hold", "export");
+    for number in std::iter::once(0).chain(NUMBERS) {
         let name = if number == 0 { String::from("accepted") } else { number.to_string() };
-        println!("{name:>9} {:>8} {:>8} {:>8}", met[0][number], met[1][number], met[2][number]);
+        println!("{name:>9} {:>8} {:>8} {:>8} {:>8}", met[0][number], met[1][number], met[2][number], met[3][number]);
     }
 }
 
 /// A refusal that no case met was not tested.
 fn all_met(met: &Counts) -> Result<(), String> {
-    let missed: Vec<String> = (1..=16).filter(|&number| met.iter().all(|counts| counts[number] == 0)).map(|number| number.to_string()).collect();
+    let by_none = NUMBERS.into_iter().filter(|&number| met.iter().all(|counts| counts[number] == 0));
+    let by_no_export = OF_EXPORTS.into_iter().filter(|&number| met[3][number] == 0);
+    let missed: Vec<String> = by_none.chain(by_no_export).map(|number| number.to_string()).collect();
     if missed.is_empty() {
         return Ok(());
     }

@@ -1,0 +1,14 @@
+-- `exports::Found::none_yet` meets its contract: 0.0 is the float of bits that are all 0.
+-- Assumes nothing.
+use mathlib.Core.Path.{refl}
+use lib.Ieee.{ofBits}
+use Rattle.exports.specs.Export.{none-yet}
+use Rattle.exports.proofs.Found.none_yet.Statement.{statement}
+use Rattle.exports.proofs.Found.none_yet.Tie as tie
+
+returns : tie.Need-returns
+unfolding ofBits none-yet
+returns c = refl
+
+pub none-yet-spec : {M : Type 1} → statement M
+none-yet-spec = tie.close (tie.spec returns)

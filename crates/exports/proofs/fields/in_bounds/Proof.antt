@@ -1,0 +1,46 @@
+-- `exports::fields::in_bounds` meets its contract: from 2^23 on a value is beyond every bound.
+-- Assumes nothing.
+use native.Mathlib.Omega.{arith}
+use mathlib.Core.Path.{sym}
+use mir.Facts.{toZ-ofZ}
+use Rattle.exports.specs.Fields.{units, in-bounds}
+use Rattle.exports.proofs.Values.{no-nan, beyond}
+use borrow.Author.Needs.{needs}
+use Rattle.exports.proofs.fields.in_bounds.Statement.{statement}
+use Rattle.exports.proofs.fields.in_bounds.Tie as tie
+
+float-to-bits-exponent : tie.Need-float-to-bits-exponent
+float-to-bits-exponent c = no-nan (c .args .x) (c .pre .0 .number)
+
+exponent-requires : tie.Need-exponent-requires
+exponent-requires c κs = search needs
+
+returns : tie.Need-returns
+returns c =
+    let s = c .before .before in
+    let e = c .before .exponent .ensures in
+    sym (beyond (s .args .field) (s .args .x) (s .pre .1) (s .pre .0) (omega arith))
+
+scaled-requires : tie.Need-scaled-requires
+scaled-requires c κs = search needs
+
+within-requires : tie.Need-within-requires
+within-requires c κs = search needs
+
+returns-2 : tie.Need-returns-2
+unfolding in-bounds units
+returns-2 c =
+    let s = c .before .before .before .before .before .before in
+    let v = c .before .before .before .scaled .ensures in
+    rw (← v .0) (rw (toZ-ofZ (s .pre .1 .lo-held), toZ-ofZ (s .pre .1 .hi-held), toZ-ofZ (v .1)) at (c .within .ensures))
+
+pub in-bounds-spec : {M : Type 1} → statement M
+in-bounds-spec =
+    tie.close
+    (tie.spec
+    float-to-bits-exponent
+    exponent-requires
+    returns
+    scaled-requires
+    within-requires
+    returns-2)

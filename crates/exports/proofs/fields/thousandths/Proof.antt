@@ -1,0 +1,23 @@
+-- `exports::fields::thousandths` meets its contract: F1 fits 32 bits.
+-- Assumes nothing.
+use mir.Facts.{toZ-ofZ}
+use Rattle.exports.specs.Fields.{F1, units}
+use Rattle.exports.proofs.Values.{moderate}
+use Rattle.exports.proofs.Sizes.{f1-short, f1-fair}
+use Rattle.exports.proofs.fields.thousandths.Statement.{statement}
+use Rattle.exports.proofs.fields.thousandths.Tie as tie
+
+scaled-requires : tie.Need-scaled-requires
+unfolding F1
+scaled-requires c κs = moderate F1 (c .args .x) f1-fair (c .pre)
+
+cast-result : tie.Need-cast-result
+unfolding F1 units
+cast-result c = rw (toZ-ofZ (c .scaled .ensures .1), c .scaled .ensures .0) (f1-short (c .before .args .x) (c .before .pre))
+
+returns : tie.Need-returns
+unfolding F1 units
+returns c = rw (toZ-ofZ (c .scaled .ensures .1), c .scaled .ensures .0) (toZ-ofZ (f1-short (c .before .args .x) (c .before .pre)))
+
+pub thousandths-spec : {M : Type 1} → statement M
+thousandths-spec = tie.close (tie.spec scaled-requires cast-result returns)

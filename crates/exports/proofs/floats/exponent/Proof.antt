@@ -1,0 +1,13 @@
+-- `exports::floats::exponent` meets its contract.
+-- Assumes nothing.
+use native.Mathlib.Omega.{arith}
+use Rattle.exports.specs.Bits.{exponent}
+use Rattle.exports.proofs.floats.exponent.Statement.{statement}
+use Rattle.exports.proofs.floats.exponent.Tie as tie
+
+returns : tie.Need-returns
+unfolding exponent
+returns c = omega arith
+
+pub exponent-spec : {M : Type 1} → statement M
+exponent-spec = tie.close (tie.spec returns)

@@ -1,0 +1,39 @@
+-- `exports::floats::scaled` meets its contract: the exact value's size, and the sign in front of it.
+-- Assumes nothing.
+use native.Mathlib.Omega.{arith}
+use Rattle.exports.proofs.Values.{no-nan}
+use Rattle.exports.proofs.Sizes.{plain, minus-short, turned}
+use borrow.Author.Needs.{needs}
+use Rattle.exports.proofs.floats.scaled.Statement.{statement}
+use Rattle.exports.proofs.floats.scaled.Tie as tie
+
+float-to-bits-bits : tie.Need-float-to-bits-bits
+float-to-bits-bits c = no-nan (c .args .x) (c .pre .number)
+
+size-of-requires : tie.Need-size-of-requires
+size-of-requires c κs = search needs
+
+cast-size : tie.Need-cast-size
+cast-size c = record { sfits = omega arith }
+
+returns : tie.Need-returns
+returns c =
+    let s = c .before .before in
+    let r = c .before .size-of in
+    plain (s .args .scale) (s .args .x) (s .pre) (r .result) (r .ensures .0) (r .ensures .1) (omega arith)
+
+sub-result : tie.Need-sub-result
+sub-result c =
+    let s = c .before .before in
+    let r = c .before .size-of in
+    minus-short (s .args .scale) (s .args .x) (s .pre) (r .result) (r .ensures .0) (r .ensures .1)
+
+returns-2 : tie.Need-returns-2
+returns-2 c =
+    let s = c .before .before in
+    let r = c .before .size-of in
+    turned (s .args .scale) (s .args .x) (s .pre) (r .result) (r .ensures .0) (r .ensures .1) (omega arith)
+
+pub scaled-spec : {M : Type 1} → statement M
+scaled-spec =
+    tie.close (tie.spec float-to-bits-bits size-of-requires cast-size returns sub-result returns-2)

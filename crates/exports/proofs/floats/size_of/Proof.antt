@@ -1,0 +1,77 @@
+-- `exports::floats::size_of` meets its contract: the product is below 2^41, and what is shifted away is less than a half.
+-- Assumes nothing.
+use native.Mathlib.Omega.{arith}
+use Prim.Native.Nat.{_*_}
+use mathlib.Core.Path.{sym, ap, _∙_}
+use Rattle.exports.specs.Bits.{size-of}
+use Rattle.exports.proofs.Sizes.{product-low, tiny-size, rounded, sum-low, rounded-low}
+use borrow.Author.Needs.{needs}
+use Rattle.exports.proofs.floats.size_of.Statement.{statement}
+use Rattle.exports.proofs.floats.size_of.Tie as tie
+
+significand-requires : tie.Need-significand-requires
+significand-requires c κs = search needs
+
+mul-product : tie.Need-mul-product
+mul-product c = let m = product-low (c .before .args .scale) (c .significand .result) (omega arith) (omega arith) in omega arith
+
+shift-requires : tie.Need-shift-requires
+shift-requires c κs = search needs
+
+returns : tie.Need-returns
+returns c =
+    let s = c .before .before .before in
+    let q = c .before .before .significand .ensures in
+    let t = c .before .shift .ensures in
+    let m = product-low (s .args .scale) (c .before .before .significand .result) (omega arith) (omega arith) in
+    (sym (tiny-size (s .args .scale) (s .args .bits) (rw (← q .0) m) (omega arith)), omega arith)
+
+mul-result : tie.Need-mul-result
+mul-result c =
+    let m = product-low (c .before .before .before .args .scale) (c .before .before .significand .result) (omega arith) (omega arith) in omega arith
+
+cast-result : tie.Need-cast-result
+cast-result c = search needs
+
+shl-result : tie.Need-shl-result
+shl-result c = search needs
+
+add-result : tie.Need-add-result
+add-result c =
+    let m = product-low (c .before .before .before .args .scale) (c .before .before .significand .result) (omega arith) (omega arith) in
+    let n = sum-low (c .before .before .before .args .scale * c .before .before .significand .result) (c .before .shift .result) m (omega arith) in omega arith
+
+add-result-2 : tie.Need-add-result-2
+add-result-2 c = search needs
+
+cast-result-2 : tie.Need-cast-result-2
+cast-result-2 c = search needs
+
+shr-result : tie.Need-shr-result
+shr-result c = search needs
+
+returns-2 : tie.Need-returns-2
+unfolding size-of
+returns-2 c =
+    let s = c .before .before .before in
+    let a = s .args .scale * c .before .before .significand .result in
+    let m = product-low (s .args .scale) (c .before .before .significand .result) (omega arith) (omega arith) in
+    let n = sum-low a (c .before .shift .result) m (omega arith) in
+    (rounded a (c .before .shift .result) (omega arith) ∙ rw (c .before .before .significand .ensures .0, c .before .shift .ensures .0), rounded-low _ (c .before .shift .result) n)
+
+pub size-of-spec : {M : Type 1} → statement M
+size-of-spec =
+    tie.close
+    (tie.spec
+    significand-requires
+    mul-product
+    shift-requires
+    returns
+    mul-result
+    cast-result
+    shl-result
+    add-result
+    add-result-2
+    cast-result-2
+    shr-result
+    returns-2)

@@ -1,0 +1,72 @@
+-- `exports::records::float_at` meets its contract: an exponent's field of 255 is an infinity or a NaN, and none other is.
+-- Assumes nothing.
+use native.Mathlib.Omega.{arith}
+use Prim.Native.Nat.{_+_, _<_, _≤_, _%_, _/_}
+use mathlib.Core.Path.{_≡_, sym, _∙_}
+use borrow.Author.Tests.{le-ltb}
+use lib.Ieee.Bits.{nanBits-above}
+use Rattle.exports.specs.Floats.{float-of}
+use Rattle.exports.specs.Bits.{exponent}
+use Rattle.exports.proofs.Ways.{comes, float-short, float-bad, float-good}
+use borrow.Author.Needs.{needs}
+use Rattle.exports.proofs.records.float_at.Statement.{statement}
+use Rattle.exports.proofs.records.float_at.Tie as tie
+
+returns : tie.Need-returns
+returns c =
+    let s = c .before .before in
+    (float-short (s .args .bytes .now) (s .args .spot) (s .args .at) (omega arith), tt)
+
+add-if2 : tie.Need-add-if2
+add-if2 c = search needs
+
+returns-2 : tie.Need-returns-2
+returns-2 c =
+    let s = c .before .before .before in
+    (float-short (s .args .bytes .now) (s .args .spot) (s .args .at) (omega arith), tt)
+
+bits-at-requires : tie.Need-bits-at-requires
+bits-at-requires c κs = search needs
+
+exponent-requires : tie.Need-exponent-requires
+exponent-requires c κs = search needs
+
+returns-3 : tie.Need-returns-3
+returns-3 c =
+    let b = c .before .before .bits-at in
+    let s = c .before .before .before .before .before .before in
+    (float-bad (s .args .bytes .now) (s .args .spot) (s .args .at) (omega arith) (rw (← b .ensures) (sym (c .before .exponent .ensures .0) ∙ c .if3 .taken)), tt)
+
+float-from-bits-t12 : tie.Need-float-from-bits-t12
+unfolding exponent
+float-from-bits-t12 c =
+    let b = c .before .before .bits-at .result in
+    let e = c .before .exponent .ensures in
+    let l : b % 2147483648 ≤ 2139095040 = omega arith in
+    rw (nanBits-above, le-ltb 2139095040 (b % 2147483648) l) tt
+
+add-t8 : tie.Need-add-t8
+add-t8 c = search needs
+
+returns-4 : tie.Need-returns-4
+unfolding float-of
+returns-4 c =
+    let b = c .before .before .bits-at in
+    let e = c .before .exponent .ensures in
+    let s = c .before .before .before .before .before .before in
+    let l : exponent (b .result) < 255 = omega arith in
+    rw (b .ensures) (float-good (s .args .bytes .now) (s .args .spot) (s .args .at) (omega arith) (rw (b .ensures) at l), comes _ (rw (b .ensures) at l))
+
+pub float-at-spec : {M : Type 1} → statement M
+float-at-spec =
+    tie.close
+    (tie.spec
+    returns
+    add-if2
+    returns-2
+    bits-at-requires
+    exponent-requires
+    returns-3
+    float-from-bits-t12
+    add-t8
+    returns-4)

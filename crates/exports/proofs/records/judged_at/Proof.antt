@@ -1,0 +1,57 @@
+-- `exports::records::judged_at` meets its contract: one law for each `return`.
+-- Assumes nothing.
+use mathlib.Core.Path.{sym, _∙_, ap}
+use borrow.Author.Tests.{not-true, not-false}
+use Rattle.exports.specs.Stages.{told, Comes}
+use Rattle.exports.proofs.Ways.{judged-stops, judged-out, judged-good}
+use borrow.Author.Needs.{needs}
+use Rattle.exports.proofs.records.judged_at.Statement.{statement}
+use Rattle.exports.proofs.records.judged_at.Tie as tie
+
+float-at-requires : tie.Need-float-at-requires
+float-at-requires c κs = search needs
+
+enum-known-number : tie.Need-enum-known-number
+enum-known-number c = search needs
+
+enum-told : tie.Need-enum-told
+enum-told c = search needs
+
+returns : tie.Need-returns
+returns c =
+    let r = c .before .before .float-at in
+    let s = c .before .before .before .before in
+    let g = c .enum-told .given .1 in
+    (rw g (judged-stops (s .args .bytes .now) (s .args .spot) (s .args .at) (s .args .field) (rw g at (r .ensures .0))), rw g tt)
+
+in-bounds-requires : tie.Need-in-bounds-requires
+in-bounds-requires c κs =
+    let s = c .before .before .before .before .before in
+    (rw (c .before .number .given .1) at (c .before .before .before .float-at .ensures .1), s .pre)
+
+returns-2 : tie.Need-returns-2
+returns-2 c =
+    let r = c .before .before .before .before .before .float-at in
+    let s = c .before .before .before .before .before .before .before in
+    let g = c .before .before .before .number .given .1 in
+    (judged-out (s .args .bytes .now) (s .args .spot) (s .args .at) (s .args .field) (rw g at (r .ensures .0)) (sym (c .before .in-bounds .ensures) ∙ not-true _ (c .if1 .taken)), tt)
+
+returns-3 : tie.Need-returns-3
+returns-3 c =
+    let r = c .before .before .before .before .before .float-at in
+    let s = c .before .before .before .before .before .before .before in
+    let g = c .before .before .before .number .given .1 in
+    let t = sym (c .before .in-bounds .ensures) ∙ not-false _ (c .if1 .left) in
+    (judged-good (s .args .bytes .now) (s .args .spot) (s .args .at) (s .args .field) (rw g at (r .ensures .0)) t, record { is = rw g at (r .ensures .1); bounded = t })
+
+pub judged-at-spec : {M : Type 1} → statement M
+judged-at-spec =
+    tie.close
+    (tie.spec
+    float-at-requires
+    enum-known-number
+    enum-told
+    returns
+    in-bounds-requires
+    returns-2
+    returns-3)

@@ -1,0 +1,39 @@
+-- `exports::records::mass_at` meets its contract: a fault is handed up, a float comes judged.
+-- Assumes nothing.
+use Rattle.exports.specs.Fields.{TM}
+use Rattle.exports.proofs.Ways.{mass-stops, mass-comes}
+use borrow.Author.Needs.{needs}
+use Rattle.exports.proofs.records.mass_at.Statement.{statement}
+use Rattle.exports.proofs.records.mass_at.Tie as tie
+
+judged-at-requires : tie.Need-judged-at-requires
+judged-at-requires c κs = search needs
+
+enum-known-m : tie.Need-enum-known-m
+enum-known-m c = search needs
+
+enum-told : tie.Need-enum-told
+enum-told c = search needs
+
+next-requires : tie.Need-next-requires
+next-requires c κs = search needs
+
+returns : tie.Need-returns
+unfolding TM
+returns c =
+    let s = c .before .before .before .before .before in
+    let r = c .before .before .before .judged-at in
+    let g = c .before .enum-told .given .1 in
+    (rw (c .next .ensures, g) (mass-stops (s .args .bytes .now) (s .args .spot) (s .args .at) (rw g at (r .ensures .0))), rw (c .next .ensures, g) (λ found t. tt))
+
+returns-2 : tie.Need-returns-2
+unfolding TM
+returns-2 c =
+    let s = c .before .before .before .before .before in
+    let r = c .before .before .before .judged-at in
+    let g = c .before .m .given .1 in
+    (mass-comes (s .args .bytes .now) (s .args .spot) (s .args .at) (rw g at (r .ensures .0)), λ found t. (t, rw g at (r .ensures .1)))
+
+pub mass-at-spec : {M : Type 1} → statement M
+mass-at-spec =
+    tie.close (tie.spec judged-at-requires enum-known-m enum-told next-requires returns returns-2)
