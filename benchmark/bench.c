@@ -132,8 +132,9 @@ static void short_trips(uint16_t *v, size_t n) {
 static const struct {
   verdict_t (*work)(car_t, const uint16_t *, size_t, const uint8_t *, size_t, uint8_t *, size_t);
   verdict_t (*hold)(car_t, const uint16_t *, size_t, uint8_t *, size_t, uint8_t *, size_t, size_t, uint8_t);
+  verdict_t (*release)(car_t, const uint16_t *, size_t, uint8_t *, size_t, uint8_t *, size_t, size_t);
   job_t (*read)(const uint8_t *, size_t, uint16_t *, size_t, uint8_t *, size_t);
-} sides[2] = {{gearcard_work, gearcard_hold, gearcard_read}, {twin_work, twin_hold, twin_read}};
+} sides[2] = {{gearcard_work, gearcard_hold, gearcard_release, gearcard_read}, {twin_work, twin_hold, twin_release, twin_read}};
 
 static uint16_t room_v[ROOM];
 static uint8_t room_h[ROOM];
@@ -151,8 +152,11 @@ static __attribute__((noinline)) void call(case_t *c, int twin, long reps) {
   case WORK:
     for (long r = 0; r < reps; r++) refused |= sides[twin].work(c->car, c->v, n, c->h, n, c->card, n).number;
     break;
-  case HOLD: /* held and cleared in turn */
-    for (long r = 0; r < reps; r++) refused |= sides[twin].hold(c->car, c->v, n, c->h, n, c->card, n, c->second, r & 1 ? 0 : c->gear).number;
+  case HOLD: /* held and released in turn */
+    for (long r = 0; r < reps; r++)
+      refused |= (r & 1 ? sides[twin].release(c->car, c->v, n, c->h, n, c->card, n, c->second)
+                        : sides[twin].hold(c->car, c->v, n, c->h, n, c->card, n, c->second, c->gear))
+                     .number;
     break;
   case READ:
     for (long r = 0; r < reps; r++) refused |= sides[twin].read(c->job, c->length, room_v, ROOM, room_h, ROOM).verdict.number;
@@ -196,6 +200,14 @@ static uint32_t same_hold(const car_t *car, const uint16_t *v, size_t n, uint8_t
   verdict_t a = gearcard_hold(*car, v, n, h, n, card, n, second, gear), b = twin_hold(*car, v, n, h2, n, c2, n, second, gear);
   if (memcmp(h, h2, n) || memcmp(card, c2, n)) stop("hold: bytes differ");
   return same_verdict("hold", a, b);
+}
+static uint32_t same_release(const car_t *car, const uint16_t *v, size_t n, uint8_t *h, uint8_t *card, size_t second) {
+  static uint8_t h2[ROOM + 64], c2[ROOM + 64];
+  memcpy(h2, h, n);
+  memcpy(c2, card, n);
+  verdict_t a = gearcard_release(*car, v, n, h, n, card, n, second), b = twin_release(*car, v, n, h2, n, c2, n, second);
+  if (memcmp(h, h2, n) || memcmp(card, c2, n)) stop("release: bytes differ");
+  return same_verdict("release", a, b);
 }
 static uint32_t same_read(const uint8_t *s, size_t len, size_t rs, size_t rh) {
   static uint16_t v1[ROOM + 64], v2[ROOM + 64];
@@ -277,6 +289,7 @@ static void random_checks(long rounds) {
       uint8_t gear = (uint8_t)rnd(car.ng + 1u + (rnd(6) == 0));
       if (rnd(20) == 0) gear = (uint8_t)rnd(256);
       same_hold(&car, v, n, h, card, second, gear);
+      if (rnd(3) == 0) same_release(&car, v, n, h, card, rnd(2) ? second : rnd((uint32_t)n + (rnd(8) == 0)));
     }
     if (no == 0) { /* the quick way gave what the whole working gives */
       uint8_t whole[ROOM];
@@ -453,8 +466,8 @@ int main(int argc, char **argv) {
       uint8_t h[ROOM], card[ROOM];
       memcpy(h, c->h, ROOM), memcpy(card, c->card, ROOM);
       no = same_hold(&c->car, c->v, c->count, h, card, c->second, c->gear);
-      no |= same_hold(&c->car, c->v, c->count, h, card, c->second, 0);
-      if (memcmp(card, c->card, c->count)) stop("hold and clear: not the card as it was");
+      no |= same_release(&c->car, c->v, c->count, h, card, c->second);
+      if (memcmp(card, c->card, c->count)) stop("hold and release: not the card as it was");
     }
     if (no) {
       fprintf(stderr, "%s is refused by %u\n", c->name, no);

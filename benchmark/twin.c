@@ -383,18 +383,19 @@ verdict_t twin_work(car_t vehicle, const uint16_t *v, size_t n, const uint8_t *h
   return say(0, 0);
 }
 
-verdict_t twin_hold(car_t vehicle, const uint16_t *v, size_t n, uint8_t *h, size_t nh, uint8_t *card, size_t nc, size_t second, uint8_t gear) {
-  verdict_t r = opening(&vehicle, n, nh, nc);
+/* A second's hold made gear: 0 releases it. A gear of 0 to hold comes as 255, which is above ng. */
+INLINE verdict_t edit(const car_t *vehicle, const uint16_t *v, size_t n, uint8_t *h, size_t nh, uint8_t *card, size_t nc, size_t second, uint8_t gear) {
+  verdict_t r = opening(vehicle, n, nh, nc);
   if (UNLIKELY(r.number)) return r;
   if (second >= n) return say(11, second);
   if (v[second] < 10) {
-    if (gear > vehicle.ng) return say(7, second);
+    if (gear > vehicle->ng) return say(7, second);
     if (gear) return say(8, second);
     h[second] = 0;
     return say(0, 0);
   }
   prep_t k;
-  prepare(&k, &vehicle);
+  prepare(&k, vehicle);
   size_t a = second, b = second + 1;
   while (a > 0 && v[a - 1] >= 10) a--;
   while (b < n && v[b] >= 10) b++;
@@ -404,6 +405,14 @@ verdict_t twin_hold(car_t vehicle, const uint16_t *v, size_t n, uint8_t *h, size
   h[second] = gear;
   trip(&k, v, h, card, a);
   return say(0, 0);
+}
+
+verdict_t twin_hold(car_t vehicle, const uint16_t *v, size_t n, uint8_t *h, size_t nh, uint8_t *card, size_t nc, size_t second, uint8_t gear) {
+  return edit(&vehicle, v, n, h, nh, card, nc, second, gear ? gear : 255);
+}
+
+verdict_t twin_release(car_t vehicle, const uint16_t *v, size_t n, uint8_t *h, size_t nh, uint8_t *card, size_t nc, size_t second) {
+  return edit(&vehicle, v, n, h, nh, card, nc, second, 0);
 }
 
 /* A group at *at into *out; 0, or the number of its fault. */

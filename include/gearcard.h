@@ -38,7 +38,7 @@ struct gearcard_vehicle {
 };
 
 /* The answer: number 0 and place 0 where it is accepted, else the refusal and its place. Seconds and bytes count from 0. Where several apply,
-   gearcard_work and gearcard_hold give the first in this order, at its lowest second; gearcard_read the first fault of the job from left to right.
+   gearcard_work, gearcard_hold and gearcard_release give the first in this order, at its lowest second; gearcard_read the first fault of the job from left to right.
 
     1  trace empty or over 2,048 seconds                              place 0
     2  holds or card not as long as the trace;                        place 0
@@ -46,11 +46,11 @@ struct gearcard_vehicle {
        in gearcard_cycle, a room under 1,801;
        in gearcard_downscale, a room not 1,801
     3  a vehicle field out of bounds, the first such                  field, 1 to 13
-   11  second outside the trace (gearcard_hold)                       second asked
+   11  second outside the trace (gearcard_hold, gearcard_release)     second asked
     4  speed over 2,000                                               second
     5  step from the second before over 150                           second
     6  first, then last, sample is moving                             second
-    7  hold above ng                                                  second
+    7  hold above ng; in gearcard_hold, gear 0                        second
     8  hold at a standing second                                      second
     9  held gear turns the engine past nmax                           second
    10  no gear fits, no hold                                          second
@@ -88,11 +88,18 @@ struct gearcard_job gearcard_read(const uint8_t *job, size_t job_length, uint16_
 struct gearcard_verdict gearcard_work(struct gearcard_vehicle vehicle, const uint16_t *speeds, size_t speeds_length, const uint8_t *holds,
                                       size_t holds_length, uint8_t *card, size_t card_length);
 
-/* Holds one second in a gear, or clears it with gear 0: writes the hold, and re-works the card for that second's trip and the standing second before
-   it. Of the trace it checks these and the standing second after, and no others. Where the card was the right one for the holds, it is then the one
-   that gearcard_work would give for the new holds. At a standing second 0 is accepted, and only its hold written; a gear is refused. */
+/* Holding and releasing are two buttons. Each writes the second's hold, and re-works the card for that second's trip and the standing second before it.
+   Of the trace it checks these and the standing second after, and no others. Where the card was the right one for the holds, it is then the one that
+   gearcard_work would give for the new holds. */
+
+/* Holds one second in a gear from 1. Gear 0 is refused by 7, in the order above; at a standing second every gear is refused. */
 struct gearcard_verdict gearcard_hold(struct gearcard_vehicle vehicle, const uint16_t *speeds, size_t speeds_length, uint8_t *holds, size_t holds_length,
                                       uint8_t *card, size_t card_length, size_t second, uint8_t gear);
+
+/* Releases one second: its hold becomes 0. A free second is worked like any other, so where the card was right no byte changes. At a standing second
+   only the hold is written. */
+struct gearcard_verdict gearcard_release(struct gearcard_vehicle vehicle, const uint16_t *speeds, size_t speeds_length, uint8_t *holds,
+                                         size_t holds_length, uint8_t *card, size_t card_length, size_t second);
 
 /* Fills the first 1,801 places of the room with the Class 3 cycle for top speeds of 120 km/h and over, the whole of it whatever the part. Room beyond is
    untouched. Part 0 is the whole cycle, 1 to 4 are Low, Medium, High and Extra High. */

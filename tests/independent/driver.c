@@ -12,7 +12,7 @@
 #include <stdio.h>
 #include <stdlib.h>
 
-enum { READ, WORK, HOLD, EXPORT, CYCLE, CYCLE_PART, DOWNSCALE };
+enum { READ, WORK, HOLD, RELEASE, EXPORT, CYCLE, CYCLE_PART, DOWNSCALE };
 enum { SECONDS = 4096, BYTES = 32768 };
 
 struct span {
@@ -78,6 +78,8 @@ static void answer(uint32_t kind, uint32_t gear, uint64_t second, struct gearcar
     verdict = gearcard_work(vehicle, v, s.length, held, h.length, last, t.length);
   } else if (kind == HOLD) {
     verdict = gearcard_hold(vehicle, v, s.length, held, h.length, last, t.length, second, (uint8_t)gear);
+  } else if (kind == RELEASE) {
+    verdict = gearcard_release(vehicle, v, s.length, held, h.length, last, t.length, second);
   } else if (kind == CYCLE) {
     verdict = gearcard_cycle((uint32_t)second, v, s.length);
   } else if (kind == DOWNSCALE) {

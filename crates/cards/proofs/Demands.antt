@@ -1,4 +1,4 @@
--- The three demands, over the contracts of `work` and `hold` as the check reads them, and document 01's definitions.
+-- The three demands, over the contracts of `work`, `hold` and `release` as the check reads them, and document 01's definitions.
 -- Assumes nothing.
 use Prim.Native.Nat.{ℕ, suc, _+_, _-_, _≤_, _<_, _%_}
 use native.Mathlib.Nat.{zero-add}
@@ -22,15 +22,18 @@ use Rattle.rules.specs.Units.{moving, stop}
 use Rattle.rules.specs.Corrections.{gear-at, byte, card-at, card}
 use Rattle.rules.specs.Refusals.{Fault, said, room-fault, work-fault, left, work-card, second-fault, edit-fault}
 use Rattle.rules.specs.Quick.{span-lo, quick-fault, quick-holds, quick-card}
+use Rattle.rules.specs.Holds.{asked, hold-fault, hold-holds, hold-card, release-fault, release-holds, release-card}
 use Rattle.rules.specs.Vocabulary.{Wanting, PassesOthers, Out}
 use Rattle.rules.proofs.Laws.Words.{at-table, length-table}
 use Rattle.rules.proofs.Laws.Refusals.{said-once}
 use Rattle.rules.proofs.Laws.Checks.{orelse-none, when-none, rooms-in, accepted}
-use Rattle.rules.proofs.Theorems.{want-of-a-gear, quick-as-whole, card-untouched, card-untouched-standing, holds-untouched, hold-shown}
+use Rattle.rules.proofs.Theorems.{want-of-a-gear, quick-as-whole, card-untouched, card-untouched-standing, holds-untouched, hold-as-whole, release-as-whole, released-free, none-held-by-7, held-shown}
 use Rattle.cards.proofs.whole.work.Kinds as work-kinds
 use Rattle.cards.proofs.whole.work.Reads as work-reads
-use Rattle.cards.proofs.quick.hold.Kinds as hold-kinds
-use Rattle.cards.proofs.quick.hold.Reads as hold-reads
+use Rattle.cards.proofs.buttons.hold.Kinds as hold-kinds
+use Rattle.cards.proofs.buttons.hold.Reads as hold-reads
+use Rattle.cards.proofs.buttons.release.Kinds as release-kinds
+use Rattle.cards.proofs.buttons.release.Reads as release-reads
 
 -- ---- what the contract of `work` says
 
@@ -44,20 +47,44 @@ pub work-says : (κs : Lfts 2) (a : Dens κs work-kinds.ps) → work-reads.Asked
     → Worked (a .0) (now (a .1 .0)) (now (a .1 .1 .0)) (now (a .1 .1 .1 .0)) z (ws .1 .1 .1 .0)
 work-says κs a asked z ws p = record { answer = p .0; card-left = p .1 }
 
--- ---- and that of `hold`
+-- ---- and those of `hold` and `release`
 
 -- an answer, and the holds and the card that are left
 pub record HeldBy (car : Vehicle) (vs hs old : List ℕ) (s g : ℕ) (z : Answer) (ks new : List ℕ) : Type 0 where
-  pub answer : said z ≡ quick-fault car vs hs old s g
-  pub holds-left : ks ≡ quick-holds car vs hs old s g
-  pub card-left : new ≡ quick-card car vs hs old s g
+  pub answer : said z ≡ hold-fault car vs hs old s g
+  pub holds-left : ks ≡ hold-holds car vs hs old s g
+  pub card-left : new ≡ hold-card car vs hs old s g
 
 pub hold-says : (κs : Lfts 3) (a : Dens κs hold-kinds.ps) → hold-reads.Asked κs a → (z : resT hold-kinds.r κs .Denot) (ws : Lasts (endedOf 3 hold-kinds.ps hold-kinds.r) κs a)
     → hold-reads.Learnt κs a z (atExit (endedOf 3 hold-kinds.ps hold-kinds.r) κs a ws)
     → HeldBy (a .0) (now (a .1 .0)) (now (a .1 .1 .0)) (now (a .1 .1 .1 .0)) (a .1 .1 .1 .1 .0) (a .1 .1 .1 .1 .1 .0) z (ws .1 .1 .0) (ws .1 .1 .1 .0)
 hold-says κs a asked z ws p = record { answer = p .0; holds-left = p .1 .0; card-left = p .1 .1 }
 
--- ---- Demand 1. Every input gets an answer (neither function asks anything of its caller), refused by number and place exactly where the
+pub record ReleasedBy (car : Vehicle) (vs hs old : List ℕ) (s : ℕ) (z : Answer) (ks new : List ℕ) : Type 0 where
+  pub answer : said z ≡ release-fault car vs hs old s
+  pub holds-left : ks ≡ release-holds car vs hs old s
+  pub card-left : new ≡ release-card car vs hs old s
+
+pub release-says : (κs : Lfts 3) (a : Dens κs release-kinds.ps) → release-reads.Asked κs a → (z : resT release-kinds.r κs .Denot) (ws : Lasts (endedOf 3 release-kinds.ps release-kinds.r) κs a)
+    → release-reads.Learnt κs a z (atExit (endedOf 3 release-kinds.ps release-kinds.r) κs a ws)
+    → ReleasedBy (a .0) (now (a .1 .0)) (now (a .1 .1 .0)) (now (a .1 .1 .1 .0)) (a .1 .1 .1 .1 .0) z (ws .1 .1 .0) (ws .1 .1 .1 .0)
+release-says κs a asked z ws p = record { answer = p .0; holds-left = p .1 .0; card-left = p .1 .1 }
+
+-- both are one edit: its hold byte g is the gear that is asked for, or 0
+record EditedBy (car : Vehicle) (vs hs old : List ℕ) (s g : ℕ) (z : Answer) (ks new : List ℕ) : Type 0 where
+  pub answer : said z ≡ quick-fault car vs hs old s g
+  pub holds-left : ks ≡ quick-holds car vs hs old s g
+  pub card-left : new ≡ quick-card car vs hs old s g
+
+a-hold : {car : Vehicle} {vs hs old : List ℕ} {s g : ℕ} {z : Answer} {ks new : List ℕ} → HeldBy car vs hs old s g z ks new → EditedBy car vs hs old s (asked g) z ks new
+unfolding hold-fault hold-holds hold-card
+a-hold H = record { answer = H .answer; holds-left = H .holds-left; card-left = H .card-left }
+
+a-release : {car : Vehicle} {vs hs old : List ℕ} {s : ℕ} {z : Answer} {ks new : List ℕ} → ReleasedBy car vs hs old s z ks new → EditedBy car vs hs old s 0 z ks new
+unfolding release-fault release-holds release-card
+a-release H = record { answer = H .answer; holds-left = H .holds-left; card-left = H .card-left }
+
+-- ---- Demand 1. Every input gets an answer (no function asks anything of its caller), refused by number and place exactly where the
 -- table says, and a refusal changes no byte
 
 left-alone : {f : Option Fault} {q : Fault} (old new : List ℕ) → f ≡ some q → left f old new ≡ old
@@ -72,13 +99,24 @@ module _ {car : Vehicle} {vs hs old : List ℕ} {z : Answer} {new : List ℕ} (W
   unfolding work-card
   demand-1-untouched q e = W .card-left ∙ left-alone old (card car vs hs) (sym (W .answer) ∙ e)
 
+-- an edit that is refused leaves holds and card
+edit-untouched : {car : Vehicle} {vs hs old : List ℕ} {s g : ℕ} {z : Answer} {ks new : List ℕ} → EditedBy car vs hs old s g z ks new → (q : Fault) → said z ≡ some q → (ks ≡ hs) × (new ≡ old)
+unfolding quick-holds quick-card
+edit-untouched {car} {vs} {hs} {old} E q e = let f = sym (E .answer) ∙ e in (E .holds-left ∙ left-alone hs _ f, E .card-left ∙ left-alone old _ f)
+
 module _ {car : Vehicle} {vs hs old : List ℕ} {s g : ℕ} {z : Answer} {ks new : List ℕ} (H : HeldBy car vs hs old s g z ks new) where
-  pub demand-1-table-hold : said z ≡ quick-fault car vs hs old s g
+  pub demand-1-table-hold : said z ≡ hold-fault car vs hs old s g
   demand-1-table-hold = H .answer
 
   pub demand-1-untouched-hold : (q : Fault) → said z ≡ some q → (ks ≡ hs) × (new ≡ old)
-  unfolding quick-holds quick-card
-  demand-1-untouched-hold q e = let f = sym (H .answer) ∙ e in (H .holds-left ∙ left-alone hs _ f, H .card-left ∙ left-alone old _ f)
+  demand-1-untouched-hold = edit-untouched (a-hold H)
+
+module _ {car : Vehicle} {vs hs old : List ℕ} {s : ℕ} {z : Answer} {ks new : List ℕ} (H : ReleasedBy car vs hs old s z ks new) where
+  pub demand-1-table-release : said z ≡ release-fault car vs hs old s
+  demand-1-table-release = H .answer
+
+  pub demand-1-untouched-release : (q : Fault) → said z ≡ some q → (ks ≡ hs) × (new ≡ old)
+  demand-1-untouched-release = edit-untouched (a-release H)
 
 -- ---- Demand 2. An accepted trace gets, at every second, the gear and clutch that document 01 prescribes
 
@@ -95,7 +133,7 @@ module _ {car : Vehicle} {vs hs old : List ℕ} {z : Answer} {new : List ℕ} (W
   pub demand-2-want : PassesOthers car vs hs old → ((i : ℕ) × (said z ≡ some (record { no = 10; spot = i }))) ↔ ((i : ℕ) × Wanting car vs hs i)
   demand-2-want P = let t = want-of-a-gear car vs hs old P in (λ r. t .0 (r .0, sym (W .answer) ∙ r .1), λ w. let r = t .1 w in (r .0, W .answer ∙ r .1))
 
--- what an accepted hold leaves
+-- what an accepted edit leaves
 accepted-card : (car : Vehicle) (vs hs old : List ℕ) → work-fault car vs hs old ≡ none → work-card car vs hs old ≡ card car vs hs
 unfolding work-card left
 accepted-card car vs hs old e = rw e
@@ -127,33 +165,23 @@ pub record Right (car : Vehicle) (vs hs old : List ℕ) : Type 0 where
   pub accepted : work-fault car vs hs old ≡ none
   pub its-card : old ≡ card car vs hs
 
-module _ {car : Vehicle} {vs hs old : List ℕ} {s g : ℕ} {z : Answer} {ks new : List ℕ} (H : HeldBy car vs hs old s g z ks new) where
-  -- the very card, or the very refusal, that working the whole trace afresh would give
-  pub demand-3-as-whole : Right car vs hs old → s < length vs → {y : Answer} {fresh : List ℕ} → Worked car vs (set hs s g) old y fresh → (z ≡ y) × (new ≡ fresh)
-  demand-3-as-whole R l {y} W =
-      let t = quick-as-whole car vs hs old s g (R .accepted) (R .its-card) l in
-      (said-once z y (H .answer ∙ t .0 ∙ sym (W .answer)), H .card-left ∙ t .1 ∙ sym (W .card-left))
+-- of the one edit
 
-  -- a held second shows the held gear
-  pub demand-3-shows : said z ≡ none → g ≢ 0 → at new s % 16 ≡ g
-  demand-3-shows e n = ap (λ (c : List ℕ). at c s % 16) (H .card-left) ∙ hold-shown car vs hs old s g (sym (H .answer) ∙ e) n
+module _ {car : Vehicle} {vs hs old : List ℕ} {s g : ℕ} {z : Answer} {ks new : List ℕ} (E : EditedBy car vs hs old s g z ks new) where
+  edit-frame : (i : ℕ) → Out (span-lo vs s) (stop vs s) i → at new i ≡ at old i
+  edit-frame i o = ap (λ (c : List ℕ). at c i) (E .card-left) ∙ card-untouched car vs hs old s g i o
 
-  -- whether the card was right or not, outside that second, its trip and the one standing second before it, no byte changes
-  pub demand-3-frame : (i : ℕ) → Out (span-lo vs s) (stop vs s) i → at new i ≡ at old i
-  demand-3-frame i o = ap (λ (c : List ℕ). at c i) (H .card-left) ∙ card-untouched car vs hs old s g i o
+  edit-frame-standing : moving (at vs s) ≡ false → new ≡ old
+  edit-frame-standing r = E .card-left ∙ card-untouched-standing car vs hs old s g r
 
-  pub demand-3-frame-standing : moving (at vs s) ≡ false → new ≡ old
-  demand-3-frame-standing r = H .card-left ∙ card-untouched-standing car vs hs old s g r
+  edit-frame-holds : (i : ℕ) → i ≢ s → at ks i ≡ at hs i
+  edit-frame-holds i n = ap (λ (c : List ℕ). at c i) (E .holds-left) ∙ holds-untouched car vs hs old s g i n
 
-  pub demand-3-frame-holds : (i : ℕ) → i ≢ s → at ks i ≡ at hs i
-  demand-3-frame-holds i n = ap (λ (c : List ℕ). at c i) (H .holds-left) ∙ holds-untouched car vs hs old s g i n
-
-  -- a right card stays right
-  pub demand-3-stays : Right car vs hs old → Right car vs ks new
-  demand-3-stays R = by-answer (quick-fault car vs hs old s g) refl
+  edit-stays : Right car vs hs old → Right car vs ks new
+  edit-stays R = by-answer (quick-fault car vs hs old s g) refl
     where
       kept : {f : Fault} → quick-fault car vs hs old s g ≡ some f → Right car vs ks new
-      kept {f} e = let u = demand-1-untouched-hold H f (H .answer ∙ e) in rw (u .0, u .1) R
+      kept {f} e = let u = edit-untouched E f (E .answer ∙ e) in rw (u .0, u .1) R
 
       by-answer : (f : Option Fault) → quick-fault car vs hs old s g ≡ f → Right car vs ks new
       by-answer (some f) e = kept e
@@ -161,16 +189,75 @@ module _ {car : Vehicle} {vs hs old : List ℕ} {s g : ℕ} {z : Answer} {ks new
           let l = accepted-in car vs hs old s g e in
           let t = quick-as-whole car vs hs old s g (R .accepted) (R .its-card) l in
           let w : work-fault car vs (set hs s g) old ≡ none = sym (t .0) ∙ e in
-          let c : new ≡ card car vs (set hs s g) = H .card-left ∙ t .1 ∙ accepted-card car vs (set hs s g) old w in
-          let k : ks ≡ set hs s g = H .holds-left ∙ accepted-holds car vs hs old s g e in
+          let c : new ≡ card car vs (set hs s g) = E .card-left ∙ t .1 ∙ accepted-card car vs (set hs s g) old w in
+          let k : ks ≡ set hs s g = E .holds-left ∙ accepted-holds car vs hs old s g e in
           rw k (record { accepted = same-room car vs (set hs s g) old new (c ∙ sym (accepted-card car vs (set hs s g) old w)) w; its-card = c })
 
--- a run of holds, one after the other
+-- of holding
+
+module _ {car : Vehicle} {vs hs old : List ℕ} {s g : ℕ} {z : Answer} {ks new : List ℕ} (H : HeldBy car vs hs old s g z ks new) where
+  -- the very card, or the very refusal, that working the whole trace afresh would give; for gears from 1
+  pub demand-3-as-whole : 1 ≤ g → Right car vs hs old → s < length vs → {y : Answer} {fresh : List ℕ} → Worked car vs (set hs s g) old y fresh → (z ≡ y) × (new ≡ fresh)
+  demand-3-as-whole h R l {y} W =
+      let t = hold-as-whole car vs hs old s (R .accepted) (R .its-card) l g h in
+      (said-once z y (H .answer ∙ t .0 ∙ sym (W .answer)), H .card-left ∙ t .1 ∙ sym (W .card-left))
+
+  -- gear 0 is refused by 7 at that second
+  pub demand-3-none-held : g ≡ 0 → Right car vs hs old → s < length vs → said z ≡ some (record { no = 7; spot = s })
+  demand-3-none-held e R l = H .answer ∙ rw e (none-held-by-7 car vs hs old s (R .accepted) (R .its-card) l)
+
+  -- a held second shows the held gear
+  pub demand-3-shows : said z ≡ none → at new s % 16 ≡ g
+  demand-3-shows e = ap (λ (c : List ℕ). at c s % 16) (H .card-left) ∙ held-shown car vs hs old s g (sym (H .answer) ∙ e)
+
+  -- whether the card was right or not, outside that second, its trip and the one standing second before it, no byte changes
+  pub demand-3-frame : (i : ℕ) → Out (span-lo vs s) (stop vs s) i → at new i ≡ at old i
+  demand-3-frame = edit-frame (a-hold H)
+
+  pub demand-3-frame-standing : moving (at vs s) ≡ false → new ≡ old
+  demand-3-frame-standing = edit-frame-standing (a-hold H)
+
+  pub demand-3-frame-holds : (i : ℕ) → i ≢ s → at ks i ≡ at hs i
+  demand-3-frame-holds = edit-frame-holds (a-hold H)
+
+  -- a right card stays right
+  pub demand-3-stays : Right car vs hs old → Right car vs ks new
+  demand-3-stays = edit-stays (a-hold H)
+
+-- of releasing, the same
+
+module _ {car : Vehicle} {vs hs old : List ℕ} {s : ℕ} {z : Answer} {ks new : List ℕ} (H : ReleasedBy car vs hs old s z ks new) where
+  pub demand-3-as-whole-release : Right car vs hs old → s < length vs → {y : Answer} {fresh : List ℕ} → Worked car vs (set hs s 0) old y fresh → (z ≡ y) × (new ≡ fresh)
+  demand-3-as-whole-release R l {y} W =
+      let t = release-as-whole car vs hs old s (R .accepted) (R .its-card) l in
+      (said-once z y (H .answer ∙ t .0 ∙ sym (W .answer)), H .card-left ∙ t .1 ∙ sym (W .card-left))
+
+  -- a free second is worked like any other, and no byte changes
+  pub demand-3-free-release : Right car vs hs old → s < length vs → at hs s ≡ 0 → (said z ≡ none) × (ks ≡ hs) × (new ≡ old)
+  demand-3-free-release R l e =
+      let t = released-free car vs hs old s (R .accepted) (R .its-card) l e in
+      (H .answer ∙ t .0, H .holds-left ∙ t .1, H .card-left ∙ t .2)
+
+  pub demand-3-frame-release : (i : ℕ) → Out (span-lo vs s) (stop vs s) i → at new i ≡ at old i
+  demand-3-frame-release = edit-frame (a-release H)
+
+  pub demand-3-frame-standing-release : moving (at vs s) ≡ false → new ≡ old
+  demand-3-frame-standing-release = edit-frame-standing (a-release H)
+
+  pub demand-3-frame-holds-release : (i : ℕ) → i ≢ s → at ks i ≡ at hs i
+  demand-3-frame-holds-release = edit-frame-holds (a-release H)
+
+  pub demand-3-stays-release : Right car vs hs old → Right car vs ks new
+  demand-3-stays-release = edit-stays (a-release H)
+
+-- a run of holds and releases, one after the other, each perhaps refused
 pub data Run (car : Vehicle) (vs : List ℕ) : List ℕ → List ℕ → List ℕ → List ℕ → Type 0 where
   no-more : {hs old : List ℕ} → Run car vs hs old hs old
-  then : {hs old ks new ls last : List ℕ} {s g : ℕ} {z : Answer} → HeldBy car vs hs old s g z ks new → Run car vs ks new ls last → Run car vs hs old ls last
+  then-hold : {hs old ks new ls last : List ℕ} {s g : ℕ} {z : Answer} → HeldBy car vs hs old s g z ks new → Run car vs ks new ls last → Run car vs hs old ls last
+  then-release : {hs old ks new ls last : List ℕ} {s : ℕ} {z : Answer} → ReleasedBy car vs hs old s z ks new → Run car vs ks new ls last → Run car vs hs old ls last
 
 -- any sequence of quick edits from a right card ends in the right card of the final holds
 pub demand-3-run : {car : Vehicle} {vs hs old ks new : List ℕ} → Run car vs hs old ks new → Right car vs hs old → Right car vs ks new
 demand-3-run no-more R = R
-demand-3-run (then H r) R = demand-3-run r (demand-3-stays H R)
+demand-3-run (then-hold H r) R = demand-3-run r (demand-3-stays H R)
+demand-3-run (then-release H r) R = demand-3-run r (demand-3-stays-release H R)

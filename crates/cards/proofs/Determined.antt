@@ -7,8 +7,10 @@ use Rattle.rules.proofs.Laws.Refusals.{said-once}
 use Rattle.once.specs.Determined.{Determined}
 use Rattle.cards.proofs.whole.work.Kinds as work-kinds
 use Rattle.cards.proofs.whole.work.Reads as work-reads
-use Rattle.cards.proofs.quick.hold.Kinds as hold-kinds
-use Rattle.cards.proofs.quick.hold.Reads as hold-reads
+use Rattle.cards.proofs.buttons.hold.Kinds as hold-kinds
+use Rattle.cards.proofs.buttons.hold.Reads as hold-reads
+use Rattle.cards.proofs.buttons.release.Kinds as release-kinds
+use Rattle.cards.proofs.buttons.release.Reads as release-reads
 
 pub work : Determined work-kinds.ps work-kinds.r work-reads.Asked work-reads.Learnt
 work κs a asked z z′ ws ws′ p q = (said-once z z′ (p .0 ∙ sym (q .0)), ap (λ (x : List ℕ). (tt, (tt, (tt, (x, tt))))) (p .1 ∙ sym (q .1)))
@@ -16,3 +18,7 @@ work κs a asked z z′ ws ws′ p q = (said-once z z′ (p .0 ∙ sym (q .0)), 
 pub hold : Determined hold-kinds.ps hold-kinds.r hold-reads.Asked hold-reads.Learnt
 hold κs a asked z z′ ws ws′ p q =
     (said-once z z′ (p .0 ∙ sym (q .0)), λ i. (tt, (tt, ((p .1 .0 ∙ sym (q .1 .0)) i, ((p .1 .1 ∙ sym (q .1 .1)) i, (tt, (tt, tt)))))))
+
+pub release : Determined release-kinds.ps release-kinds.r release-reads.Asked release-reads.Learnt
+release κs a asked z z′ ws ws′ p q =
+    (said-once z z′ (p .0 ∙ sym (q .0)), λ i. (tt, (tt, ((p .1 .0 ∙ sym (q .1 .0)) i, ((p .1 .1 ∙ sym (q .1 .1)) i, (tt, tt))))))

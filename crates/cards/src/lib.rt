@@ -1,7 +1,9 @@
-// The whole working of document 01, and one hold, the quick way.
+// The whole working of document 01, and one second held or released, the quick way.
+mod buttons;
 mod quick;
 mod rework;
 mod whole;
 
-pub use quick::hold;
+pub use buttons::hold;
+pub use buttons::release;
 pub use whole::work;

@@ -1,4 +1,4 @@
-// One hold, the quick way.
+// One hold, the quick way: what both buttons do.
 ghost use mathlib.Core.Path.{_≡_};
 ghost use Prim.Native.Nat.{_+_, _-_, min};
 ghost use Rattle.rules.specs.Refusals.{said};
@@ -31,7 +31,7 @@ fn check_standing(vehicle: Vehicle, second: usize, gear: u8) -> Answer
 
 // One second held in a gear, 0 to clear: its trip and the standing second before it are re-worked. It looks at its span and at nothing else, and
 // nothing, the hold byte included, is written before every check has passed.
-pub fn hold(
+pub fn edit(
     vehicle: Vehicle,
     speeds: &[u16],
     holds: &mut [u8],

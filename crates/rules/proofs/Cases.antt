@@ -3,15 +3,18 @@
 use Prim.Native.Nat.{ℕ}
 use mathlib.Core.Path.{_≡_, refl}
 use mathlib.Core.Bool.{Bool, true, false}
+use mathlib.Core.Option.{Option, some}
 use mathlib.Core.List.{List, [], _∷_}
 use lib.IntN.{ℤ, pos, negℤ}
 use lib.ListN.{replicate}
 use Rattle.rules.specs.declared.Vehicle.{Vehicle}
-use Rattle.rules.specs.Words.{if_then_else_, _and_, _or_, within, every, first, highest, pass, table}
+use Rattle.rules.specs.Words.{if_then_else_, _and_, _or_, within, every, first, highest, pass, table, patch}
 use Rattle.rules.specs.Units.{ratio-of, ratio-good, point-good, bounds, first-failed, bad-field, low, longest, moving, rise, start, run, stop}
 use Rattle.rules.specs.Gears.{Place, engine, minimum-of, minimum, under-nmax, over-minimum, allowed, fits, required, between, on-segment, reaches, segment, power-speed, power, enough, more, suits, beats, strongest, choose}
 use Rattle.rules.specs.Corrections.{floor, closing, ceiling, here, first-choice, free, is-peak, peak, too-high, rising, too-low, slowing, firsts, after-A, after-B, gears, trip-speeds, trip-holds, first-at, gear-at, clutch, byte, card-at, card}
-use Rattle.rules.specs.Refusals.{refuse-at, _orelse_, when, trace-fault, room-fault, vehicle-fault, check-number, checks, last-check, bad, fault-of, seconds-fault, gear-fault, span-fault, work-fault}
+use Rattle.rules.specs.Refusals.{Fault, refuse-at, _orelse_, when, trace-fault, room-fault, vehicle-fault, check-number, checks, last-check, bad, fault-of, seconds-fault, gear-fault, span-fault, work-fault, left, second-fault, edit-fault}
+use Rattle.rules.specs.Quick.{span-lo, span-hi, standing-fault, own-fault, quick-fault, reworked, quick-holds, quick-card}
+use Rattle.rules.specs.Holds.{asked, hold-fault, hold-holds, hold-card, release-holds, release-card}
 use Rattle.rules.specs.Groups.{Read, got, refused, hand-on, demand, early, group-if, group}
 use Rattle.rules.specs.Forms.{value, checked, bounded, _then_, seen, row-read, row as in-a-row, many, counted, whole}
 use Rattle.rules.specs.Job.{version, gearbox, numbers as eight-numbers, point, curve, seconds, trace as speeds, hold, rising as rising-holds, padded, vehicle-of, vehicle, put, holds, packed, stages, job, job-read}
@@ -75,12 +78,13 @@ job-Z =
     7 ∷ 160 ∷ 6 ∷ 100 ∷ 136 ∷ 14 ∷ 172 ∷ 2 ∷ 240 ∷ 21 ∷ 244 ∷ 3 ∷ 216 ∷ 29 ∷ 188 ∷ 5 ∷ 192 ∷ 37 ∷ 210 ∷ 6 ∷ 224 ∷ 43 ∷ 132 ∷ 7 ∷ 240 ∷ 46 ∷ 240 ∷ 6 ∷
     5 ∷ 0 ∷ 50 ∷ 150 ∷ 1 ∷ 100 ∷ 0 ∷ 0 ∷ []
 
--- what a row is about: numbers, a power, a test, a group that is read
+-- what a row is about: numbers, a power, a test, a group that is read, a refusal or none
 data Value : Type 0 where
   numbers : List ℕ → Value
   scaled : ℤ → Value
   test : Bool → Value
   reading : Read ℕ → Value
+  refusal : Option Fault → Value
 
 -- what the definitions work out, beside what the paper prints
 record Row : Type 0 where
@@ -143,6 +147,20 @@ rows =
     -- later trips are corrected too: at second 6 the first choice is 5, the gear 2
     ∷ row (numbers (first-at Z two-trips (replicate 11 0) 6 ∷ [])) (numbers (5 ∷ []))
     ∷ row (numbers (card Z two-trips (replicate 11 0))) (numbers (17 ∷ 17 ∷ 17 ∷ 1 ∷ 1 ∷ 1 ∷ 2 ∷ 4 ∷ 2 ∷ 2 ∷ 0 ∷ []))
+    -- the two buttons: gear 3 held at second 2, and released again; a free second released
+    ∷ row (numbers (hold-card Z trace (replicate 5 0) (17 ∷ 1 ∷ 2 ∷ 18 ∷ 0 ∷ []) 2 3)) (numbers (17 ∷ 1 ∷ 19 ∷ 18 ∷ 0 ∷ []))
+    ∷ row (numbers (release-card Z trace (0 ∷ 0 ∷ 3 ∷ 0 ∷ 0 ∷ []) (17 ∷ 1 ∷ 19 ∷ 18 ∷ 0 ∷ []) 2)) (numbers (17 ∷ 1 ∷ 2 ∷ 18 ∷ 0 ∷ []))
+    ∷ row (numbers (release-holds Z trace (0 ∷ 0 ∷ 3 ∷ 0 ∷ 0 ∷ []) (17 ∷ 1 ∷ 19 ∷ 18 ∷ 0 ∷ []) 2)) (numbers (0 ∷ 0 ∷ 0 ∷ 0 ∷ 0 ∷ []))
+    ∷ row (numbers (release-card Z trace (replicate 5 0) (17 ∷ 1 ∷ 2 ∷ 18 ∷ 0 ∷ []) 2)) (numbers (17 ∷ 1 ∷ 2 ∷ 18 ∷ 0 ∷ []))
+    -- holding gear 0 is refused by 7: at a moving second, a hold byte as it was; at a standing one; where an earlier second of the span is above ng, there
+    ∷ row (refusal (hold-fault Z trace (0 ∷ 0 ∷ 3 ∷ 0 ∷ 0 ∷ []) (17 ∷ 1 ∷ 19 ∷ 18 ∷ 0 ∷ []) 2 0)) (refusal (some (record { no = 7; spot = 2 })))
+    ∷ row (numbers (hold-holds Z trace (0 ∷ 0 ∷ 3 ∷ 0 ∷ 0 ∷ []) (17 ∷ 1 ∷ 19 ∷ 18 ∷ 0 ∷ []) 2 0)) (numbers (0 ∷ 0 ∷ 3 ∷ 0 ∷ 0 ∷ []))
+    ∷ row (refusal (hold-fault Z trace (replicate 5 0) (replicate 5 0) 4 0)) (refusal (some (record { no = 7; spot = 4 })))
+    ∷ row (refusal (hold-fault Z trace (0 ∷ 6 ∷ 0 ∷ 0 ∷ 0 ∷ []) (replicate 5 0) 2 0)) (refusal (some (record { no = 7; spot = 1 })))
+    -- after 4, 5 and 6 of the span
+    ∷ row (refusal (hold-fault Z (0 ∷ 50 ∷ 2001 ∷ 50 ∷ 0 ∷ []) (replicate 5 0) (replicate 5 0) 1 0)) (refusal (some (record { no = 4; spot = 2 })))
+    ∷ row (refusal (hold-fault Z (0 ∷ 50 ∷ 201 ∷ 100 ∷ 0 ∷ []) (replicate 5 0) (replicate 5 0) 1 0)) (refusal (some (record { no = 5; spot = 2 })))
+    ∷ row (refusal (hold-fault Z (50 ∷ 50 ∷ 50 ∷ 0 ∷ 0 ∷ []) (replicate 5 0) (replicate 5 0) 2 0)) (refusal (some (record { no = 6; spot = 0 })))
     -- what the card program prints of car Z's job
     ∷ row (numbers (printed job-Z)) (numbers (
     115 ∷ 101 ∷ 99 ∷ 111 ∷ 110 ∷ 100 ∷ 32 ∷ 115 ∷ 112 ∷ 101 ∷ 101 ∷ 100 ∷ 32 ∷ 103 ∷ 101 ∷ 97 ∷ 114 ∷ 32 ∷ 99 ∷ 108 ∷ 117 ∷ 116 ∷ 99 ∷ 104 ∷ 10 ∷
@@ -160,5 +178,5 @@ papers [] = []
 papers (r ∷ rs) = r .paper ∷ papers rs
 
 sums-done-on-paper : sums rows ≡ papers rows
-unfolding sums papers rows row choice car-of car-Z Z halves inside free-trip steady up trace two-trips job-Z _and_ _or_ within every first highest pass table ratio-of ratio-good point-good bounds first-failed bad-field low longest moving rise start run stop engine minimum-of minimum under-nmax over-minimum allowed fits required between on-segment reaches segment power-speed power enough more suits beats strongest choose floor closing ceiling here first-choice free is-peak peak too-high rising too-low slowing firsts after-A after-B gears trip-speeds trip-holds first-at gear-at clutch byte card-at card refuse-at _orelse_ when trace-fault room-fault vehicle-fault check-number checks last-check bad fault-of seconds-fault gear-fault span-fault work-fault hand-on demand early group-if group value checked bounded _then_ seen row-read in-a-row many counted whole version gearbox eight-numbers point curve seconds speeds hold rising-holds padded vehicle-of vehicle put holds packed stages job job-read digits decimal heading pedal line lines card-text refusal-text worked-text read-text printed
+unfolding sums papers rows row choice car-of car-Z Z halves inside free-trip steady up trace two-trips job-Z _and_ _or_ within every first highest pass table patch ratio-of ratio-good point-good bounds first-failed bad-field low longest moving rise start run stop engine minimum-of minimum under-nmax over-minimum allowed fits required between on-segment reaches segment power-speed power enough more suits beats strongest choose floor closing ceiling here first-choice free is-peak peak too-high rising too-low slowing firsts after-A after-B gears trip-speeds trip-holds first-at gear-at clutch byte card-at card refuse-at _orelse_ when trace-fault room-fault vehicle-fault check-number checks last-check bad fault-of seconds-fault gear-fault span-fault work-fault left second-fault edit-fault span-lo span-hi standing-fault own-fault quick-fault reworked quick-holds quick-card asked hold-fault hold-holds hold-card release-holds release-card hand-on demand early group-if group value checked bounded _then_ seen row-read in-a-row many counted whole version gearbox eight-numbers point curve seconds speeds hold rising-holds padded vehicle-of vehicle put holds packed stages job job-read digits decimal heading pedal line lines card-text refusal-text worked-text read-text printed
 sums-done-on-paper = refl

@@ -18,6 +18,7 @@ pub mod Want
 pub mod Edits
 pub mod Quick
 pub mod Span
+pub mod Holds
 pub mod Reading
 pub mod Groups
 pub mod Forms

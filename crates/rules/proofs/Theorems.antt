@@ -6,19 +6,21 @@ use mathlib.Core.Path.{_≡_, refl, _∙_}
 use mathlib.Core.Logic.{_≢_, _↔_, _⊎_, inl, inr}
 use mathlib.Core.Bool.{true, false}
 use mathlib.Core.Option.{none, some}
-use mathlib.Core.List.{List}
+use mathlib.Core.List.{List, [], _∷_}
+use lib.Dec.{ltb, eqb}
 use lib.ListN.{length, set, take}
 use lib.IntN.{ℤ, pos, natAbs, _-ℤ_, _*ℤ_}
 use Rattle.rules.specs.declared.Vehicle.{Vehicle}
 use Rattle.rules.specs.declared.Answer.{Answer}
-use Rattle.rules.specs.Words.{at, pass, patch}
+use Rattle.rules.specs.Words.{if_then_else_, _or_, at, first, pass, patch}
 use Rattle.rules.specs.Units.{bad-field, longest, fastest, steepest, moving, start, stop}
 use Rattle.rules.specs.Gears.{Place, engine, under-nmax, fits, required, Power, on-segment, segment, power-speed, choose}
 use Rattle.rules.specs.Corrections.{peak, rising, slowing, gear-at, card-at, card}
-use Rattle.rules.specs.Refusals.{said, span-fault, work-fault, left, work-card, edit-fault}
+use Rattle.rules.specs.Refusals.{said, refuse-at, _orelse_, speed, step, ends, fault-of, span-fault, work-fault, left, work-card, edit-fault}
 use Rattle.rules.specs.Job.{most-groups, longest-job}
 use Rattle.rules.specs.Text.{printed}
-use Rattle.rules.specs.Quick.{span-lo, own-fault, quick-fault, reworked, quick-holds, quick-card}
+use Rattle.rules.specs.Quick.{span-lo, span-hi, own-fault, quick-fault, reworked, quick-holds, quick-card}
+use Rattle.rules.specs.Holds.{asked, hold-fault, hold-holds, hold-card, release-fault, release-holds, release-card}
 use Rattle.rules.specs.Vocabulary.{IsTrip, FirstChoice, OnSegment, Wanting, PassesOthers, Out, Edit, SameSpan, OneForm, _times_, In64, nested, nested-sum, engine-sum, idle-sum, required-sum, w-sum, Q-sum, margin-sum}
 use Rattle.rules.proofs.Laws.Words.{by-order, pass-keeps}
 use Rattle.rules.proofs.Laws.Trips.{trip-of, trip-le, trip-start, trip-stop, start-before, stop-after, stop-in, moving-in}
@@ -34,6 +36,7 @@ use Rattle.rules.proofs.Laws.Want.{refused-for-want, lowest-wanting}
 use Rattle.rules.proofs.Laws.Edits.{reaches, edit-as-whole}
 use Rattle.rules.proofs.Laws.Quick.{quick-whole}
 use Rattle.rules.proofs.Laws.Span.{looks-at-span, reworks-span, card-frame, card-standing, holds-frame, quick-shows}
+use Rattle.rules.proofs.Laws.Holds.{asked-gear, held-from-one, none-held-moving, none-held-standing, none-held-right, hold-whole, release-whole, free-released, cleared-standing, fault-of-two, holds-of-two, card-of-two}
 use Rattle.rules.proofs.Laws.Groups.{one-form}
 use Rattle.rules.proofs.Laws.Long.{long-job}
 use Rattle.rules.proofs.Laws.Refusals.{said-once}
@@ -175,6 +178,59 @@ quick-looks-at-span = looks-at-span
 pub quick-reworks-span : (car : Vehicle) (vs hs ws ks : List ℕ) (s g : ℕ) → SameSpan vs hs ws ks s → moving (at vs s) ≡ true
     → (old : List ℕ) → reworked car ws (set ks s g) old s ≡ reworked car vs (set hs s g) old s
 quick-reworks-span = reworks-span
+
+-- Request Seven: holding and releasing are two buttons
+
+module _ (car : Vehicle) (vs hs old : List ℕ) (s : ℕ) where
+  -- together they do all that the one call did: gear 0 releases, any other holds
+  pub two-buttons : (g : ℕ)
+      → (quick-fault car vs hs old s g ≡ (if eqb g 0 then release-fault car vs hs old s else hold-fault car vs hs old s g))
+      × (quick-holds car vs hs old s g ≡ (if eqb g 0 then release-holds car vs hs old s else hold-holds car vs hs old s g))
+      × (quick-card car vs hs old s g ≡ (if eqb g 0 then release-card car vs hs old s else hold-card car vs hs old s g))
+  two-buttons g = (fault-of-two car vs hs old s g, holds-of-two car vs hs old s g, card-of-two car vs hs old s g)
+
+  -- from a right card the very refusal, or the very card, of the whole working on the new holds; of holding for gears from 1
+  pub hold-as-whole : work-fault car vs hs old ≡ none → old ≡ card car vs hs → s < length vs → (g : ℕ) → 1 ≤ g
+      → (hold-fault car vs hs old s g ≡ work-fault car vs (set hs s g) old) × (hold-card car vs hs old s g ≡ work-card car vs (set hs s g) old)
+  hold-as-whole ok right l = hold-whole car vs hs old s (accepted car vs hs old ok) right l
+
+  pub release-as-whole : work-fault car vs hs old ≡ none → old ≡ card car vs hs → s < length vs
+      → (release-fault car vs hs old s ≡ work-fault car vs (set hs s 0) old) × (release-card car vs hs old s ≡ work-card car vs (set hs s 0) old)
+  release-as-whole ok right l = release-whole car vs hs old s (accepted car vs hs old ok) right l
+
+  -- releasing a free second, where the card was right, changes no byte
+  pub released-free : work-fault car vs hs old ≡ none → old ≡ card car vs hs → s < length vs → at hs s ≡ 0
+      → (release-fault car vs hs old s ≡ none) × (release-holds car vs hs old s ≡ hs) × (release-card car vs hs old s ≡ old)
+  released-free ok right l = free-released car vs hs old s (accepted car vs hs old ok) right l
+
+  -- releasing a standing second is accepted by its own checks
+  pub released-standing : moving (at vs s) ≡ false → own-fault car vs hs s 0 ≡ none
+  released-standing = cleared-standing car vs hs s
+
+  -- gear 0 is never held; where the card was right it is refused by 7, at that second
+  pub none-held : hold-fault car vs hs old s 0 ≢ none
+  none-held e = let z = held-from-one car vs hs old s 0 e in omega arith
+
+  pub none-held-by-7 : work-fault car vs hs old ≡ none → old ≡ card car vs hs → s < length vs → hold-fault car vs hs old s 0 ≡ some (record { no = 7; spot = s })
+  none-held-by-7 ok right l = none-held-right car vs hs old s (accepted car vs hs old ok) right l
+
+  -- right or not, in the table's order over the span: 4, 5 and 6, then 7 at the lowest second that is s or has a hold above ng
+  pub none-held-moves : bad-field car ≡ none → moving (at vs s) ≡ true → length hs ≡ length vs
+      → own-fault car vs hs s (asked 0)
+      ≡ fault-of car vs hs (span-lo vs s) (span-hi vs s) (speed ∷ step ∷ ends ∷ [])
+      orelse refuse-at 7 (first (λ i. eqb i s or ltb (car .ng) (at hs i)) (span-lo vs s) (span-hi vs s - span-lo vs s))
+  none-held-moves e m n = none-held-moving car vs hs s m n (omega (arith, in-bounds car e .ng-to))
+
+  -- and at a standing second 7
+  pub none-held-stands : bad-field car ≡ none → moving (at vs s) ≡ false → own-fault car vs hs s (asked 0) ≡ some (record { no = 7; spot = s })
+  none-held-stands e r = none-held-standing car vs hs s r (omega (arith, in-bounds car e .ng-to))
+
+  -- with no such assumption: the held second shows its hold
+  pub held-shown : (g : ℕ) → hold-fault car vs hs old s g ≡ none → at (hold-card car vs hs old s g) s % 16 ≡ g
+  unfolding hold-fault hold-card
+  held-shown g e =
+      let h = held-from-one car vs hs old s g e in
+      rw (asked-gear g h) (hold-shown car vs hs old s g (rw (asked-gear g h) at e) (λ z. omega arith))
 
 -- ---- 8. Groups: every value 0 to 65,535 has exactly one form that is accepted, and reading that form gives the value and the place after it
 

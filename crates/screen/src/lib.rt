@@ -1,8 +1,8 @@
-// The C functions for driver's aid screens: thin wrappers over the readers, the working, the quick way and the built-in cycle. include/gearcard.h declares
+// The C functions for driver's aid screens: thin wrappers over the readers, the working, the two buttons and the built-in cycle. include/gearcard.h declares
 // them.
 ghost use mathlib.Core.Path.{_≡_};
 ghost use Rattle.rules.specs.Refusals.{work-fault, work-card};
-ghost use Rattle.rules.specs.Quick.{quick-fault, quick-holds, quick-card};
+ghost use Rattle.rules.specs.Holds.{hold-fault, hold-holds, hold-card, release-fault, release-holds, release-card};
 ghost use lib.ListN.{length};
 ghost use Rattle.cycles.specs.Parts.{fill-fault, fill-room, stretch};
 ghost use Rattle.downscale.specs.Steps.{down-fault, down-room};
@@ -76,7 +76,7 @@ pub extern "C" fn gearcard_work<'a>(
     verdict_of(answer)
 }
 
-// Holds one second in a gear, or clears it with 0.
+// Holds one second in a gear.
 #[no_mangle]
 pub extern "C" fn gearcard_hold(
     vehicle: Vehicle,
@@ -86,11 +86,28 @@ pub extern "C" fn gearcard_hold(
     second: usize,
     gear: u8,
 ) -> Verdict
-    ensures answer { λ r. ⌜ r ≡ as-verdict (quick-fault vehicle (now (speeds .entry)) (now (holds .entry)) (now (card .entry)) second gear) ⌝ }
-    ensures holds { λ r. ⌜ now (holds .exit) ≡ quick-holds vehicle (now (speeds .entry)) (now (holds .entry)) (now (card .entry)) second gear ⌝ }
-    ensures card { λ r. ⌜ now (card .exit) ≡ quick-card vehicle (now (speeds .entry)) (now (holds .entry)) (now (card .entry)) second gear ⌝ }
+    ensures answer { λ r. ⌜ r ≡ as-verdict (hold-fault vehicle (now (speeds .entry)) (now (holds .entry)) (now (card .entry)) second gear) ⌝ }
+    ensures holds { λ r. ⌜ now (holds .exit) ≡ hold-holds vehicle (now (speeds .entry)) (now (holds .entry)) (now (card .entry)) second gear ⌝ }
+    ensures card { λ r. ⌜ now (card .exit) ≡ hold-card vehicle (now (speeds .entry)) (now (holds .entry)) (now (card .entry)) second gear ⌝ }
 {
     let answer = cards::hold(vehicle, speeds, holds, card, second, gear);
+    verdict_of(answer)
+}
+
+// Releases one second.
+#[no_mangle]
+pub extern "C" fn gearcard_release(
+    vehicle: Vehicle,
+    speeds: &[u16],
+    holds: &mut [u8],
+    card: &mut [u8],
+    second: usize,
+) -> Verdict
+    ensures answer { λ r. ⌜ r ≡ as-verdict (release-fault vehicle (now (speeds .entry)) (now (holds .entry)) (now (card .entry)) second) ⌝ }
+    ensures holds { λ r. ⌜ now (holds .exit) ≡ release-holds vehicle (now (speeds .entry)) (now (holds .entry)) (now (card .entry)) second ⌝ }
+    ensures card { λ r. ⌜ now (card .exit) ≡ release-card vehicle (now (speeds .entry)) (now (holds .entry)) (now (card .entry)) second ⌝ }
+{
+    let answer = cards::release(vehicle, speeds, holds, card, second);
     verdict_of(answer)
 }
 

@@ -1,15 +1,16 @@
 //! One case of each kind: generation, the reference's answer, the library's, and their comparison.
 
+use crate::events::{note, Event};
 use crate::exports;
 use crate::jobs;
 use crate::library::{Library, Loan};
-use crate::paper::{self, Refusal};
+use crate::paper::{self, Edited, Refusal};
 use crate::rng::Rng;
 use crate::traces;
 use crate::vehicle::Vehicle;
 use crate::vehicles;
 
-pub const KINDS: [&str; 4] = ["read", "work", "hold", "export"];
+pub const KINDS: [&str; 5] = ["read", "work", "hold", "release", "export"];
 
 /// The number of the answer (0: accepted), or a description of the mismatch.
 pub type Outcome = Result<u32, String>;
@@ -20,6 +21,7 @@ pub fn run(library: &mut Library, seed: u64, kind: usize, index: u64) -> Outcome
         0 => read_case(library, &mut r),
         1 => work_case(library, &mut r),
         2 => hold_case(library, &mut r),
+        3 => release_case(library, &mut r),
         _ => export_case(library, &mut r),
     };
     outcome.map_err(|why| format!("FAILED: gearcard_{}, seed {seed}, case {index}\n{why}", KINDS[kind]))
@@ -126,18 +128,7 @@ fn work_case(library: &mut Library, r: &mut Rng) -> Outcome {
 // ---------------------------------------------------------------- the quick way
 
 fn hold_case(library: &mut Library, r: &mut Rng) -> Outcome {
-    let mut c = sound(r);
-    let mut right = false;
-    if r.chance(60) {
-        if let Ok(card) = paper::work(&c.vehicle, &c.speeds, &c.holds, c.speeds.len()) {
-            (c.card, right) = (card, true);
-        }
-    }
-    if r.chance(45) {
-        // The card is then still one that once was right, which is the more telling thing to lend.
-        spoil(r, &mut c);
-        right = false;
-    }
+    let (c, right) = on_screen(r);
     let second = ask_second(r, &c);
     let gear = ask_gear(r, &c, second);
     let expected = paper::hold(&c.vehicle, &c.speeds, &c.holds, &c.card, second, gear);
@@ -150,8 +141,52 @@ fn hold_case(library: &mut Library, r: &mut Rng) -> Outcome {
     Ok(number(&expected))
 }
 
+fn release_case(library: &mut Library, r: &mut Rng) -> Outcome {
+    let (c, right) = on_screen(r);
+    let held = traces::any_place(r, c.holds.len(), |s| c.holds[s] != 0);
+    let second = held.filter(|_| r.chance(50)).unwrap_or_else(|| ask_second(r, &c));
+    let expected = paper::release(&c.vehicle, &c.speeds, &c.holds, &c.card, second);
+    let loan = Loan::new(r, &c.speeds, &c.holds, &c.card);
+    let told = |why: String| format!("{why}\nsecond {second} released\n{}\nreference (holds, card): {expected:?}", describe(&c));
+    library.release(&c.vehicle, &loan, second, &expected).map_err(told)?;
+    if right {
+        agrees_with_whole(&c, &expected).map_err(told)?;
+        free_changes_nothing(&c, second, &expected).map_err(told)?;
+    }
+    Ok(number(&expected))
+}
+
+/// The paper against itself: releasing a free second of a right card changes no byte.
+fn free_changes_nothing(c: &Setting, second: usize, expected: &Edited) -> Result<(), String> {
+    if c.holds.get(second) != Some(&0) {
+        return Ok(());
+    }
+    note(Event::FreeReleased);
+    if expected.as_ref() == Ok(&(c.holds.clone(), c.card.clone())) {
+        return Ok(());
+    }
+    Err(String::from("the reference's release of a free second changes something"))
+}
+
+/// What a button is pressed on, and whether its card is the right one.
+fn on_screen(r: &mut Rng) -> (Setting, bool) {
+    let mut c = sound(r);
+    let mut right = false;
+    if r.chance(60) {
+        if let Ok(card) = paper::work(&c.vehicle, &c.speeds, &c.holds, c.speeds.len()) {
+            (c.card, right) = (card, true);
+        }
+    }
+    if r.chance(45) {
+        // The card is then still one that once was right, which is the more telling thing to lend.
+        spoil(r, &mut c);
+        right = false;
+    }
+    (c, right)
+}
+
 /// The paper against itself: a right card stays the one the whole working gives.
-fn agrees_with_whole(c: &Setting, expected: &Result<(Vec<u8>, Vec<u8>), Refusal>) -> Result<(), String> {
+fn agrees_with_whole(c: &Setting, expected: &Edited) -> Result<(), String> {
     let Ok((holds, card)) = expected else { return Ok(()) };
     if paper::work(&c.vehicle, &c.speeds, holds, holds.len()).as_ref() == Ok(card) {
         return Ok(());
@@ -181,8 +216,8 @@ fn ask_gear(r: &mut Rng, c: &Setting, second: usize) -> u8 {
         None => Vec::new(),
     };
     match r.range(0, 99) {
-        0..=24 => 0,
-        25..=79 if !good.is_empty() => r.pick(&good),
+        0..=11 => 0,
+        12..=79 if !good.is_empty() => r.pick(&good),
         80..=84 => ng as u8 + 1,
         85..=86 => r.pick(&[11, 16, 17, 255]),
         _ => r.range(1, ng) as u8,

@@ -1,4 +1,4 @@
-//! The regulation's cycles, each driven whole by several cars: the working, the job read back, and holds set and cleared the quick way.
+//! The regulation's cycles, each driven whole by several cars: the working, the job read back, and holds set and released the quick way.
 
 use crate::cycles;
 use crate::jobs;
@@ -10,10 +10,10 @@ use crate::vehicle::{car_z, Vehicle};
 use crate::vehicles;
 use std::path::Path;
 
-/// Apart from the kinds of a case, whose numbers are 0 to 3.
-const KIND: u64 = 4;
+/// Apart from the kinds of a case, whose numbers count from 0.
+const KIND: u64 = 100;
 const REALISTIC: usize = 6;
-/// Holds set by one car on one cycle, and as many cleared.
+/// Holds set by one car on one cycle, and as many released.
 const HOLDS: usize = 100;
 
 pub fn run(library: &mut Library, seed: u64, dir: &Path) -> Result<(), String> {
@@ -54,7 +54,7 @@ struct Drive<'a> {
 }
 
 impl Drive<'_> {
-    /// How many holds were accepted, set or cleared; none where the cycle itself is refused with this car.
+    /// How many holds were accepted, set or released; none where the cycle itself is refused with this car.
     fn whole(&mut self) -> Result<Option<usize>, String> {
         let none = vec![0; self.speeds.len()];
         let Some(first) = self.work(&none)? else { return Ok(None) };
@@ -65,7 +65,7 @@ impl Drive<'_> {
             let gear = self.r.range(1, self.vehicle.ng as i64) as u8;
             accepted += self.hold(&mut holds, &mut card, second, gear)?;
             if self.r.chance(40) {
-                accepted += self.clear_one(&mut holds, &mut card)?;
+                accepted += self.release_one(&mut holds, &mut card)?;
             }
         }
         self.job(&holds)?;
@@ -73,10 +73,10 @@ impl Drive<'_> {
             return Err(String::from("the reference's holds and its whole working disagree"));
         }
         while holds.iter().any(|gear| *gear != 0) {
-            accepted += self.clear_one(&mut holds, &mut card)?;
+            accepted += self.release_one(&mut holds, &mut card)?;
         }
         if card != first {
-            return Err(String::from("the reference's card is another after all holds are cleared"));
+            return Err(String::from("the reference's card is another after all holds are released"));
         }
         Ok(Some(accepted))
     }
@@ -101,9 +101,19 @@ impl Drive<'_> {
         Ok(1)
     }
 
-    fn clear_one(&mut self, holds: &mut Vec<u8>, card: &mut Vec<u8>) -> Result<usize, String> {
+    fn release(&mut self, holds: &mut Vec<u8>, card: &mut Vec<u8>, second: usize) -> Result<usize, String> {
+        let expected = paper::release(self.vehicle, self.speeds, holds, card, second);
+        let loan = Loan::new(self.r, self.speeds, holds, card);
+        let asked = || format!("second {second} released\nholds {holds:?}\ncard {card:?}\nreference (holds, card): {expected:?}");
+        self.library.release(self.vehicle, &loan, second, &expected).map_err(|why| format!("{why}\n{}", asked()))?;
+        let Ok(after) = expected else { return Ok(0) };
+        (*holds, *card) = after;
+        Ok(1)
+    }
+
+    fn release_one(&mut self, holds: &mut Vec<u8>, card: &mut Vec<u8>) -> Result<usize, String> {
         match traces::any_place(self.r, holds.len(), |s| holds[s] != 0) {
-            Some(second) => self.hold(holds, card, second, 0),
+            Some(second) => self.release(holds, card, second),
             None => Ok(0),
         }
     }

@@ -14,9 +14,11 @@ pub enum Event {
     PowerEqual,
     ClutchMoving,
     StandingCleared,
+    NoGearLater,
+    FreeReleased,
 }
 
-const NAMES: [&str; 10] = [
+const NAMES: [&str; 12] = [
     "pass A lowered a gear",
     "pass A stopped by the floor",
     "pass B lowered a gear to the ceiling",
@@ -27,9 +29,11 @@ const NAMES: [&str; 10] = [
     "power exactly as required",
     "clutch down while moving",
     "hold cleared at a standing second",
+    "gear 0 not held, for another fault of the span",
+    "free second of a right card released",
 ];
 
-static COUNTS: [AtomicU64; 10] = [const { AtomicU64::new(0) }; 10];
+static COUNTS: [AtomicU64; NAMES.len()] = [const { AtomicU64::new(0) }; NAMES.len()];
 
 pub fn note(event: Event) {
     COUNTS[event as usize].fetch_add(1, Relaxed);

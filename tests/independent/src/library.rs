@@ -1,7 +1,7 @@
 //! The library, called through driver.c: each lent slice lies inside a larger one, whose other places are compared too.
 
 use crate::exports::Coefficients;
-use crate::paper::{Job, Refusal};
+use crate::paper::{Edited, Job, Refusal};
 use crate::rng::Rng;
 use crate::vehicle::{Vehicle, ZERO};
 use std::fmt::Debug;
@@ -137,6 +137,7 @@ enum Call {
     Read,
     Work,
     Hold,
+    Release,
     Export,
     Cycle,
     CyclePart,
@@ -243,9 +244,18 @@ impl Library {
         loan.third.compare("card", &answer.loan.third, expected.as_deref().unwrap_or(&[]))
     }
 
+    pub fn hold(&mut self, vehicle: &Vehicle, loan: &Loan, second: usize, gear: u8, expected: &Edited) -> Result<(), String> {
+        self.edit(&Request { call: Call::Hold, vehicle, second, gear, loan }, expected)
+    }
+
+    pub fn release(&mut self, vehicle: &Vehicle, loan: &Loan, second: usize, expected: &Edited) -> Result<(), String> {
+        self.edit(&Request { call: Call::Release, vehicle, second, gear: 0, loan }, expected)
+    }
+
     /// `expected`: the holds and the card.
-    pub fn hold(&mut self, vehicle: &Vehicle, loan: &Loan, second: usize, gear: u8, expected: &Result<(Vec<u8>, Vec<u8>), Refusal>) -> Result<(), String> {
-        let answer = self.call(&Request { call: Call::Hold, vehicle, second, gear, loan })?;
+    fn edit(&mut self, request: &Request, expected: &Edited) -> Result<(), String> {
+        let loan = request.loan;
+        let answer = self.call(request)?;
         answer.compare(expected.as_ref().err().copied())?;
         let (holds, card): (&[u8], &[u8]) = match expected {
             Ok((holds, card)) => (holds, card),

@@ -1,8 +1,8 @@
 //! Compares the gear card library with a working of its own, written from docs/01-scope.md and, for exports, request Five of document 02 alone.
 //!
-//!   independent [--seed S] [--cases N] [--cycles DIR] -- DRIVER..    the cycles of DIR, the built-in and the scaled cycle, then N cases of each kind (read, work, hold, export)
+//!   independent [--seed S] [--cases N] [--cycles DIR] -- DRIVER..    the cycles of DIR, the built-in and the scaled cycle, then N cases of each kind (read, work, hold, release, export)
 //!   with --class-3 FILE: that job must have the speeds of the built-in cycle
-//!   independent [--seed S] --case KIND I -- DRIVER..                 one case again (KIND read, work, hold or export)
+//!   independent [--seed S] --case KIND I -- DRIVER..                 one case again (KIND as above)
 //!   independent --job FILE                                           what the card program would print of a job, from the reference alone
 
 mod builtin;
@@ -26,12 +26,12 @@ use std::path::Path;
 use std::process::exit;
 use std::time::{Duration, Instant};
 
-/// About two minutes for read, work and hold together, on a quiet x86-64 machine; with exports it was timed only beside other work.
+/// Read, work and hold together took about two minutes on a quiet x86-64 machine; with release and export it was timed only beside other work.
 const DEFAULT_CASES: u64 = 600_000;
 const DEFAULT_SEED: u64 = 20_261_115;
 
 /// Answers by kind and number, 0 for accepted.
-type Counts = [[u64; 23]; 4];
+type Counts = [[u64; 23]; cases::KINDS.len()];
 
 /// The numbers of refusal, and those of an export.
 const NUMBERS: [usize; 20] = [1, 2, 3, 4, 5, 6, 7, 8, 9, 10, 11, 12, 13, 14, 15, 16, 19, 20, 21, 22];
@@ -124,8 +124,8 @@ fn run(mut library: Library, options: &Options) -> Result<(), String> {
         builtin::run(&mut library, options.seed, Path::new(dir), options.class_3.as_deref().map(Path::new))?;
         downscale::run(&mut library, options.seed, Path::new(dir))?;
     }
-    let mut met: Counts = [[0; 23]; 4];
-    let mut spent = [Duration::ZERO; 4];
+    let mut met: Counts = [[0; 23]; cases::KINDS.len()];
+    let mut spent = [Duration::ZERO; cases::KINDS.len()];
     for index in 0..options.cases {
         for kind in 0..cases::KINDS.len() {
             let start = Instant::now();
@@ -145,17 +145,17 @@ fn run(mut library: Library, options: &Options) -> Result<(), String> {
 }
 
 fn print_counts(met: &Counts) {
-    println!("{:>9} {:>8} {:>8} {:>8} {:>8}", "answer", "read", "work", "hold", "export");
+    println!("{:>9}{}", "answer", cases::KINDS.map(|kind| format!(" {kind:>8}")).concat());
     for number in std::iter::once(0).chain(NUMBERS) {
         let name = if number == 0 { String::from("accepted") } else { number.to_string() };
-        println!("{name:>9} {:>8} {:>8} {:>8} {:>8}", met[0][number], met[1][number], met[2][number], met[3][number]);
+        println!("{name:>9}{}", met.map(|counts| format!(" {:>8}", counts[number])).concat());
     }
 }
 
 /// A refusal that no case met was not tested.
 fn all_met(met: &Counts) -> Result<(), String> {
     let by_none = NUMBERS.into_iter().filter(|&number| met.iter().all(|counts| counts[number] == 0));
-    let by_no_export = OF_EXPORTS.into_iter().filter(|&number| met[3][number] == 0);
+    let by_no_export = OF_EXPORTS.into_iter().filter(|&number| met[4][number] == 0);
     let missed: Vec<String> = by_none.chain(by_no_export).map(|number| number.to_string()).collect();
     if missed.is_empty() {
         return Ok(());

@@ -326,7 +326,18 @@ pub fn work(v: &Vehicle, speeds: &[u16], holds: &[u8], card_length: usize) -> Re
 // ---------------------------------------------------------------- the quick way
 
 /// Holds and card afterwards, or the refusal, which leaves both as they were.
-pub fn hold(v: &Vehicle, speeds: &[u16], holds: &[u8], card: &[u8], second: usize, gear: u8) -> Result<(Vec<u8>, Vec<u8>), Refusal> {
+pub type Edited = Result<(Vec<u8>, Vec<u8>), Refusal>;
+
+pub fn hold(v: &Vehicle, speeds: &[u16], holds: &[u8], card: &[u8], second: usize, gear: u8) -> Edited {
+    edit(v, speeds, holds, card, second, Some(gear))
+}
+
+pub fn release(v: &Vehicle, speeds: &[u16], holds: &[u8], card: &[u8], second: usize) -> Edited {
+    edit(v, speeds, holds, card, second, None)
+}
+
+/// Some gear to hold, or none to release.
+fn edit(v: &Vehicle, speeds: &[u16], holds: &[u8], card: &[u8], second: usize, asked: Option<u8>) -> Edited {
     lengths_good(speeds.len(), holds.len(), card.len())?;
     vehicle_good(v)?;
     if second >= speeds.len() {
@@ -334,26 +345,43 @@ pub fn hold(v: &Vehicle, speeds: &[u16], holds: &[u8], card: &[u8], second: usiz
     }
     let mut holds = holds.to_vec();
     let mut card = card.to_vec();
-    holds[second] = gear;
+    holds[second] = asked.unwrap_or(0);
     if !moving(speeds[second]) {
-        hold_standing(v, second, gear)?;
+        edit_standing(v, second, asked)?;
         return Ok((holds, card));
     }
     let trip = trip_of(speeds, second);
     let from = trip.first.saturating_sub(1);
     let to = (trip.last + 1).min(speeds.len() - 1);
+    if asked == Some(0) {
+        return Err(no_gear_held(second, seconds_good(v, speeds, &holds, from, to)));
+    }
     seconds_good(v, speeds, &holds, from, to)?;
     work_trip(v, speeds, &holds, trip, &mut card);
     Ok((holds, card))
 }
 
 /// Only the second itself is looked at.
-fn hold_standing(v: &Vehicle, second: usize, gear: u8) -> Result<(), Refusal> {
-    if gear == 0 {
-        note(Event::StandingCleared);
-        return Ok(());
+fn edit_standing(v: &Vehicle, second: usize, asked: Option<u8>) -> Result<(), Refusal> {
+    match asked {
+        None => {
+            note(Event::StandingCleared);
+            Ok(())
+        }
+        Some(0) => Err((7, second)),
+        Some(gear) => Err((if gear as u16 > v.ng { 7 } else { 8 }, second)),
     }
-    Err((if gear as u16 > v.ng { 7 } else { 8 }, second))
+}
+
+/// Gear 0 is 7 at its second: after what the span has of 4 to 6, and of 7 at an earlier second.
+fn no_gear_held(second: usize, others: Result<(), Refusal>) -> Refusal {
+    match others {
+        Err((number, place)) if (number, place) < (7, second) => {
+            note(Event::NoGearLater);
+            (number, place)
+        }
+        _ => (7, second),
+    }
 }
 
 // ---------------------------------------------------------------- the reader

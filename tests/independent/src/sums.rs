@@ -43,6 +43,9 @@ fn cards() {
     assert_eq!(paper::work(&z, &speeds, &[0; 5], 5), Ok(vec![17, 1, 2, 18, 0]));
     assert_eq!(paper::work(&z, &speeds, &[0, 0, 3, 0, 0], 5), Ok(vec![17, 1, 19, 18, 0]));
     assert_eq!(paper::hold(&z, &speeds, &[0; 5], &[17, 1, 2, 18, 0], 2, 3), Ok((vec![0, 0, 3, 0, 0], vec![17, 1, 19, 18, 0])));
+    assert_eq!(paper::release(&z, &speeds, &[0, 0, 3, 0, 0], &[17, 1, 19, 18, 0], 2), Ok((vec![0; 5], vec![17, 1, 2, 18, 0])));
+    assert_eq!(paper::hold(&z, &speeds, &[0; 5], &[17, 1, 2, 18, 0], 2, 0), Err((7, 2)));
+    assert_eq!(paper::hold(&z, &speeds, &[0; 5], &[17, 1, 2, 18, 0], 4, 0), Err((7, 4)));
     assert_eq!(paper::work(&z, &[0], &[0], 1), Ok(vec![0]));
     assert!(paper::work(&z, &[0, 150, 0], &[0; 3], 3).is_ok());
     assert_eq!(paper::work(&z, &[0, 151, 0], &[0; 3], 3), Err((5, 1)));

@@ -3,7 +3,7 @@
 use Prim.Native.Nat.{ℕ, zero, suc, _+_, _-_, _≤_, _<_}
 use native.Mathlib.Nat.{sub-zero, not-suc-le-zero, le-of-suc-le-suc}
 use native.Mathlib.Omega.{arith}
-use mathlib.Core.Path.{_≡_, refl, sym, _∙_}
+use mathlib.Core.Path.{_≡_, refl, sym, ap, _∙_}
 use mathlib.Core.Logic.{_⊎_, inl, inr}
 use mathlib.Core.Bool.{Bool, true, false, not}
 use mathlib.Core.Option.{Option, none, some}
@@ -85,6 +85,17 @@ accepted car vs hs old e =
     let b = orelse-none _ _ (a .1) in
     let c = orelse-none _ _ (b .1) in
     record { trace = a .0; room = b .0; vehicle = c .0; span = c .1 }
+
+pub passes-whole : (car : Vehicle) (vs hs old : List ℕ) → Accepted car vs hs old → work-fault car vs hs old ≡ none
+unfolding work-fault
+passes-whole car vs hs old A = none-orelse _ _ (A .trace) ∙ none-orelse _ _ (A .room) ∙ none-orelse _ _ (A .vehicle) ∙ A .span
+
+-- where the working accepted, an edit of a second of the trace is refused by its own checks alone
+pub edit-is : (car : Vehicle) (vs hs old : List ℕ) (s : ℕ) → Accepted car vs hs old → s < length vs → (own : Option Fault) → edit-fault car vs hs old s own ≡ own
+unfolding edit-fault second-fault
+edit-is car vs hs old s A l own =
+    none-orelse _ _ (A .trace) ∙ none-orelse _ _ (A .room) ∙ none-orelse _ _ (A .vehicle)
+    ∙ none-orelse _ _ (none-when 11 (not (ltb s (length vs))) s (rw (lt-ltb s (length vs) l)))
 
 -- the same record for an edit that is not refused, and its own checks
 pub record Taken (car : Vehicle) (vs hs old : List ℕ) (s : ℕ) (own : Option Fault) : Type 0 where
@@ -189,6 +200,15 @@ module _ (car : Vehicle) (vs hs ws ks : List ℕ) (n : length ws ≡ length vs) 
   pub fault-window : span-fault car vs hs 0 (length vs) ≡ none → span-fault car ws ks 0 (length ws) ≡ span-fault car ws ks lo hi
   unfolding span-fault seconds-fault gear-fault
   fault-window e = let o = span-none car vs hs 0 (length vs) e in rw (fault-inside checks (o .0), fault-inside last-check (o .1))
+
+-- ---- two lists of checks, one after the other
+
+pub fault-append : (car : Vehicle) (vs hs : List ℕ) (lo hi : ℕ) (cs ds : List Check) → fault-of car vs hs lo hi (cs ++ ds) ≡ fault-of car vs hs lo hi cs orelse fault-of car vs hs lo hi ds
+unfolding fault-of _orelse_
+fault-append car vs hs lo hi [] ds = refl
+fault-append car vs hs lo hi (c ∷ cs) ds =
+    ap (λ (r : Option Fault). refuse-at (check-number c) (first (bad c car vs hs lo) lo (hi - lo)) orelse r) (fault-append car vs hs lo hi cs ds)
+    ∙ sym (orelse-assoc (refuse-at (check-number c) (first (bad c car vs hs lo) lo (hi - lo))) (fault-of car vs hs lo hi cs) (fault-of car vs hs lo hi ds))
 
 -- ---- two spans of which each check says the same
 

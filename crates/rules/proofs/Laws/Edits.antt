@@ -12,16 +12,16 @@ use mathlib.Core.List.{List}
 use lib.Dec.{leb, ltb, eqb}
 use lib.ListN.{length, set, length-set}
 use lib.Seq.{getD-set-other}
-use borrow.Author.Tests.{leb-false, ltb-false, le-ltb, lt-ltb}
+use borrow.Author.Tests.{leb-false, ltb-false, le-ltb}
 use Rattle.rules.specs.declared.Vehicle.{Vehicle}
 use Rattle.rules.specs.Words.{if_then_else_, _and_, _or_, at, part, table, patch}
 use Rattle.rules.specs.Units.{moving, rise, start, stop}
 use Rattle.rules.specs.Corrections.{trip-speeds, trip-holds, first-at, gear-at, clutch, byte, card-at, card}
-use Rattle.rules.specs.Refusals.{Check, speed, step, ends, over-ng, at-rest, over-rev, no-gear, bad, Fault, trace-fault, room-fault, span-fault, work-fault, left, work-card, second-fault, edit-fault}
+use Rattle.rules.specs.Refusals.{Check, speed, step, ends, over-ng, at-rest, over-rev, no-gear, bad, Fault, trace-fault, room-fault, span-fault, work-fault, left, work-card, edit-fault}
 use Rattle.rules.specs.Vocabulary.{IsTrip, Out, Edit}
 use Rattle.rules.proofs.Laws.Words.{clash, by-test, by-order, part-ext, table-ext, at-table, length-table}
 use Rattle.rules.proofs.Laws.Trips.{trip-of, trip-start, trip-stop, start-le, start-before, stop-le, stop-after}
-use Rattle.rules.proofs.Laws.Checks.{fault-window, Accepted, none-when, none-orelse, left-same}
+use Rattle.rules.proofs.Laws.Checks.{fault-window, Accepted, edit-is, none-orelse, left-same}
 
 pub a-hold : (vs hs : List ℕ) (s g : ℕ) → s < length vs → Edit vs hs vs (set hs s g) s
 a-hold vs hs s g h = record { in-trace = h; speeds = refl; holds = length-set hs s g; speed-at = λ i n. refl; hold-at = λ i n. getD-set-other hs s i g 0 n }
@@ -68,15 +68,12 @@ module _ (car : Vehicle) {vs hs ws ks : List ℕ} {lo hi top : ℕ} (R : Reaches
   pub edit-as-whole : (old : List ℕ) → Accepted car vs hs old → old ≡ card car vs hs → (s : ℕ) → s < length vs
       → let f = edit-fault car vs hs old s (span-fault car ws ks lo hi) in
       (f ≡ work-fault car ws ks old) × (left f old (patch old lo top (card-at car ws ks)) ≡ work-card car ws ks old)
-  unfolding edit-fault second-fault work-fault work-card trace-fault room-fault
+  unfolding work-fault work-card trace-fault room-fault
   edit-as-whole old A right s l =
       let f = edit-fault car vs hs old s (span-fault car ws ks lo hi) in
-      let before : f ≡ span-fault car ws ks lo hi =
-      none-orelse _ _ (A .trace) ∙ none-orelse _ _ (A .room) ∙ none-orelse _ _ (A .vehicle)
-      ∙ none-orelse _ _ (none-when 11 (not (ltb s (length vs))) s (rw (lt-ltb s (length vs) l))) in
       let whole : work-fault car ws ks old ≡ span-fault car ws ks 0 (length ws) =
       none-orelse _ _ (rw (R .speeds) (A .trace)) ∙ none-orelse _ _ (rw (R .speeds, R .holds) (A .room)) ∙ none-orelse _ _ (A .vehicle) in
-      let same : f ≡ work-fault car ws ks old = before ∙ fault-anew (A .span) ∙ sym whole in (
+      let same : f ≡ work-fault car ws ks old = edit-is car vs hs old s A l (span-fault car ws ks lo hi) ∙ fault-anew (A .span) ∙ sym whole in (
         same,
         ap (λ (q : Option Fault). left q old (patch old lo top (card-at car ws ks))) same
             ∙ left-same (work-fault car ws ks old) old (λ e. ap (λ (c : List ℕ). patch c lo top (card-at car ws ks)) right ∙ card-anew),

@@ -192,7 +192,7 @@ module _ (car : Vehicle) (vs hs old : List ℕ) (s g : ℕ) (ok : quick-fault ca
       let y : not (eqb g 0) ≡ false = when-none 8 (not (eqb g 0)) s (orelse-none _ _ x .1) in absurd (h (eqb-true g 0 (not-false (eqb g 0) y))))
 
   -- and at most ng
-  at-most : g ≤ car .ng
+  pub at-most : g ≤ car .ng
   unfolding own-fault bad span-lo span-hi
   at-most =
       let m = moves in

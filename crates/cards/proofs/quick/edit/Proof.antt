@@ -1,4 +1,4 @@
--- `cards::quick::hold` meets its contract. One law for each stage says what is known from there on, one of `Holding` for each return.
+-- `cards::quick::edit` meets its contract. One law for each stage says what is known from there on, one of `Holding` for each return.
 -- Assumes nothing.
 use Prim.Native.Nat.{ℕ}
 use native.Mathlib.Omega.{arith}
@@ -10,8 +10,8 @@ use Rattle.checks.proofs.Scans.{not-so, so}
 use Rattle.cards.proofs.Holding.{InTrace, Standing, MovingSecond, Checked}
 use Rattle.cards.proofs.Holding.{quick-opening, quick-outside, in-holds, standing-refused, standing-done, span-asked, span-parts, span-refused, span-between, span-fitting, span-done}
 use borrow.Author.Needs.{needs}
-use Rattle.cards.proofs.quick.hold.Statement.{statement}
-use Rattle.cards.proofs.quick.hold.Tie as tie
+use Rattle.cards.proofs.quick.edit.Statement.{statement}
+use Rattle.cards.proofs.quick.edit.Tie as tie
 
 -- a statement of the six arguments, at a stage past the opening
 abbrev Of : (Vehicle → List ℕ → List ℕ → List ℕ → ℕ → ℕ → Type 0) → tie.After-enum-told → Type 0
@@ -139,8 +139,8 @@ same-length-4 c = search needs
 returns-6 : tie.Need-returns-6
 returns-6 c = let K = checked-at (c .before .before .before .before .before .before .before .before .before .before .before) in span-done K (c .before .before .before .before .before .before .before .before .before .enum-told5 .given .1) (c .before .before .rework .ensures _ (span-parts K))
 
-pub hold-spec : {M : Type 1} → statement M
-hold-spec =
+pub edit-spec : {M : Type 1} → statement M
+edit-spec =
     tie.close
     (tie.spec
     check-opening-requires
