@@ -12,6 +12,7 @@
 typedef struct gearcard_vehicle car_t;
 typedef struct gearcard_verdict verdict_t;
 typedef struct gearcard_job job_t;
+typedef struct gearcard_written written_t;
 enum { ROOM = GEARCARD_LONGEST, BYTES = 20000, ROUNDS = 41 };
 
 static uint64_t seed = 88172645463325252ull;
@@ -27,7 +28,7 @@ static void stop(const char *what) {
 }
 
 /* ---- cases ---- */
-enum kind { WORK, HOLD, READ, FILL };
+enum kind { WORK, HOLD, READ, FILL, WRITE };
 typedef struct {
   char name[40];
   enum kind kind;
@@ -134,10 +135,11 @@ static const struct {
   verdict_t (*hold)(car_t, const uint16_t *, size_t, uint8_t *, size_t, uint8_t *, size_t, size_t, uint8_t);
   verdict_t (*release)(car_t, const uint16_t *, size_t, uint8_t *, size_t, uint8_t *, size_t, size_t);
   job_t (*read)(const uint8_t *, size_t, uint16_t *, size_t, uint8_t *, size_t);
-} sides[2] = {{gearcard_work, gearcard_hold, gearcard_release, gearcard_read}, {twin_work, twin_hold, twin_release, twin_read}};
+  written_t (*write)(car_t, const uint16_t *, size_t, const uint8_t *, size_t, uint8_t *, size_t);
+} sides[2] = {{gearcard_work, gearcard_hold, gearcard_release, gearcard_read, gearcard_write}, {twin_work, twin_hold, twin_release, twin_read, twin_write}};
 
 static uint16_t room_v[ROOM];
-static uint8_t room_h[ROOM];
+static uint8_t room_h[ROOM], room_w[BYTES];
 static uint16_t cycle[GEARCARD_CYCLE]; /* the twin of filling copies it by memcpy */
 static __attribute__((noinline)) verdict_t twin_cycle(uint32_t part, uint16_t *room, size_t room_length) {
   if (part > 4) return (verdict_t){18, 0};
@@ -166,12 +168,15 @@ static __attribute__((noinline)) void call(case_t *c, int twin, long reps) {
       refused |= (twin ? twin_cycle : gearcard_cycle)(0, room_v, ROOM).number;
       __asm__ volatile("" : : "r"(room_v) : "memory"); /* the room counts as read */
     }
+    break;
+  case WRITE:
+    for (long r = 0; r < reps; r++) refused |= sides[twin].write(c->car, c->v, n, c->h, n, room_w, BYTES).verdict.number;
   }
   if (refused) stop("a benchmark input was refused");
 }
 
 /* ---- the same bytes ---- */
-static long numbers[17];
+static long numbers[18];
 /* Counts the answer that both gave. */
 static uint32_t same_verdict(const char *what, verdict_t a, verdict_t b) {
   if (a.number != b.number || a.place != b.place) {
@@ -218,6 +223,15 @@ static uint32_t same_read(const uint8_t *s, size_t len, size_t rs, size_t rh) {
   return same_verdict("read", a.verdict, b.verdict);
 }
 
+static uint32_t same_write(const car_t *car, const uint16_t *v, size_t n, const uint8_t *h, size_t nh, size_t nr) {
+  static uint8_t x[BYTES + 64], y[BYTES + 64];
+  memset(x, 0xa5, sizeof x);
+  memset(y, 0xa5, sizeof y);
+  written_t a = gearcard_write(*car, v, n, h, nh, x, nr), b = twin_write(*car, v, n, h, nh, y, nr);
+  if (a.length != b.length || memcmp(x, y, sizeof x)) stop("write: bytes differ");
+  return same_verdict("write", a.verdict, b.verdict);
+}
+
 static car_t random_car(void) {
   car_t c;
   memset(&c, 0, sizeof c);
@@ -247,7 +261,7 @@ static car_t random_car(void) {
 
 static void random_checks(long rounds) {
   static uint16_t v[ROOM + 8];
-  static uint8_t h[ROOM + 8], card[ROOM + 8], s[BYTES];
+  static uint8_t h[ROOM + 8], card[ROOM + 8], s[BYTES], t[BYTES];
   for (long r = 0; r < rounds; r++) {
     car_t car = random_car();
     size_t n = rnd(20) ? 1 + rnd(r % 10 ? 120 : 2048) : ROOM;
@@ -281,6 +295,12 @@ static void random_checks(long rounds) {
     case 5: if (rnd(4) == 0) n = nh = nc = 0; break;
     }
     uint32_t no = same_work(&car, v, n, h, nh, nc);
+    if (same_write(&car, v, n, h, nh, BYTES) == 0) { /* and with the last byte that it needs, and without */
+      size_t need = gearcard_write(car, v, n, h, n, s, BYTES).length;
+      same_write(&car, v, n, h, n, need);
+      same_write(&car, v, n, h, n, need - 1 - rnd(2));
+      if (encode(t, &car, v, n, h) != need || memcmp(s, t, need)) stop("write: not the job");
+    }
     if (n == 0) continue;
     for (size_t i = 0; i < n; i++) card[i] = (uint8_t)rnd(256);
     if (no == 0) gearcard_work(car, v, n, h, n, card, n);
@@ -407,6 +427,18 @@ static void build(const char *path) {
   fresh("fill.class3", FILL);
   if (n != GEARCARD_CYCLE) stop("the job is not the Class 3 cycle");
   memcpy(cycle, v, sizeof cycle);
+  /* writing */
+  c = fresh("write.class3", WRITE);
+  c->car = job.vehicle, c->count = n;
+  memcpy(c->v, v, sizeof v);
+  c = fresh("write.long", WRITE); /* 2,048 seconds, a hold at every moving one */
+  c->car = car_of(64), c->count = ROOM;
+  memcpy(c->v, one, sizeof one);
+  for (size_t i = 0; i < ROOM; i++) { /* the lowest gear up to nmax */
+    uint8_t g = 1;
+    while (g < c->car.ng && (uint32_t)c->car.ratio[g - 1] * one[i] > 1000u * c->car.nmax) g++;
+    c->h[i] = one[i] >= 10 ? g : 0;
+  }
 }
 
 /* ---- time ---- */
@@ -462,6 +494,7 @@ int main(int argc, char **argv) {
     if (c->kind == WORK) no = same_work(&c->car, c->v, c->count, c->h, c->count, c->count);
     if (c->kind == READ) no = same_read(c->job, c->length, ROOM, ROOM);
     if (c->kind == FILL) no = same_cycle();
+    if (c->kind == WRITE) no = same_write(&c->car, c->v, c->count, c->h, c->count, BYTES);
     if (c->kind == HOLD) {
       uint8_t h[ROOM], card[ROOM];
       memcpy(h, c->h, ROOM), memcpy(card, c->card, ROOM);
@@ -477,8 +510,8 @@ int main(int argc, char **argv) {
   printf("same bytes on every benchmark input (%d cases)\n", ncases);
   memset(numbers, 0, sizeof numbers);
   random_checks(6000);
-  printf("same bytes on 6000 random cars and traces (work, 6 holds, reads each); answers by number:");
-  for (int i = 0; i < 17; i++) printf(" %d:%ld", i, numbers[i]);
+  printf("same bytes on 6000 random cars and traces (work, writes, 6 holds, reads each); answers by number:");
+  for (int i = 0; i < 18; i++) printf(" %d:%ld", i, numbers[i]);
   printf("\n");
   if (argc > 2 && !strcmp(argv[2], "--check")) return 0;
 

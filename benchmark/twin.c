@@ -6,7 +6,8 @@
    - the checks 4 to 10 as one pass without branches; only where it finds something is the exact refusal looked for, or the holds gone through;
    - first choice, passes A and B and the bytes in one loop over a trip, the gears of the seconds before in registers; pass C on the tail after it;
    - braking (E at most 0) asks for no power, so nothing is looked up; most power is kept along on the way down, so there is no second loop;
-   - a job is parsed once, into buffers, copied when all of it has passed.
+   - a job is parsed once, into buffers, copied when all of it has passed;
+   - a job that is written passes the same quick look; its speeds, which are then at most 2,000, are measured and put without a branch.
 
    To see what each of these is worth, they can be left out one by one at compile time, for the plain way in C: PLAIN_CHECK (each second
    judged in full), PLAIN_CHOOSE (each gear from the top by products; a second loop for most power; no short way when braking), PLAIN_PASSES
@@ -567,5 +568,91 @@ struct gearcard_job twin_read(const uint8_t *job, size_t nj, uint16_t *speeds, s
   verdict_t said = parse(&r, job, nj, speeds, rs, holds, rh);
   if (UNLIKELY(said.number)) memset(&r, 0, sizeof r);
   r.verdict = said;
+  return r;
+}
+
+/* The first refusal of 4 to 9 on a whole trace, exactly. */
+static __attribute__((noinline)) verdict_t exact_written(const car_t *c, const uint16_t *v, size_t n, const uint8_t *h) {
+  uint32_t best = 10;
+  size_t place = 0;
+  for (size_t i = 0; i < n; i++) {
+    uint32_t x = v[i], held = h[i], no = 10;
+    int step = i > 0 ? (int)x - (int)v[i - 1] : 0;
+    if (x > 2000) no = 4;
+    else if (step > 150 || step < -150) no = 5;
+    else if (x >= 10 && (i == 0 || i == n - 1)) no = 6;
+    else if (held) {
+      if (held > c->ng) no = 7;
+      else if (x < 10) no = 8;
+      else if (c->ratio[held - 1] * x > 1000u * c->nmax) no = 9;
+    }
+    if (no < best) best = no, place = i;
+  }
+  return best == 10 ? say(0, 0) : say(best, place);
+}
+
+INLINE size_t size_of(uint32_t x) { return 1 + (size_t)(x >= 128) + (size_t)(x >= 16384); }
+
+INLINE uint8_t *put(uint8_t *s, uint32_t x) {
+  while (x >= 128) *s++ = (uint8_t)(x | 128), x >>= 7;
+  *s++ = (uint8_t)x;
+  return s;
+}
+
+/* The values of a vehicle in a job's order, behind the version. */
+INLINE uint32_t values_of(const car_t *c, uint16_t *to) {
+  uint32_t k = 0, i;
+  to[k++] = 1;
+  to[k++] = c->ng;
+  for (i = 0; i < c->ng; i++) to[k++] = c->ratio[i];
+  to[k++] = c->idle, to[k++] = c->rated, to[k++] = c->nmax, to[k++] = c->f0, to[k++] = (uint16_t)(c->f1 + 5000);
+  to[k++] = c->f2, to[k++] = c->tm, to[k++] = c->margin, to[k++] = c->points;
+  for (i = 0; i < c->points; i++) to[k++] = c->n[i], to[k++] = c->p[i];
+  return k;
+}
+
+struct gearcard_written twin_write(car_t vehicle, const uint16_t *v, size_t n, const uint8_t *h, size_t nh, uint8_t *room, size_t nr) {
+  const car_t *c = &vehicle;
+  struct gearcard_written r = {opening(c, n, nh, n), 0};
+  if (UNLIKELY(r.verdict.number)) return r;
+  unsigned held = any(h, 0, n), odd = speeds_odd(v, 0, n, 2000) | (v[0] >= 10) | (v[n - 1] >= 10);
+  if (held)
+    for (size_t j = 0; j < n; j++) odd |= h[j] && (h[j] > c->ng || v[j] < 10 || c->ratio[h[j] - 1] * v[j] > 1000 * c->nmax);
+  if (UNLIKELY(odd)) {
+    r.verdict = exact_written(c, v, n, h);
+    if (UNLIKELY(r.verdict.number)) return r;
+  }
+  uint16_t values[160];
+  uint32_t most = values_of(c, values), i;
+  size_t need = size_of((uint32_t)n) + n, early = 0, late = 0;
+  for (i = 0; i < most; i++) need += size_of(values[i]);
+  uint16_t long_ones = 0; /* speeds of two bytes; a trace has at most 2,048 */
+  for (size_t j = 0; j < n; j++) long_ones = (uint16_t)(long_ones + (v[j] >= 128));
+  need += long_ones;
+  if (held) {
+    size_t edge = n < 128 ? n : 128;
+    for (size_t j = 0; j < edge; j++) early += h[j] != 0;
+    for (size_t j = edge; j < n; j++) late += h[j] != 0;
+    need += 2 * early + 3 * late; /* a gear is one byte, a second from 128 on two */
+  }
+  need += size_of((uint32_t)(early + late));
+  if (UNLIKELY(nr < need)) {
+    r.verdict = say(17, need);
+    return r;
+  }
+  uint8_t *s = room;
+  for (i = 0; i < most; i++) s = put(s, values[i]);
+  s = put(s, (uint32_t)n);
+  for (size_t j = 0; j < n; j++) { /* the second byte, where there is none, is put over: the hold count follows */
+    uint32_t x = v[j], two = x >= 128;
+    s[0] = (uint8_t)(x | two << 7);
+    s[1] = (uint8_t)(x >> 7);
+    s += 1 + two;
+  }
+  s = put(s, (uint32_t)(early + late));
+  if (held)
+    for (size_t j = 0; j < n; j++)
+      if (h[j]) s = put(s, (uint32_t)j), *s++ = h[j];
+  r.length = need;
   return r;
 }

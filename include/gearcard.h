@@ -38,7 +38,8 @@ struct gearcard_vehicle {
 };
 
 /* The answer: number 0 and place 0 where it is accepted, else the refusal and its place. Seconds and bytes count from 0. Where several apply,
-   gearcard_work, gearcard_hold and gearcard_release give the first in this order, at its lowest second; gearcard_read the first fault of the job from left to right.
+   gearcard_work, gearcard_hold, gearcard_release and gearcard_write give the first in this order, at its lowest second; gearcard_read the first fault of the
+   job from left to right.
 
     1  trace empty or over 2,048 seconds                              place 0
     2  holds or card not as long as the trace;                        place 0
@@ -60,6 +61,7 @@ struct gearcard_vehicle {
    15  hold second not rising or past the trace,                      first byte of the second
        or its gear 0 or over 255
    16  bytes after the end                                            first of them
+   17  room too short for the job (gearcard_write)                    the length needed
    18  part number not 0 to 4 (gearcard_cycle; before 2)              place 0
    19  kind unknown or met twice (gearcard_export)                    byte where the record begins
    20  not a finite number (gearcard_export)                          byte where the record begins
@@ -83,6 +85,18 @@ struct gearcard_job {
 /* Reads a job: fills the first count places of speeds and of holds, hold 0 where the job names none. Room beyond is untouched. It
    judges the counts and the holds' seconds, and that a held gear is 1 to 255: other bounds are left to gearcard_work. */
 struct gearcard_job gearcard_read(const uint8_t *job, size_t job_length, uint16_t *speeds, size_t speeds_length, uint8_t *holds, size_t holds_length);
+
+/* What gearcard_write answers; where it refuses, the length is 0. */
+struct gearcard_written {
+  struct gearcard_verdict verdict;
+  size_t length; /* bytes of the job */
+};
+
+/* Writes the job of a vehicle, a trace and its holds into the start of the room; room beyond is untouched, and room of exactly the length is enough. It
+   refuses by 1 to 9 as gearcard_work does, with no card to look at, and then by 17; never by 10. What it writes reads back as the same job, places of the
+   vehicle that are no part of it as 0, and a job that was read and passes 1 to 9 is written as the same bytes. */
+struct gearcard_written gearcard_write(struct gearcard_vehicle vehicle, const uint16_t *speeds, size_t speeds_length, const uint8_t *holds,
+                                       size_t holds_length, uint8_t *room, size_t room_length);
 
 /* Works the whole trace: fills the card, which is as long as the speeds and the holds. */
 struct gearcard_verdict gearcard_work(struct gearcard_vehicle vehicle, const uint16_t *speeds, size_t speeds_length, const uint8_t *holds,

@@ -2,9 +2,9 @@
    the other end, which so needs no link with the archive.
 
    A request: kind (u32), gear (u32), second (u64), the vehicle's fields in order; for the speeds, the holds and the third slice (the job where kind
-   is READ, the export where it is EXPORT, else the card) the number of elements of the guard before it, of the slice and of the guard after it (u32 each);
+   is READ, the export where it is EXPORT, the room where it is WRITE, else the card) the number of elements of the guard before it, of the slice and of the guard after it (u32 each);
    then the elements of the three, guards included. An answer: number (u32), place (u64); where kind is READ the vehicle's fields and the count (u64), where
-   it is EXPORT F0, F1, F2 and TM; then the elements again. Where kind is CYCLE or CYCLE_PART the second is the part's number and the speeds are the room;
+   it is EXPORT F0, F1, F2 and TM, where it is WRITE the length (u64); then the elements again. Where kind is CYCLE or CYCLE_PART the second is the part's number and the speeds are the room;
    CYCLE_PART answers the count as number and the first second as place. Where kind is DOWNSCALE the second is the factor. All little-endian, as x86-64 is.
    Exit 0 at the end of the requests, 2 where one is cut or past the limits here. */
 #include "gearcard.h"
@@ -12,7 +12,7 @@
 #include <stdio.h>
 #include <stdlib.h>
 
-enum { READ, WORK, HOLD, RELEASE, EXPORT, CYCLE, CYCLE_PART, DOWNSCALE };
+enum { READ, WORK, HOLD, RELEASE, EXPORT, CYCLE, CYCLE_PART, DOWNSCALE, WRITE };
 enum { SECONDS = 4096, BYTES = 32768 };
 
 struct span {
@@ -67,6 +67,7 @@ static void answer(uint32_t kind, uint32_t gear, uint64_t second, struct gearcar
   uint8_t *held = holds + h.before, *last = third + t.before;
   struct gearcard_job job;
   struct gearcard_coefficients coefficients;
+  struct gearcard_written written;
   struct gearcard_verdict verdict;
   if (kind == EXPORT) {
     coefficients = gearcard_export(last, t.length);
@@ -84,6 +85,9 @@ static void answer(uint32_t kind, uint32_t gear, uint64_t second, struct gearcar
     verdict = gearcard_cycle((uint32_t)second, v, s.length);
   } else if (kind == DOWNSCALE) {
     verdict = gearcard_downscale((uint32_t)second, v, s.length);
+  } else if (kind == WRITE) {
+    written = gearcard_write(vehicle, v, s.length, held, h.length, last, t.length);
+    verdict = written.verdict;
   } else {
     struct gearcard_part part = gearcard_cycle_part((uint32_t)second, s.length);
     verdict = (struct gearcard_verdict){(uint32_t)part.count, part.first};
@@ -101,6 +105,7 @@ static void answer(uint32_t kind, uint32_t gear, uint64_t second, struct gearcar
     put(&coefficients.f2, sizeof coefficients.f2);
     put(&coefficients.tm, sizeof coefficients.tm);
   }
+  if (kind == WRITE) put(&written.length, sizeof written.length);
   put(speeds, all_speeds * sizeof *speeds);
   put(holds, all_holds);
   put(third, all_third);
@@ -124,7 +129,7 @@ int main(void) {
     get(&second, sizeof second);
     vehicle_fields(&vehicle, get);
     get(spans, sizeof spans);
-    if (kind > DOWNSCALE || gear > 255) refuse("no such request");
+    if (kind > WRITE || gear > 255) refuse("no such request");
     answer(kind, gear, second, vehicle, spans[0], spans[1], spans[2]);
   }
 }

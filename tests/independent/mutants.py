@@ -99,7 +99,19 @@ EXPORT_SLIPS = [
     ("least: 0, most: 20_000", "least: -1, most: 20_000"), ("least: 0, most: 20_000", "least: 0, most: 20_001"), ("least: 0, most: 20_000", "least: 0, most: 19_999"),
     ("least: 400", "least: 399"), ("least: 400", "least: 401"), ("most: 4_000", "most: 4_001"), ("most: 4_000", "most: 3_999"),
 ]]
-SLIPS = [(*slip, "paper.rs") for slip in SLIPS] + [(*slip, "exports.rs") for slip in EXPORT_SLIPS]
+
+# Slips of the writer.
+WRITE_SLIPS = [
+    ("write: room of just the length refused", "if room < bytes.len() {", "if room <= bytes.len() {", "paper.rs"),
+    ("write: 17 at the room's length", "return Err((17, bytes.len()));", "return Err((17, room));", "paper.rs"),
+    ("write: 17 before 4 to 9", "    seconds_sound(v, speeds, holds, 0, speeds.len() - 1)?;\n    let bytes = jobs::groups(v, speeds, holds).all.concat();\n    if room < bytes.len() {\n        return Err((17, bytes.len()));\n    }\n", "    let bytes = jobs::groups(v, speeds, holds).all.concat();\n    if room < bytes.len() {\n        return Err((17, bytes.len()));\n    }\n    seconds_sound(v, speeds, holds, 0, speeds.len() - 1)?;\n", "paper.rs"),
+    ("write: 10 too", "    seconds_sound(v, speeds, holds, 0, speeds.len() - 1)?;\n    let bytes", "    seconds_good(v, speeds, holds, 0, speeds.len() - 1)?;\n    let bytes", "paper.rs"),
+    ("write: 3 before 2", "    lengths_good(speeds.len(), holds.len(), speeds.len())?;\n    vehicle_good(v)?;\n    seconds_sound", "    lengths_good(speeds.len(), speeds.len(), speeds.len())?;\n    vehicle_good(v)?;\n    lengths_good(speeds.len(), holds.len(), speeds.len())?;\n    seconds_sound", "paper.rs"),
+    ("write: F1 as it stands", "(v.f1 + 5000) as u16", "v.f1 as u16", "jobs.rs"),
+    ("write: a hold of second 1 dropped", "filter(|(_, gear)| *gear != 0)", "filter(|(second, gear)| *second != 1 && *gear != 0)", "jobs.rs"),
+    ("write: p before n", "values.extend([v.n[k], v.p[k]]);", "values.extend([v.p[k], v.n[k]]);", "jobs.rs"),
+]
+SLIPS = [(*slip, "paper.rs") for slip in SLIPS] + [(*slip, "exports.rs") for slip in EXPORT_SLIPS] + WRITE_SLIPS
 
 
 def run(k, name, old, new, file):

@@ -118,7 +118,8 @@ module _ {car : Vehicle} {vs hs old : List ℕ} {s : ℕ} {z : Answer} {ks new :
   pub demand-1-untouched-release : (q : Fault) → said z ≡ some q → (ks ≡ hs) × (new ≡ old)
   demand-1-untouched-release = edit-untouched (a-release H)
 
--- ---- Demand 2. An accepted trace gets, at every second, the gear and clutch that document 01 prescribes
+-- ---- Demand 2. An accepted trace gets, at every second, the gear and clutch that document 01 prescribes. Of the job, in both directions, it stands in the
+-- Demands of `jobs`
 
 module _ {car : Vehicle} {vs hs old : List ℕ} {z : Answer} {new : List ℕ} (W : Worked car vs hs old z new) where
   pub demand-2-card : said z ≡ none → new ≡ card car vs hs

@@ -27,9 +27,9 @@ use Rattle.gears.specs.Parts.{Counts, Has, Lent}
 use Rattle.cards.specs.Rework.{Between, Fitting}
 use Rattle.checks.specs.declared.Span.{Span}
 use Rattle.checks.specs.Checks.{Spanned}
-use Rattle.checks.proofs.Rows.{opening, Opened, after-opening, opening-first, said-none, left-old, left-new}
+use Rattle.checks.proofs.Rows.{opening, Opened, spanned, after-opening, opening-first, said-none, left-old, left-new}
 use Rattle.cards.proofs.Reworking.{between, fitting, ends-stand}
-use Rattle.cards.proofs.Working.{spanned, its-parts}
+use Rattle.cards.proofs.Working.{its-parts}
 
 -- past the opening, at a second of the trace
 pub record InTrace (car : Vehicle) (vs hs old : List ℕ) (s g : ℕ) : Type 0 where

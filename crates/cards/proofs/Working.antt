@@ -22,8 +22,6 @@ use Rattle.rules.proofs.Laws.Words.{by-order}
 use Rattle.rules.proofs.Laws.Trips.{standing-past}
 use Rattle.gears.specs.declared.Numbers.{Numbers}
 use Rattle.gears.specs.Parts.{Counts, Lent}
-use Rattle.gears.proofs.Parts.{ng-of, idle-of, rated-of}
-use Rattle.checks.specs.Checks.{Spanned}
 use Rattle.checks.proofs.Rows.{opening, Opened, after-opening, opening-first, said-none, left-old, left-new}
 use Rattle.cards.specs.Rework.{Range, Passes}
 use Rattle.cards.proofs.Patches.{patch-all}
@@ -35,16 +33,6 @@ module _ (car : Vehicle) (vs hs old : List ℕ) where
   pub work-opening : {x : Answer} {q : Refusal} → said x ≡ opening car vs hs old → x ≡ Refused q → (said x ≡ work-fault car vs hs old) × (old ≡ work-card car vs hs old)
   unfolding work-fault work-card
   work-opening e h = let f = opening-first car vs hs old (span-fault car vs hs 0 (length vs)) e h in (f, left-old old (card car vs hs) f h)
-
--- what the checks of a span ask of the vehicle
-pub spanned : {k : Numbers} {car : Vehicle} {vs hs old : List ℕ} {lo hi : ℕ} → Counts car k → Opened car vs hs old → lo ≤ hi → hi ≤ length vs → Spanned k vs hs lo hi
-spanned K O a b = record {
-  ng-to = omega (arith, O .bounds .ng-to, ng-of K);
-  rated-from = omega (arith, O .bounds .rated-from, idle-of K, rated-of K);
-  order = a;
-  inside = b;
-  rooms = O .holds-long;
-}
 
 -- the parts that are lent of a vehicle whose opening has passed
 pub its-parts : {k : Numbers} {car : Vehicle} {vs hs old : List ℕ} → Counts car k → Opened car vs hs old → Lent car k (car .ratio) (car .n) (car .p)

@@ -17,6 +17,10 @@ use Rattle.rules.specs.Units.{longest}
 use Rattle.rules.specs.Refusals.{Fault, said, refuse-at, _orelse_, when, trace-fault, room-fault, vehicle-fault, left}
 use Rattle.rules.specs.Vocabulary.{InBounds}
 use Rattle.rules.proofs.Laws.Checks.{orelse-none, none-orelse, orelse-assoc, rooms-in, vehicle-in}
+use Rattle.gears.specs.declared.Numbers.{Numbers}
+use Rattle.gears.specs.Parts.{Counts}
+use Rattle.gears.proofs.Parts.{ng-of, idle-of, rated-of}
+use Rattle.checks.specs.Checks.{Spanned}
 
 -- ---- an answer and a row of checks
 
@@ -98,6 +102,16 @@ opened {car} {vs} {hs} {old} e h =
     let b = orelse-none (room-fault vs hs old) (vehicle-fault car) (a .1) in
     let l = rooms-in vs hs old (b .0) in
     record { trace = a .0; room = b .0; vehicle = b .1; holds-long = l .0; card-long = l .1; bounds = vehicle-in car (b .1) }
+
+-- what the checks of a span ask of the vehicle
+pub spanned : {k : Numbers} {car : Vehicle} {vs hs old : List ℕ} {lo hi : ℕ} → Counts car k → Opened car vs hs old → lo ≤ hi → hi ≤ length vs → Spanned k vs hs lo hi
+spanned K O a b = record {
+  ng-to = omega (arith, O .bounds .ng-to, ng-of K);
+  rated-from = omega (arith, O .bounds .rated-from, idle-of K, rated-of K);
+  order = a;
+  inside = b;
+  rooms = O .holds-long;
+}
 
 -- a row that begins with the opening
 pub after-opening : {car : Vehicle} {vs hs old : List ℕ} (r : Option Fault) → Opened car vs hs old → (trace-fault vs orelse room-fault vs hs old orelse vehicle-fault car orelse r) ≡ r

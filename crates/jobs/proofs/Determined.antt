@@ -13,6 +13,8 @@ use Rattle.jobs.proofs.groups.group_at.Kinds as group-at-kinds
 use Rattle.jobs.proofs.groups.group_at.Reads as group-at-reads
 use Rattle.jobs.proofs.read.Kinds as read-kinds
 use Rattle.jobs.proofs.read.Reads as read-reads
+use Rattle.jobs.proofs.writer.write.Kinds as write-kinds
+use Rattle.jobs.proofs.writer.write.Reads as write-reads
 
 one-group : (x y : Group) → told x ≡ told y → x ≡ y
 one-group (group-is.Value v i) (group-is.Value w j) e = cc
@@ -32,4 +34,13 @@ read κs a asked z z′ ws ws′ p q = (
     count = (p .the-count ∙ sym (q .the-count)) i;
   },
   λ i. (tt, ((p .speeds-left ∙ sym (q .speeds-left)) i, ((p .holds-left ∙ sym (q .holds-left)) i, tt))),
+)
+
+pub write : Determined write-kinds.ps write-kinds.r write-reads.Asked write-reads.Learnt
+write κs a asked z z′ ws ws′ p q = (
+  λ i. record {
+    answer = said-once (z .answer) (z′ .answer) (p .answered ∙ sym (q .answered)) i;
+    length = (p .the-length ∙ sym (q .the-length)) i;
+  },
+  λ i. (tt, (tt, (tt, ((p .room-left ∙ sym (q .room-left)) i, tt)))),
 )

@@ -1,20 +1,24 @@
 -- What stands in the rooms at the end is what was read; a refusal leaves them as they were.
 -- Assumes nothing.
 use Prim.Native.Nat.{ℕ, _≤_}
+use native.Mathlib.Omega.{arith}
 use mathlib.Core.Path.{_≡_, sym, _∙_}
 use mathlib.Core.List.{List, _++_}
-use lib.ListN.{length, take, drop, replicate, length-replicate}
-use lib.Seq.{length-take-le}
+use lib.ListN.{length, take, drop, replicate, length-append, length-replicate}
+use lib.Seq.{length-take-le, take-append-seam}
 use mathlib.Core.Bool.{true}
 use Rattle.rules.specs.declared.Vehicle.{Vehicle}
 use Rattle.rules.specs.declared.Refusal.{Refusal}
 use Rattle.rules.specs.declared.Answer.the-variants.{Done, Refused}
+use Rattle.rules.specs.Units.{longest}
 use Rattle.rules.specs.Refusals.{said}
 use Rattle.rules.specs.Groups.{got, refused, hand-on}
 use Rattle.rules.specs.Forms.{value, many}
-use Rattle.rules.specs.Job.{rising, put, job-read, read-fault, job-of, filled}
+use Rattle.rules.specs.Job.{rising, put, Job, job-read, read-fault, job-of, filled}
 use Rattle.rules.proofs.Laws.Forms.{value-sound}
 use Rattle.rules.proofs.Laws.Gathers.{length-put}
+use Rattle.rules.proofs.Laws.Jobs.{Even, job-even}
+use Rattle.jobs.specs.declared.Reading.{Reading}
 use Rattle.jobs.specs.Reader.{fault, reading, ReadAs}
 use Rattle.jobs.specs.Stages.{nothing, used}
 use Rattle.jobs.proofs.Steps.{same-value, many-length, values, judged-comes}
@@ -59,3 +63,31 @@ unfolding reading said read-fault job-of
 filled-as job speeds holds e n s h =
     let r = sym e in
     record { answered = rw r; the-version = rw r; the-vehicle = rw r; the-count = rw r (sym n); speeds-left = rw r s; holds-left = rw r h }
+
+-- ---- the rooms as the reader leaves them: their start is what was read
+
+pub record Rooms (j : Job) (n : ℕ) (speeds holds : List ℕ) : Type 0 where
+  pub few : n ≤ longest
+  pub speeds-fit : n ≤ length speeds
+  pub holds-fit : n ≤ length holds
+  pub speeds-are : take n speeds ≡ j .speeds
+  pub holds-are : take n holds ≡ j .holds
+
+-- a room that was filled begins with what it was filled with
+pub filled-start : (room values : List ℕ) (n : ℕ) → n ≡ length values → (n ≤ length (filled room values)) × (take n (filled room values) ≡ values)
+unfolding filled
+filled-start room values n e = (rw length-append (omega arith), rw e (take-append-seam values _))
+
+pub rooms : {job s₀ h₀ s h : List ℕ} {r : Reading} → ReadAs job s₀ h₀ r s h → Rooms (job-of (reading job s₀ h₀)) (r .count) s h
+unfolding reading
+rooms {job} {s₀} {h₀} {s} {h} {r} a =
+    let z : Even (job-of (reading job s₀ h₀)) = job-even job (length s₀) (length h₀) in
+    let v = filled-start s₀ (job-of (reading job s₀ h₀) .speeds) (r .count) (a .the-count) in
+    let w = filled-start h₀ (job-of (reading job s₀ h₀) .holds) (r .count) (a .the-count ∙ sym (z .even)) in
+    record {
+      few = rw (a .the-count) (z .few);
+      speeds-fit = rw (a .speeds-left) (v .0);
+      holds-fit = rw (a .holds-left) (w .0);
+      speeds-are = rw (a .speeds-left) (v .1);
+      holds-are = rw (a .holds-left) (w .1);
+    }

@@ -17,8 +17,9 @@ use Rattle.rules.specs.Groups.{Read, got, refused, hand-on, _>>=_, give, demand
 use Rattle.rules.specs.Forms.{Form, value, checked, bounded, _then_, seen, many, counted}
 use Rattle.rules.specs.Job.{version, gearbox, numbers, point, curve, hold, padded, vehicle-of, vehicle}
 use Rattle.rules.proofs.Laws.Reading.{ends-first, ends-second, two-bad, ends-third, three-of, good, three-if}
-use Rattle.rules.proofs.Laws.Words.{by-test, by-order, and-left, and-right, both}
+use Rattle.rules.proofs.Laws.Words.{by-test, by-order, and-left, and-right}
 use Rattle.rules.proofs.Laws.Vehicle.{within-lo, within-hi}
+use Rattle.rules.proofs.Laws.Takes.{in-range}
 use Rattle.rules.proofs.Laws.Forms.{says-now, Sound, value-sound, bounded-sound}
 use Rattle.rules.proofs.Laws.Jobs.{point-sound}
 use Rattle.jobs.specs.Stages.{reached, Comes, used, into, gears, columns, car-of}
@@ -31,10 +32,6 @@ use Rattle.jobs.proofs.Steps.{joined, ext, never, use-as-is, many-lengt
 pub fails : (t : Bool) → (t ≡ true → ⊥) → t ≡ false
 fails true n = absurd (n refl)
 fails false n = refl
-
-pub in-range : (lo hi v : ℕ) → lo ≤ v → v ≤ hi → within lo hi v ≡ true
-unfolding within
-in-range lo hi v x y = both (le-leb _ _ x) (le-leb _ _ y)
 
 pub out-of-range : (lo hi v : ℕ) → (lo ≤ v → v ≤ hi → ⊥) → within lo hi v ≡ false
 out-of-range lo hi v n = fails _ (λ t. n (within-lo lo hi v t) (within-hi lo hi v t))

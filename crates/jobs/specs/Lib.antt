@@ -1,3 +1,4 @@
--- What the reader promises, and the stages of its code.
+-- What the reader and the writer promise, and the stages of their code.
 pub mod Reader
 pub mod Stages
+pub mod Writing

@@ -1,11 +1,15 @@
-// The job reader of document 01: the first fault from left to right, and nothing written where there is one.
+// The job reader of document 01: the first fault from left to right, and nothing written where there is one. And the job writer of document 02.
 ghost use mathlib.Core.Path.{_≡_};
 ghost use Rattle.jobs.specs.Reader.{ReadAs};
 ghost use Rattle.jobs.specs.Stages.{group-came, came-answer, nothing};
 
 mod groups;
 mod holds;
+mod numbers;
+mod puts;
+mod sizes;
 mod vehicle;
+mod writer;
 
 use groups::bounded;
 pub use groups::group_at;
@@ -19,6 +23,7 @@ use rules::Refusal;
 use rules::Vehicle;
 use vehicle::blank;
 use vehicle::car_at;
+pub use writer::write;
 
 // What reading a group answers: its value and the place after it, or why not.
 pub enum Group {
@@ -30,6 +35,18 @@ pub enum Group {
 enum Came {
     To(usize),
     Fault(Refusal),
+}
+
+// How many holds a trace has, and the bytes of their seconds and gears.
+struct Tally {
+    count: u16,
+    bytes: usize,
+}
+
+// What the writer answers: how many bytes it wrote, 0 where it refuses.
+pub struct Written {
+    pub answer: Answer,
+    pub length: usize,
 }
 
 // A group that was judged: its value and the place after it.

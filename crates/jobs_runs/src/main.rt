@@ -1,8 +1,9 @@
-// Runs the job reader on document 01's cases and on car Z's job, and prints what it answers, one line for each group of cases.
+// Runs the job reader and the job writer on document 01's cases and on car Z's job, and prints what they answer, one line for each group of cases.
 // `stdout` is what the paper asks for.
 ghost use Prim.Native.Nat.{_≤_};
 use jobs::Group;
 use jobs::Reading;
+use jobs::Written;
 use rules::Answer;
 use rules::Vehicle;
 use runs::say;
@@ -389,6 +390,68 @@ fn holds() {
     say(b"\n");
 }
 
+// What the writer answers: how many bytes, or the refusal.
+fn say_written(w: Written) {
+    let a = w.answer;
+    match a {
+        Answer::Done => {
+            say(b" wrote");
+            say_place(w.length);
+        }
+        Answer::Refused(refusal) => say_refusal(refusal),
+    }
+    say(b";");
+}
+
+// Car Z written, with these speeds and holds.
+fn write_into<'a>(speeds: &'a [u16], holds: &'a [u8], room: &mut [u8]) {
+    say_written(jobs::write(runs::car_z(), speeds, holds, room));
+}
+
+// Car Z's job, with room beyond as it was; then with gear 3 held at second 2, the hold at its end.
+fn written() {
+    let speeds = [0u16, 50, 150, 100, 0];
+    let none = [0u8; 5];
+    let held = [0u8, 0, 3, 0, 0];
+    let mut room = [7u8; 67];
+    say(b"written:");
+    write_into(&speeds, &none, &mut room);
+    answer(start(&room, 63));
+    say_bytes(&room);
+    say(b"\nheld:");
+    write_into(&speeds, &held, &mut room);
+    answer(start(&room, 65));
+    say_bytes(&room);
+    say(b"\n");
+}
+
+// 1, 2, 6, 7, 8 and 9, where the room is too short as well; then 17 by the length needed, and room of just that length.
+fn not_written() {
+    let speeds = [0u16, 50, 150, 100, 0];
+    let none = [0u8; 5];
+    let over = [0u8, 0, 6, 0, 0];
+    let standing = [0u8, 0, 0, 0, 1];
+    let moving = [0u16, 50, 150, 100, 50];
+    let fast = [0u16, 150, 300, 450, 600, 450, 300, 150, 0];
+    let long = [0u16; 2049];
+    let first = [0u8, 0, 0, 0, 1, 0, 0, 0, 0];
+    let mut short = [7u8; 62];
+    let mut exact = [7u8; 63];
+    say(b"not written:");
+    write_into(&long, &none, &mut short);
+    write_into(&speeds, start(&none, 4), &mut short);
+    write_into(&moving, &none, &mut short);
+    write_into(&speeds, &over, &mut short);
+    write_into(&speeds, &standing, &mut short);
+    write_into(&fast, &first, &mut short);
+    write_into(&speeds, &none, &mut short);
+    if !marked_bytes(&short) {
+        say(b" after writing");
+    }
+    write_into(&speeds, &none, &mut exact);
+    say(b"\n");
+}
+
 fn main() {
     groups();
     bad_groups();
@@ -399,4 +462,6 @@ fn main() {
     cut();
     longer();
     holds();
+    written();
+    not_written();
 }

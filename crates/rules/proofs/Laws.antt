@@ -26,6 +26,7 @@ pub mod Takes
 pub mod Gathers
 pub mod Jobs
 pub mod Lines
+pub mod Writes
 pub mod Reach
 pub mod Long
 pub mod Refusals

@@ -17,11 +17,13 @@ use Rattle.rules.specs.Units.{bad-field, longest, fastest, steepest, mov
 use Rattle.rules.specs.Gears.{Place, engine, under-nmax, fits, required, Power, on-segment, segment, power-speed, choose}
 use Rattle.rules.specs.Corrections.{peak, rising, slowing, gear-at, card-at, card}
 use Rattle.rules.specs.Refusals.{said, refuse-at, _orelse_, speed, step, ends, fault-of, span-fault, work-fault, left, work-card, edit-fault}
-use Rattle.rules.specs.Job.{most-groups, longest-job}
+use Rattle.rules.specs.Job.{most-groups, longest-job, Job, job-read}
 use Rattle.rules.specs.Text.{printed}
 use Rattle.rules.specs.Quick.{span-lo, span-hi, own-fault, quick-fault, reworked, quick-holds, quick-card}
 use Rattle.rules.specs.Holds.{asked, hold-fault, hold-holds, hold-card, release-fault, release-holds, release-card}
-use Rattle.rules.specs.Vocabulary.{IsTrip, FirstChoice, OnSegment, Wanting, PassesOthers, Out, Edit, SameSpan, OneForm, _times_, In64, nested, nested-sum, engine-sum, idle-sum, required-sum, w-sum, Q-sum, margin-sum}
+use Rattle.rules.specs.Vocabulary.{IsTrip, FirstChoice, OnSegment, Wanting, PassesOthers, Out, Edit, SameSpan, OneForm, _times_, In64, nested, nested-sum, engine-sum, idle-sum, required-sum, w-sum, Q-sum, margin-sum, Bytes}
+use Rattle.rules.specs.Groups.{got}
+use Rattle.rules.specs.Write.{job-from, job-fault, write-fault, written, cleared}
 use Rattle.rules.proofs.Laws.Words.{by-order, pass-keeps}
 use Rattle.rules.proofs.Laws.Trips.{trip-of, trip-le, trip-start, trip-stop, start-before, stop-after, stop-in, moving-in}
 use Rattle.rules.proofs.Laws.Vehicle.{in-bounds}
@@ -38,6 +40,7 @@ use Rattle.rules.proofs.Laws.Quick.{quick-whole}
 use Rattle.rules.proofs.Laws.Span.{looks-at-span, reworks-span, card-frame, card-standing, holds-frame, quick-shows}
 use Rattle.rules.proofs.Laws.Holds.{asked-gear, held-from-one, none-held-moving, none-held-standing, none-held-right, hold-whole, release-whole, free-released, cleared-standing, fault-of-two, holds-of-two, card-of-two}
 use Rattle.rules.proofs.Laws.Groups.{one-form}
+use Rattle.rules.proofs.Laws.Writes.{writable, reads-written, writes-read, write-none, none-write}
 use Rattle.rules.proofs.Laws.Long.{long-job}
 use Rattle.rules.proofs.Laws.Refusals.{said-once}
 
@@ -236,6 +239,22 @@ module _ (car : Vehicle) (vs hs old : List ℕ) (s : ℕ) where
 
 pub one-form-each : (n : ℕ) → n ≤ 65535 → OneForm n
 one-form-each = one-form
+
+-- ---- 9. The job, both ways
+
+-- what is written reads back as the same job, in rooms that are long enough; places of the vehicle that are no part of a job as 0
+pub written-reads-back : (car : Vehicle) (vs hs room : List ℕ) → write-fault car vs hs room ≡ none → (a b : ℕ) → length vs ≤ a → length vs ≤ b
+    → job-read (written car vs hs room) a b ≡ got (job-from (cleared car) vs hs) (length (written car vs hs room))
+written-reads-back car vs hs room e a b x y = let w = write-none car vs hs room e in rw (w .1) (reads-written car vs hs (writable car vs hs (w .0)) a b x y)
+
+-- a job that is read and passes checks 1 to 9 is written as the same bytes, in room that is long enough
+pub read-writes-back : (bytes : List ℕ) → Bytes bytes → (a b : ℕ) {j : Job} {end : ℕ} → job-read bytes a b ≡ got j end
+    → job-fault (j .vehicle) (j .speeds) (j .holds) ≡ none → (room : List ℕ) → length bytes ≤ length room
+    → (write-fault (j .vehicle) (j .speeds) (j .holds) room ≡ none) × (written (j .vehicle) (j .speeds) (j .holds) room ≡ bytes)
+read-writes-back bytes h a b {j} e ok room l =
+    let same = writes-read bytes h a b e in
+    let f = none-write (j .vehicle) (j .speeds) (j .holds) room ok (rw same l) in
+    (f, write-none (j .vehicle) (j .speeds) (j .holds) room f .1 ∙ same)
 
 -- ---- The card program: of an input that is longer than the longest job, as many bytes as the longest job has and one more say all that is printed
 

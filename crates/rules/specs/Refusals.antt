@@ -8,7 +8,7 @@ use lib.ListN.{length}
 use lib.Dec.{leb, ltb, eqb}
 use Rattle.rules.specs.declared.Vehicle.{Vehicle}
 use Rattle.rules.specs.declared.Refusal.{Refusal}
-use Rattle.rules.specs.declared.Refusal.the-variants.{TraceLength, RoomLength, VehicleField, OutsideTrace, SpeedOver, StepOver, EndMoving, HoldOverNg, HoldStanding, HoldOverRev, NoGear, JobEndsEarly, BadGroup, BadVersion, BadHold, BytesAfter, BadPart, BadKind, NotFinite, OutOfBounds, KindMissing, BadFactor}
+use Rattle.rules.specs.declared.Refusal.the-variants.{TraceLength, RoomLength, VehicleField, OutsideTrace, SpeedOver, StepOver, EndMoving, HoldOverNg, HoldStanding, HoldOverRev, NoGear, JobEndsEarly, BadGroup, BadVersion, BadHold, BytesAfter, RoomShort, BadPart, BadKind, NotFinite, OutOfBounds, KindMissing, BadFactor}
 use Rattle.rules.specs.declared.Answer.{Answer}
 use Rattle.rules.specs.declared.Answer.the-variants.{Done, Refused}
 use Rattle.rules.specs.Words.{if_then_else_, _and_, _or_, within, at, first}
@@ -36,6 +36,8 @@ number (BadGroup b) = 13
 number BadVersion = 14
 number (BadHold b) = 15
 number (BytesAfter b) = 16
+-- document 02, request One
+number (RoomShort n) = 17
 -- document 02, request Three
 number BadPart = 18
 -- document 02, request Five
@@ -64,6 +66,7 @@ place (BadGroup b) = b
 place BadVersion = 0
 place (BadHold b) = b
 place (BytesAfter b) = b
+place (RoomShort n) = n
 place BadPart = 0
 place (BadKind b) = b
 place (NotFinite b) = b

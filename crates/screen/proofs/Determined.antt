@@ -5,6 +5,8 @@ use Rattle.once.specs.Determined.{Determined}
 use Rattle.exports.proofs.Determined.{one-number}
 use Rattle.screen.proofs.gearcard_read.Kinds as read-kinds
 use Rattle.screen.proofs.gearcard_read.Reads as read-reads
+use Rattle.screen.proofs.gearcard_write.Kinds as write-kinds
+use Rattle.screen.proofs.gearcard_write.Reads as write-reads
 use Rattle.screen.proofs.gearcard_work.Kinds as work-kinds
 use Rattle.screen.proofs.gearcard_work.Reads as work-reads
 use Rattle.screen.proofs.gearcard_hold.Kinds as hold-kinds
@@ -28,6 +30,12 @@ gearcard-read κs a asked z z′ ws ws′ p q = (
     count = (p .the-count ∙ sym (q .the-count)) i;
   },
   λ i. (tt, ((p .speeds-left ∙ sym (q .speeds-left)) i, ((p .holds-left ∙ sym (q .holds-left)) i, tt))),
+)
+
+pub gearcard-write : Determined write-kinds.ps write-kinds.r write-reads.Asked write-reads.Learnt
+gearcard-write κs a asked z z′ ws ws′ p q = (
+  λ i. record { verdict = (p .answered ∙ sym (q .answered)) i; length = (p .the-length ∙ sym (q .the-length)) i },
+  λ i. (tt, (tt, (tt, ((p .room-left ∙ sym (q .room-left)) i, tt)))),
 )
 
 pub gearcard-work : Determined work-kinds.ps work-kinds.r work-reads.Asked work-reads.Learnt

@@ -9,10 +9,13 @@ use lib.IntN.{pos}
 use Rattle.rules.specs.declared.Answer.{Answer}
 use Rattle.rules.specs.declared.Answer.the-variants.{Done, Refused}
 use Rattle.rules.specs.Refusals.{Fault, said, answer-number, answer-place}
+use Rattle.rules.specs.declared.Vehicle.{Vehicle}
 use Rattle.rules.specs.Job.{job-read, read-fault, job-of, filled}
+use Rattle.rules.specs.Write.{write-fault, written, write-room}
 use Rattle.exports.specs.Export.{export-read, numbers-of}
 use Rattle.screen.specs.declared.Verdict.{Verdict}
 use Rattle.screen.specs.declared.Job as screen
+use Rattle.screen.specs.declared.Written.{Written}
 use Rattle.screen.specs.declared.Coefficients.{Coefficients}
 
 -- a refusal as the screen is told it
@@ -37,6 +40,12 @@ pub record ScreenRead (job speeds holds : List ℕ) (r : screen.Job) (speeds′ 
   pub the-count : r .count ≡ length (job-of (job-read job (length speeds) (length holds)) .speeds)
   pub speeds-left : speeds′ ≡ filled speeds (job-of (job-read job (length speeds) (length holds)) .speeds)
   pub holds-left : holds′ ≡ filled holds (job-of (job-read job (length speeds) (length holds)) .holds)
+
+-- the answer r, and the room as it is left, are what is written
+pub record ScreenWrite (car : Vehicle) (vs hs room : List ℕ) (r : Written) (room′ : List ℕ) : Type 0 where
+  pub answered : r .verdict ≡ as-verdict (write-fault car vs hs room)
+  pub the-length : r .length ≡ length (written car vs hs room)
+  pub room-left : room′ ≡ write-room car vs hs room
 
 -- the answer r is what is read of the export; all 0 where it is refused
 pub record ScreenExport (bytes : List ℕ) (r : Coefficients) : Type 0 where

@@ -1,12 +1,12 @@
-// The C functions for driver's aid screens: thin wrappers over the readers, the working, the two buttons and the built-in cycle. include/gearcard.h declares
-// them.
+// The C functions for driver's aid screens: thin wrappers over the readers, the writer, the working, the two buttons and the built-in cycle.
+// include/gearcard.h declares them.
 ghost use mathlib.Core.Path.{_≡_};
 ghost use Rattle.rules.specs.Refusals.{work-fault, work-card};
 ghost use Rattle.rules.specs.Holds.{hold-fault, hold-holds, hold-card, release-fault, release-holds, release-card};
 ghost use lib.ListN.{length};
 ghost use Rattle.cycles.specs.Parts.{fill-fault, fill-room, stretch};
 ghost use Rattle.downscale.specs.Steps.{down-fault, down-room};
-ghost use Rattle.screen.specs.Screen.{says, as-verdict, ScreenRead, ScreenExport};
+ghost use Rattle.screen.specs.Screen.{says, as-verdict, ScreenRead, ScreenWrite, ScreenExport};
 use cycles::Stretch;
 use rules::Answer;
 use rules::Vehicle;
@@ -24,6 +24,13 @@ pub struct Job {
     pub verdict: Verdict,
     pub vehicle: Vehicle,
     pub count: usize,
+}
+
+// What the writer answers: how many bytes it wrote, 0 where it refuses.
+#[repr(C)]
+pub struct Written {
+    pub verdict: Verdict,
+    pub length: usize,
 }
 
 // What the export reader answers: where it refuses, all are 0.
@@ -58,6 +65,25 @@ pub extern "C" fn gearcard_read(job: &[u8], speeds: &mut [u16], holds: &mut [u8]
         verdict: verdict,
         vehicle: vehicle,
         count: reading.count,
+    }
+}
+
+// Writes a job into the start of the lent room.
+#[no_mangle]
+pub extern "C" fn gearcard_write<'a>(
+    vehicle: Vehicle,
+    speeds: &'a [u16],
+    holds: &'a [u8],
+    room: &mut [u8],
+) -> Written
+    ensures { λ r. ⌜ ScreenWrite vehicle (now (speeds .entry)) (now (holds .entry)) (now (room .entry)) r (now (room .exit)) ⌝ }
+{
+    let written = jobs::write(vehicle, speeds, holds, room);
+    let said = written.answer;
+    let verdict = verdict_of(said);
+    Written {
+        verdict,
+        length: written.length,
     }
 }
 

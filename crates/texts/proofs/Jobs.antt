@@ -5,8 +5,7 @@ use native.Mathlib.Omega.{arith}
 use mathlib.Core.Path.{_≡_, refl, sym, _∙_}
 use mathlib.Core.Option.{none, some}
 use mathlib.Core.List.{List}
-use lib.ListN.{length, take, length-append}
-use lib.Seq.{take-append-seam}
+use lib.ListN.{length, take}
 use Rattle.rules.specs.declared.Vehicle.{Vehicle}
 use Rattle.rules.specs.declared.Refusal.{Refusal}
 use Rattle.rules.specs.declared.Answer.{Answer}
@@ -14,12 +13,12 @@ use Rattle.rules.specs.declared.Answer.the-variants.{Done, Refused}
 use Rattle.rules.specs.Units.{longest}
 use Rattle.rules.specs.Refusals.{Fault, number, place, said, work-fault, left, work-card}
 use Rattle.rules.specs.Groups.{Read, got, refused}
-use Rattle.rules.specs.Job.{Job, read-fault, job-of, filled}
+use Rattle.rules.specs.Job.{Job, read-fault, job-of}
 use Rattle.rules.specs.Text.{card-text, refusal-text, worked-text, read-text, printed}
 use Rattle.rules.proofs.Laws.Lines.{room-alone}
-use Rattle.rules.proofs.Laws.Jobs.{Even, job-even}
 use Rattle.jobs.specs.declared.Reading.{Reading}
 use Rattle.jobs.specs.Reader.{reading, ReadAs}
+use Rattle.jobs.proofs.Rooms.{rooms}
 use Rattle.texts.specs.Writing.{text-of}
 
 -- ---- what the working says, as text
@@ -39,34 +38,10 @@ module _ (car : Vehicle) (vs hs old : List ℕ) (e : length old ≡ length vs) w
 
 -- ---- what was read, as the code has it
 
--- the rooms as the reader leaves them: their start is what was read
-pub record Rooms (j : Job) (n : ℕ) (speeds holds : List ℕ) : Type 0 where
-  pub few : n ≤ 2048
-  pub speeds-fit : n ≤ length speeds
-  pub holds-fit : n ≤ length holds
-  pub speeds-are : take n speeds ≡ j .speeds
-  pub holds-are : take n holds ≡ j .holds
-
--- a room that was filled begins with what it was filled with
-filled-start : (room values : List ℕ) (n : ℕ) → n ≡ length values → (n ≤ length (filled room values)) × (take n (filled room values) ≡ values)
-unfolding filled
-filled-start room values n e = (rw length-append (omega arith), rw e (take-append-seam values _))
-
-module _ {job s₀ h₀ s h : List ℕ} {r : Reading} (a : ReadAs job s₀ h₀ r s h) where
-  -- the reader leaves the rooms so
-  pub rooms : Rooms (job-of (reading job s₀ h₀)) (r .count) s h
-  unfolding longest reading
-  rooms =
-      let z : Even (job-of (reading job s₀ h₀)) = job-even job (length s₀) (length h₀) in
-      let v = filled-start s₀ (job-of (reading job s₀ h₀) .speeds) (r .count) (a .the-count) in
-      let w = filled-start h₀ (job-of (reading job s₀ h₀) .holds) (r .count) (a .the-count ∙ sym (z .even)) in
-      record {
-        few = rw (a .the-count) (z .few);
-        speeds-fit = rw (a .speeds-left) (v .0);
-        holds-fit = rw (a .holds-left) (w .0);
-        speeds-are = rw (a .speeds-left) (v .1);
-        holds-are = rw (a .holds-left) (w .1);
-      }
+-- the card program has room for the longest trace
+pub few : {job s₀ h₀ s h : List ℕ} {r : Reading} → ReadAs job s₀ h₀ r s h → r .count ≤ 2048
+unfolding longest
+few a = rooms a .few
 
 -- what is printed of a reading that refuses nothing
 done-read : (x : Read Job) → none ≡ read-fault x → text-of (job-of x .vehicle) (job-of x .speeds) (job-of x .holds) ≡ read-text x

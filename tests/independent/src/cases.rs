@@ -7,10 +7,10 @@ use crate::library::{Library, Loan};
 use crate::paper::{self, Edited, Refusal};
 use crate::rng::Rng;
 use crate::traces;
-use crate::vehicle::Vehicle;
+use crate::vehicle::{Vehicle, ZERO};
 use crate::vehicles;
 
-pub const KINDS: [&str; 5] = ["read", "work", "hold", "release", "export"];
+pub const KINDS: [&str; 6] = ["read", "work", "hold", "release", "export", "write"];
 
 /// The number of the answer (0: accepted), or a description of the mismatch.
 pub type Outcome = Result<u32, String>;
@@ -22,7 +22,8 @@ pub fn run(library: &mut Library, seed: u64, kind: usize, index: u64) -> Outcome
         1 => work_case(library, &mut r),
         2 => hold_case(library, &mut r),
         3 => release_case(library, &mut r),
-        _ => export_case(library, &mut r),
+        4 => export_case(library, &mut r),
+        _ => write_case(library, &mut r),
     };
     outcome.map_err(|why| format!("FAILED: gearcard_{}, seed {seed}, case {index}\n{why}", KINDS[kind]))
 }
@@ -294,4 +295,81 @@ fn export_case(library: &mut Library, r: &mut Rng) -> Outcome {
     let loan = Loan::new(r, &[], &[], &bytes);
     library.export(&loan, &expected).map_err(|why| format!("{why}\nexport ({}) {bytes:?}\nreference: {expected:?}", bytes.len()))?;
     Ok(number(&expected))
+}
+
+// ---------------------------------------------------------------- the writer
+
+fn write_case(library: &mut Library, r: &mut Rng) -> Outcome {
+    let (c, was) = to_write(r);
+    let needed = paper::write(&c.vehicle, &c.speeds, &c.holds, usize::MAX).map_or(300, |bytes| bytes.len());
+    let room: Vec<u8> = (0..write_room(r, needed)).map(|_| r.next() as u8).collect();
+    let expected = paper::write(&c.vehicle, &c.speeds, &c.holds, room.len());
+    let loan = Loan::new(r, &c.speeds, &c.holds, &room);
+    let told = |why: String| format!("{why}\nroom {}\n{}\nreference: {expected:?}", room.len(), describe(&c));
+    library.write(&c.vehicle, &loan, &expected).map_err(told)?;
+    if let Ok(bytes) = &expected {
+        if room.len() == bytes.len() {
+            note(Event::RoomExact);
+        }
+        reads_back(library, r, &c, bytes).map_err(told)?;
+        written_as_read(bytes, was.as_deref()).map_err(told)?;
+    }
+    Ok(number(&expected))
+}
+
+/// What a screen has at hand, sound or spoiled; or what was read of a job, with that job's bytes.
+fn to_write(r: &mut Rng) -> (Setting, Option<Vec<u8>>) {
+    if r.chance(35) {
+        let (bytes, _) = job(r);
+        if let Ok(job) = paper::read(&bytes, paper::LONGEST, paper::LONGEST) {
+            return (Setting { vehicle: job.vehicle, speeds: job.speeds, holds: job.holds, card: Vec::new(), faults: Vec::new() }, Some(bytes));
+        }
+    }
+    let mut c = sound(r);
+    if r.chance(35) {
+        spoil(r, &mut c);
+    }
+    (c, None)
+}
+
+/// Mostly room enough, by nothing or by some; often one byte too short, or far too short.
+fn write_room(r: &mut Rng, needed: usize) -> usize {
+    match r.range(0, 99) {
+        0..=29 => needed,
+        30..=59 => needed + r.range(1, 40) as usize,
+        60..=69 => needed + 5000,
+        70..=84 => needed - 1,
+        85..=89 => 0,
+        _ => r.below(needed),
+    }
+}
+
+/// What is written reads back, by the reference and by the library, as the same job; places that are no part of it as 0.
+fn reads_back(library: &mut Library, r: &mut Rng, c: &Setting, bytes: &[u8]) -> Result<(), String> {
+    let rooms = (c.speeds.len() + r.below(9), c.speeds.len() + r.below(9));
+    let expected = paper::read(bytes, rooms.0, rooms.1);
+    if !expected.as_ref().is_ok_and(|job| job.vehicle == cleared(&c.vehicle) && job.speeds == c.speeds && job.holds == c.holds) {
+        return Err(String::from("the reference does not read back what it wrote"));
+    }
+    let (speeds, holds) = (vec![7; rooms.0], vec![7; rooms.1]);
+    library.read(&Loan::new(r, &speeds, &holds, bytes), &expected)
+}
+
+fn cleared(v: &Vehicle) -> Vehicle {
+    let (gears, points) = (v.ng as usize, v.points as usize);
+    let mut kept = Vehicle { ratio: ZERO.ratio, n: ZERO.n, p: ZERO.p, ..*v };
+    kept.ratio[..gears].copy_from_slice(&v.ratio[..gears]);
+    kept.n[..points].copy_from_slice(&v.n[..points]);
+    kept.p[..points].copy_from_slice(&v.p[..points]);
+    kept
+}
+
+/// A job that was read and passes the checks is written as the bytes that it had.
+fn written_as_read(bytes: &[u8], was: Option<&[u8]>) -> Result<(), String> {
+    let Some(was) = was else { return Ok(()) };
+    note(Event::WrittenAsRead);
+    if was == bytes {
+        return Ok(());
+    }
+    Err(format!("the reference writes a job that it read as other bytes; it was {was:?}"))
 }

@@ -1,4 +1,4 @@
-//! The regulation's cycles, each driven whole by several cars: the working, the job read back, and holds set and released the quick way.
+//! The regulation's cycles, each driven whole by several cars: the working, the job read back and written, and holds set and released the quick way.
 
 use crate::cycles;
 use crate::jobs;
@@ -118,7 +118,7 @@ impl Drive<'_> {
         }
     }
 
-    /// The job of this drive, read back: what was put into it comes out.
+    /// The job of this drive, read back and written: what was put into it comes out.
     fn job(&mut self, holds: &[u8]) -> Result<(), String> {
         let bytes = jobs::groups(self.vehicle, self.speeds, holds).all.concat();
         let expected = paper::read(&bytes, self.speeds.len(), paper::LONGEST);
@@ -127,6 +127,9 @@ impl Drive<'_> {
             return Err(String::from("the reference does not read its own job back"));
         }
         let loan = Loan::new(self.r, &vec![7; self.speeds.len()], &[7; paper::LONGEST], &bytes);
-        self.library.read(&loan, &expected).map_err(|why| format!("{why}\njob {bytes:?}"))
+        self.library.read(&loan, &expected).map_err(|why| format!("{why}\njob {bytes:?}"))?;
+        let room: Vec<u8> = (0..bytes.len() + 5).map(|_| self.r.next() as u8).collect();
+        let loan = Loan::new(self.r, self.speeds, holds, &room);
+        self.library.write(self.vehicle, &loan, &paper::write(self.vehicle, self.speeds, holds, room.len())).map_err(|why| format!("{why}\njob {bytes:?}"))
     }
 }

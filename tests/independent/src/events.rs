@@ -16,9 +16,11 @@ pub enum Event {
     StandingCleared,
     NoGearLater,
     FreeReleased,
+    RoomExact,
+    WrittenAsRead,
 }
 
-const NAMES: [&str; 12] = [
+const NAMES: [&str; 14] = [
     "pass A lowered a gear",
     "pass A stopped by the floor",
     "pass B lowered a gear to the ceiling",
@@ -31,6 +33,8 @@ const NAMES: [&str; 12] = [
     "hold cleared at a standing second",
     "gear 0 not held, for another fault of the span",
     "free second of a right card released",
+    "job written into room of exactly its length",
+    "job that was read written as the same bytes",
 ];
 
 static COUNTS: [AtomicU64; NAMES.len()] = [const { AtomicU64::new(0) }; NAMES.len()];

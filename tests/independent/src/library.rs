@@ -106,7 +106,7 @@ impl<T: Wire> Lent<T> {
     }
 }
 
-/// What one call is lent besides the vehicle. The third is the card, or for a read the job, or the export.
+/// What one call is lent besides the vehicle. The third is the card, or for a read the job, or the export, or for a write its room.
 #[derive(Clone)]
 pub struct Loan {
     speeds: Lent<u16>,
@@ -142,6 +142,7 @@ enum Call {
     Cycle,
     CyclePart,
     Downscale,
+    Write,
 }
 
 struct Request<'a> {
@@ -159,6 +160,8 @@ struct Answer {
     vehicle: Option<(Vehicle, u64)>,
     /// Of an export only.
     coefficients: Option<Coefficients>,
+    /// Of a write only.
+    length: Option<u64>,
     loan: Loan,
 }
 
@@ -220,10 +223,14 @@ impl Library {
             Call::Export => Some(Coefficients { f0: u16::get(from)?, f1: i32::get(from)?, f2: u16::get(from)?, tm: u16::get(from)? }),
             _ => None,
         };
+        let length = match request.call {
+            Call::Write => Some(u64::get(from)?),
+            _ => None,
+        };
         get_all(&mut loan.speeds.all, from)?;
         get_all(&mut loan.holds.all, from)?;
         get_all(&mut loan.third.all, from)?;
-        Ok(Answer { number, place, vehicle, coefficients, loan })
+        Ok(Answer { number, place, vehicle, coefficients, length, loan })
     }
 
     /// No more requests: the driver then ends, and well.
@@ -302,6 +309,19 @@ impl Library {
         loan.third.compare("job", &answer.loan.third, &[])?;
         loan.speeds.compare("speeds", &answer.loan.speeds, speeds)?;
         loan.holds.compare("holds", &answer.loan.holds, holds)
+    }
+
+    /// `expected`: the bytes of the job.
+    pub fn write(&mut self, vehicle: &Vehicle, loan: &Loan, expected: &Result<Vec<u8>, Refusal>) -> Result<(), String> {
+        let answer = self.call(&Request { call: Call::Write, vehicle, second: 0, gear: 0, loan })?;
+        answer.compare(expected.as_ref().err().copied())?;
+        let bytes = expected.as_deref().unwrap_or(&[]);
+        if answer.length != Some(bytes.len() as u64) {
+            return Err(format!("length: expected {}, library {:?}", bytes.len(), answer.length));
+        }
+        loan.speeds.compare("speeds", &answer.loan.speeds, &[])?;
+        loan.holds.compare("holds", &answer.loan.holds, &[])?;
+        loan.third.compare("room", &answer.loan.third, bytes)
     }
 
     pub fn export(&mut self, loan: &Loan, expected: &Result<Coefficients, Refusal>) -> Result<(), String> {

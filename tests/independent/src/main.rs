@@ -1,6 +1,6 @@
-//! Compares the gear card library with a working of its own, written from docs/01-scope.md and, for exports, request Five of document 02 alone.
+//! Compares the gear card library with a working of its own, written from docs/01-scope.md and, for exports and for writing, requests Five and One of document 02 alone.
 //!
-//!   independent [--seed S] [--cases N] [--cycles DIR] -- DRIVER..    the cycles of DIR, the built-in and the scaled cycle, then N cases of each kind (read, work, hold, release, export)
+//!   independent [--seed S] [--cases N] [--cycles DIR] -- DRIVER..    the cycles of DIR, the built-in and the scaled cycle, then N cases of each kind (read, work, hold, release, export, write)
 //!   with --class-3 FILE: that job must have the speeds of the built-in cycle
 //!   independent [--seed S] --case KIND I -- DRIVER..                 one case again (KIND as above)
 //!   independent --job FILE                                           what the card program would print of a job, from the reference alone
@@ -26,16 +26,17 @@ use std::path::Path;
 use std::process::exit;
 use std::time::{Duration, Instant};
 
-/// Read, work and hold together took about two minutes on a quiet x86-64 machine; with release and export it was timed only beside other work.
+/// Read, work and hold together took about two minutes on a quiet x86-64 machine; with release, export and write it was timed only beside other work.
 const DEFAULT_CASES: u64 = 600_000;
 const DEFAULT_SEED: u64 = 20_261_115;
 
 /// Answers by kind and number, 0 for accepted.
 type Counts = [[u64; 23]; cases::KINDS.len()];
 
-/// The numbers of refusal, and those of an export.
-const NUMBERS: [usize; 20] = [1, 2, 3, 4, 5, 6, 7, 8, 9, 10, 11, 12, 13, 14, 15, 16, 19, 20, 21, 22];
+/// The numbers of refusal, those of an export and those of a write.
+const NUMBERS: [usize; 21] = [1, 2, 3, 4, 5, 6, 7, 8, 9, 10, 11, 12, 13, 14, 15, 16, 17, 19, 20, 21, 22];
 const OF_EXPORTS: [usize; 6] = [12, 16, 19, 20, 21, 22];
+const OF_WRITES: [usize; 10] = [1, 2, 3, 4, 5, 6, 7, 8, 9, 17];
 
 struct Options {
     seed: u64,
@@ -156,7 +157,8 @@ fn print_counts(met: &Counts) {
 fn all_met(met: &Counts) -> Result<(), String> {
     let by_none = NUMBERS.into_iter().filter(|&number| met.iter().all(|counts| counts[number] == 0));
     let by_no_export = OF_EXPORTS.into_iter().filter(|&number| met[4][number] == 0);
-    let missed: Vec<String> = by_none.chain(by_no_export).map(|number| number.to_string()).collect();
+    let by_no_write = OF_WRITES.into_iter().filter(|&number| met[5][number] == 0);
+    let missed: Vec<String> = by_none.chain(by_no_export).chain(by_no_write).map(|number| number.to_string()).collect();
     if missed.is_empty() {
         return Ok(());
     }

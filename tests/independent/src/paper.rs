@@ -2,6 +2,7 @@
 //! Nothing here is meant to be quick: a rule reads as the paper words it.
 
 use crate::events::{note, Event};
+use crate::jobs;
 use crate::vehicle::{Vehicle, ZERO};
 
 pub const LONGEST: usize = 2048;
@@ -289,6 +290,12 @@ fn vehicle_good(v: &Vehicle) -> Result<(), Refusal> {
 
 /// Refusals 4 to 10 on the seconds from `from` to `to`, both included. For the whole working these are all seconds.
 fn seconds_good(v: &Vehicle, speeds: &[u16], holds: &[u8], from: usize, to: usize) -> Result<(), Refusal> {
+    seconds_sound(v, speeds, holds, from, to)?;
+    refuse_first(10, from, to, |s| moving(speeds[s]) && holds[s] == 0 && fitting_gears(v, speeds, s).is_empty())
+}
+
+/// Refusals 4 to 9.
+fn seconds_sound(v: &Vehicle, speeds: &[u16], holds: &[u8], from: usize, to: usize) -> Result<(), Refusal> {
     refuse_first(4, from, to, |s| speeds[s] > 2000)?;
     refuse_first(5, from + 1, to, |s| (speeds[s] as i32 - speeds[s - 1] as i32).abs() > 150)?;
     // A trip that reaches past these seconds can only be one that reaches an end of the trace.
@@ -300,8 +307,7 @@ fn seconds_good(v: &Vehicle, speeds: &[u16], holds: &[u8], from: usize, to: usiz
     }
     refuse_first(7, from, to, |s| holds[s] as u16 > v.ng)?;
     refuse_first(8, from, to, |s| holds[s] != 0 && !moving(speeds[s]))?;
-    refuse_first(9, from, to, |s| holds[s] != 0 && !within_nmax(v, holds[s], speeds[s]))?;
-    refuse_first(10, from, to, |s| moving(speeds[s]) && holds[s] == 0 && fitting_gears(v, speeds, s).is_empty())
+    refuse_first(9, from, to, |s| holds[s] != 0 && !within_nmax(v, holds[s], speeds[s]))
 }
 
 /// The lowest second wins.
@@ -483,6 +489,20 @@ fn read_holds(c: &mut Cursor, count: usize) -> Result<Vec<u8>, Refusal> {
         before = Some(second);
     }
     Ok(holds)
+}
+
+// ---------------------------------------------------------------- the writer
+
+/// The bytes of the job, or the refusal: 1 to 9 as in the working, then 17 by the length needed.
+pub fn write(v: &Vehicle, speeds: &[u16], holds: &[u8], room: usize) -> Result<Vec<u8>, Refusal> {
+    lengths_good(speeds.len(), holds.len(), speeds.len())?;
+    vehicle_good(v)?;
+    seconds_sound(v, speeds, holds, 0, speeds.len() - 1)?;
+    let bytes = jobs::groups(v, speeds, holds).all.concat();
+    if room < bytes.len() {
+        return Err((17, bytes.len()));
+    }
+    Ok(bytes)
 }
 
 // ---------------------------------------------------------------- the card program

@@ -10,6 +10,7 @@ pub fn check() {
     cards();
     groups();
     printed();
+    written();
 }
 
 fn one_second() {
@@ -65,4 +66,14 @@ fn printed() {
     let job = jobs::groups(&car_z(), &[0, 50, 150, 100, 0], &[0; 5]).all.concat();
     let text = "second speed gear clutch\n0 0.0 1 down\n1 5.0 1 up\n2 15.0 2 up\n3 10.0 2 down\n4 0.0 0 up\n";
     assert_eq!(paper::printed(&job), text);
+}
+
+fn written() {
+    let (z, speeds) = (car_z(), [0, 50, 150, 100, 0]);
+    let bytes = paper::write(&z, &speeds, &[0; 5], 63).unwrap();
+    assert_eq!((bytes.len(), &bytes[..6], &bytes[55..]), (63, &[1, 5, 0xE0, 0x5D, 0xD8, 0x36][..], &[5, 0, 50, 0x96, 1, 100, 0, 0][..]));
+    assert_eq!(paper::write(&z, &speeds, &[0; 5], 62), Err((17, 63)));
+    assert_eq!(paper::write(&z, &speeds, &[0, 0, 3, 0, 0], 65).unwrap()[62..], [1, 2, 3]);
+    assert_eq!(paper::write(&z, &speeds, &[0; 4], 0), Err((2, 0)));
+    assert_eq!(paper::write(&z, &[0, 151, 0], &[0; 3], 0), Err((5, 1)));
 }

@@ -215,12 +215,11 @@ pub ruleset sounds = (value-sound, then-sound, checked-sound, bounded-sound, cou
 
 -- ---- the whole of a job
 
--- what is written reads back, with all that is no part of a job cleared
-pub reads-whole : {A B : Type 0} (to : A → B) (from : B → A) {part : Form A} → Sound part → (b : B) → part .Takes (from b)
-    → whole (seen to from part) (part .write (from b)) ≡ got (to (from b)) (length (part .write (from b)))
-unfolding whole hand-on demand seen
-reads-whole to from {part} f b t =
-    let l = part .write (from b) in
+-- what is written reads back
+pub reads-whole : {A : Type 0} {part : Form A} → Sound part → (a : A) → part .Takes a → whole part (part .write a) ≡ got a (length (part .write a))
+unfolding whole hand-on demand
+reads-whole {A} {part} f a t =
+    let l = part .write a in
     rw (f .reads-back {job = l} {i = 0} {j = length l} t (record { ends = omega arith; here = rw (drop-length l, append-nil) }), eq-eqb (length l) (length l) refl)
 
 -- what is read of a whole job is taken, and in a job of bytes written as the same bytes

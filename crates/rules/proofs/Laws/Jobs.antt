@@ -38,7 +38,7 @@ eight l e =
     sym (drop-cons l 0 0 (omega arith)
     ∙ rw (drop-cons l 1 0 (omega arith), drop-cons l 2 0 (omega arith), drop-cons l 3 0 (omega arith), drop-cons l 4 0 (omega arith), drop-cons l 5 0 (omega arith), drop-cons l 6 0 (omega arith), drop-cons l 7 0 (omega arith), drop-of-length-le l {i = 8} (omega arith)))
 
-parts-back : (x : Parts) → length (x .1 .0) ≡ 8 → parts-of (vehicle-of x) ≡ x
+pub parts-back : (x : Parts) → length (x .1 .0) ≡ 8 → parts-of (vehicle-of x) ≡ x
 unfolding parts-of vehicle-of padded
 parts-back (ratios, (values, points)) e = rw (cut 10 ratios, -ℤ-+ℤ-cancel (pos (at values 4)) (pos 5000), eight values e, points-back points)
 

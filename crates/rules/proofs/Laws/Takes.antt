@@ -7,9 +7,15 @@ use mathlib.Core.Path.{_≡_, refl}
 use mathlib.Core.Bool.{true}
 use mathlib.Core.List.{List, [], _∷_}
 use lib.ListN.{length}
+use borrow.Author.Tests.{le-leb}
 use Rattle.rules.specs.Words.{within}
 use Rattle.rules.specs.Forms.{Form, value, checked, bounded, _then_, seen, row, RowTakes, many, counted}
+use Rattle.rules.proofs.Laws.Words.{both}
 use Rattle.rules.proofs.Laws.Vehicle.{within-hi}
+
+pub in-range : (lo hi n : ℕ) → lo ≤ n → n ≤ hi → within lo hi n ≡ true
+unfolding within
+in-range lo hi n x y = both (le-leb _ _ x) (le-leb _ _ y)
 
 -- every one of a list
 unfoldable pub All : {A : Type 0} → (A → Type 0) → List A → Type 0

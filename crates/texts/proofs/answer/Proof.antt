@@ -4,7 +4,8 @@ use mathlib.Core.Path.{_≡_, refl, sym, _∙_}
 use lib.ListN.{length, take}
 use lib.Seq.{length-take-le}
 use Rattle.texts.proofs.Pieces.{begins}
-use Rattle.texts.proofs.Jobs.{rooms, printed-done, printed-stop}
+use Rattle.jobs.proofs.Rooms.{rooms}
+use Rattle.texts.proofs.Jobs.{few, printed-done, printed-stop}
 use borrow.Author.Needs.{needs}
 use Rattle.texts.proofs.answer.Statement.{statement}
 use Rattle.texts.proofs.answer.Tie as tie
@@ -34,10 +35,10 @@ slice-aggregate-put-worked-2 : tie.Need-slice-aggregate-put-worked-2
 slice-aggregate-put-worked-2 c = let w = rooms (c .before .before .before .before .before .before .before .read .ensures) in sym (length-take-le _ _ (w .holds-fit))
 
 array-borrow-prefix-card : tie.Need-array-borrow-prefix-card
-array-borrow-prefix-card c = let w = rooms (c .before .before .before .before .before .before .before .read .ensures) in w .few
+array-borrow-prefix-card c = few (c .before .before .before .before .before .before .before .read .ensures)
 
 slice-aggregate-put-worked-3 : tie.Need-slice-aggregate-put-worked-3
-slice-aggregate-put-worked-3 c = let w = rooms (c .before .before .before .before .before .before .before .before .read .ensures) in sym (length-take-le _ _ (w .few))
+slice-aggregate-put-worked-3 c = sym (length-take-le _ _ (few (c .before .before .before .before .before .before .before .before .read .ensures)))
 
 put-worked-requires : tie.Need-put-worked-requires
 put-worked-requires c κs =
@@ -45,7 +46,7 @@ put-worked-requires c κs =
     let q = p .read in
     let w = rooms (q .ensures) in
     let n : length (take (q .result .count) (q .last .1 .0)) ≡ q .result .count = length-take-le _ _ (w .speeds-fit) in
-    (rw n (w .few), (length-take-le _ _ (w .few) ∙ sym n, search needs))
+    (rw n (few (q .ensures)), (length-take-le _ _ (few (q .ensures)) ∙ sym n, search needs))
 
 enum-known-judged : tie.Need-enum-known-judged
 enum-known-judged c = search needs

@@ -6,8 +6,8 @@ use mathlib.Core.List.{List}
 use Rattle.rules.specs.declared.Vehicle.{Vehicle}
 use native.Mathlib.Omega.{arith}
 use Rattle.gears.specs.Parts.{Counts}
-use Rattle.checks.proofs.Rows.{Opened, opened}
-use Rattle.cards.proofs.Working.{work-opening, spanned, its-parts, no-edit, work-span, work-range, work-passes, work-done}
+use Rattle.checks.proofs.Rows.{Opened, opened, spanned}
+use Rattle.cards.proofs.Working.{work-opening, its-parts, no-edit, work-span, work-range, work-passes, work-done}
 use borrow.Author.Needs.{needs}
 use Rattle.cards.proofs.whole.work.Statement.{statement}
 use Rattle.cards.proofs.whole.work.Tie as tie

@@ -1,0 +1,113 @@
+-- What the stages of a job are written as, in the pieces that the code puts.
+-- Assumes nothing.
+use Prim.Native.Nat.{ℕ, zero, suc, _+_, _-_, _*_, _≤_, _<_}
+use native.Mathlib.Omega.{arith}
+use mathlib.Core.Path.{_≡_, refl, ap, _∙_}
+use mathlib.Core.List.{List, [], _∷_, _++_}
+use lib.ListN.{length, length-append}
+use lib.Seq.{take-length}
+use Rattle.rules.specs.declared.Vehicle.{Vehicle}
+use Rattle.rules.specs.Words.{at, table}
+use Rattle.rules.specs.Groups.{form}
+use Rattle.rules.specs.Forms.{value, checked, bounded, _then_, seen, row-write, row, many, counted}
+use Rattle.rules.specs.Job.{version, gearbox, numbers, point, curve, seconds, trace, hold, rising, points-of, parts-of, vehicle, gather, holds, fields, stages, job}
+use Rattle.rules.specs.Write.{job-from, job-bytes}
+use Rattle.rules.specs.Vocabulary.{InBounds}
+use Rattle.rules.proofs.Laws.Words.{length-table, table-at}
+use Rattle.rules.proofs.Laws.Groups.{form-one, form-size}
+use Rattle.rules.proofs.Laws.Writes.{points-many}
+use Rattle.jobs.specs.Writing.{values-bytes, pairs-bytes}
+use Rattle.jobs.proofs.Pieces.{values-left, values-more, values-none, values-all, points-left, points-more, points-none, pair-more, pair-none}
+
+-- the gears, the eight numbers, the curve
+pub vehicle-bytes : (car : Vehicle) → vehicle .write car
+    ≡ (form (car .ng) ++ values-bytes (car .ratio) (car .ng))
+    ++ (values-bytes (parts-of car .1 .0) 8 ++ (form (car .points) ++ pairs-bytes (points-of (car .points) (car .n) (car .p))))
+unfolding vehicle parts-of seen _then_ gearbox numbers curve counted bounded checked value many row row-write table
+vehicle-bytes car = rw (length-table (at (car .ratio)) 0 (car .ng), points-many (car .points) (car .n) (car .p))
+
+pub eight-long : (car : Vehicle) → length (parts-of car .1 .0) ≡ 8
+unfolding parts-of
+eight-long car = refl
+
+-- all values of a list
+all-values : (vs : List ℕ) → table (at vs) 0 (length vs) ≡ vs
+all-values vs = table-at vs (length vs) 0 (omega arith) ∙ take-length vs
+
+-- holds are written as pairs
+rising-pairs : (count s : ℕ) (l : List (ℕ × ℕ)) → row-write (hold count) (λ next h. suc (h .0)) s l ≡ pairs-bytes l
+unfolding row-write hold checked _then_ value many row point
+rising-pairs count s [] = refl
+rising-pairs count s (h ∷ l) = ap (λ (m : List ℕ). (form (h .0) ++ form (h .1)) ++ m) (rising-pairs count (suc (h .0)) l)
+
+-- version; vehicle; sample count and speeds; hold count, second and gear
+pub job-pieces : (car : Vehicle) (vs hs : List ℕ) → job-bytes car vs hs
+    ≡ form 1 ++ (vehicle .write car ++ ((form (length vs) ++ values-bytes vs (length vs)) ++ (form (length (gather 0 hs)) ++ pairs-bytes (gather 0 hs))))
+unfolding job-bytes job-from job seen fields stages _then_ version bounded checked value trace counted seconds holds rising many row
+job-pieces car vs hs = rw (all-values vs, rising-pairs (length vs) 0 (gather 0 hs))
+
+-- ---- how long they are
+
+values-short-from : (m : ℕ) (vs : List ℕ) (k i : ℕ) → k - i ≡ m → length (values-left vs k i) ≤ 3 * m
+values-short-from zero vs k i e = omega (arith, ap length (values-none vs k i (omega arith)))
+values-short-from (suc m) vs k i e =
+    omega (arith, ap length (values-more vs k i (omega arith)), length-append (form (at vs i)) (values-left vs k (suc i)), form-size (at vs i) .1, values-short-from m vs k (suc i) (omega arith))
+
+-- three bytes a value at most
+pub values-short : (vs : List ℕ) (k : ℕ) → length (values-bytes vs k) ≤ 3 * k
+values-short vs k = let z : k - 0 ≡ k = omega arith in rw (values-all vs k) at (values-short-from k vs k 0 z)
+
+points-size-from : (m : ℕ) (ns ps : List ℕ) (k i : ℕ) → k - i ≡ m → length (points-left ns ps k i) ≡ length (values-left ns k i) + length (values-left ps k i)
+points-size-from zero ns ps k i e =
+    omega (arith, ap length (points-none ns ps k i (omega arith)), ap length (values-none ns k i (omega arith)), ap length (values-none ps k i (omega arith)))
+points-size-from (suc m) ns ps k i e =
+    let h : i < k = omega arith in
+    let a = form (at ns i) in
+    let b = form (at ps i) in
+    omega (
+      arith,
+      ap length (points-more ns ps k i h),
+      length-append a (b ++ points-left ns ps k (suc i)),
+      length-append b (points-left ns ps k (suc i)),
+      ap length (values-more ns k i h),
+      length-append a (values-left ns k (suc i)),
+      ap length (values-more ps k i h),
+      length-append b (values-left ps k (suc i)),
+      points-size-from m ns ps k (suc i) (omega arith),
+    )
+
+-- points are as long as their columns
+points-size : (ns ps : List ℕ) (k : ℕ) → length (pairs-bytes (points-of k ns ps)) ≡ length (values-bytes ns k) + length (values-bytes ps k)
+points-size ns ps k = let z : k - 0 ≡ k = omega arith in rw (values-all ns k, values-all ps k, z) at (points-size-from k ns ps k 0 z)
+
+pub vehicle-length : (car : Vehicle) → length (vehicle .write car)
+    ≡ length (form (car .ng)) + length (values-bytes (car .ratio) (car .ng)) + length (values-bytes (parts-of car .1 .0) 8)
+    + (length (form (car .points)) + length (values-bytes (car .n) (car .points)) + length (values-bytes (car .p) (car .points)))
+vehicle-length car =
+    let a = form (car .ng) in
+    let b = values-bytes (car .ratio) (car .ng) in
+    let c = values-bytes (parts-of car .1 .0) 8 in
+    let d = form (car .points) in
+    let e = pairs-bytes (points-of (car .points) (car .n) (car .p)) in
+    omega (arith, ap length (vehicle-bytes car), length-append (a ++ b) (c ++ (d ++ e)), length-append a b, length-append c (d ++ e), length-append d e, points-size (car .n) (car .p) (car .points))
+
+-- pairs are six bytes at most
+pub pairs-short : (l : List (ℕ × ℕ)) → length (pairs-bytes l) ≤ 6 * length l
+pairs-short [] = omega (arith, ap length pair-none)
+pairs-short (x ∷ l) =
+    omega (arith, ap length (pair-more x l), length-append (form (x .0)) (form (x .1) ++ pairs-bytes l), length-append (form (x .1)) (pairs-bytes l), form-size (x .0) .1, form-size (x .1) .1, pairs-short l)
+
+pub job-length : (car : Vehicle) (vs hs : List ℕ) → length (job-bytes car vs hs)
+    ≡ 1 + length (vehicle .write car) + (length (form (length vs)) + length (values-bytes vs (length vs))) + length (form (length (gather 0 hs))) + length (pairs-bytes (gather 0 hs))
+job-length car vs hs =
+    let a = vehicle .write car in
+    let b = form (length vs) in
+    let c = values-bytes vs (length vs) in
+    let d = form (length (gather 0 hs)) in
+    let e = pairs-bytes (gather 0 hs) in
+    omega (arith, ap length (job-pieces car vs hs), length-append (form 1) (a ++ ((b ++ c) ++ (d ++ e))), length-append a ((b ++ c) ++ (d ++ e)), length-append (b ++ c) (d ++ e), length-append b c, length-append d e, ap length (form-one 1 (omega arith)))
+
+-- a vehicle in bounds has no more bytes than this
+pub vehicle-short : (car : Vehicle) → InBounds car → length (vehicle .write car) ≤ 444
+vehicle-short car b =
+    omega (arith, b .ng-to, b .points-to, vehicle-length car, form-size (car .ng) .1, values-short (car .ratio) (car .ng), values-short (parts-of car .1 .0) 8, form-size (car .points) .1, values-short (car .n) (car .points), values-short (car .p) (car .points))

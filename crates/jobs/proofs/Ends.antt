@@ -1,0 +1,60 @@
+-- The writer's ends: what is answered, and how the room is left.
+-- Assumes nothing.
+use Prim.Native.Nat.{ℕ, _<_}
+use native.Mathlib.Nat.{zero-add}
+use native.Mathlib.Omega.{arith}
+use mathlib.Core.Path.{_≡_, sym, _∙_}
+use mathlib.Core.Option.{Option, none, some}
+use mathlib.Core.List.{List}
+use lib.ListN.{length}
+use lib.Seq.{sets-eq}
+use borrow.Author.Tests.{lt-ltb}
+use Rattle.rules.specs.declared.Vehicle.{Vehicle}
+use Rattle.rules.specs.declared.Refusal.{Refusal}
+use Rattle.rules.specs.declared.Refusal.the-variants.{RoomShort}
+use Rattle.rules.specs.declared.Answer.{Answer}
+use Rattle.rules.specs.declared.Answer.the-variants.{Done, Refused}
+use Rattle.rules.specs.Refusals.{Fault, number, place, said, refuse-at, _orelse_, when, left}
+use Rattle.rules.specs.Job.{filled}
+use Rattle.rules.specs.Write.{job-bytes, job-fault, short-fault, write-fault, written, write-room}
+use Rattle.rules.proofs.Laws.Writes.{enough-room}
+use Rattle.jobs.specs.declared.Written.{Written}
+use Rattle.jobs.specs.Writing.{Put, BytesAs, WriteAs}
+
+-- the room is too short
+pub short-as : (bytes room : List ℕ) (need : ℕ) → need ≡ length bytes → length room < need → BytesAs bytes room (record { answer = Refused (RoomShort need); length = 0 }) room
+unfolding short-fault said refuse-at when left filled
+short-as bytes room need e h =
+    let t = lt-ltb (length room) (length bytes) (omega arith) in
+    record { answered = rw (t, e); the-length = rw t; room-left = rw t }
+
+-- the bytes are put
+pub bytes-as : (bytes room : List ℕ) {room′ : List ℕ} {r : ℕ} → Put bytes room 0 r room′ → BytesAs bytes room (record { answer = Done; length = r }) room′
+unfolding said left filled
+bytes-as bytes room p =
+    let n = p .after in
+    let i = p .inside in
+    let t = enough-room bytes room (omega arith) in
+    record {
+      answered = sym t;
+      the-length = rw t (omega arith);
+      room-left = rw t (p .now-is ∙ (sets-eq bytes room 0 (omega arith) ∙ rw zero-add));
+    }
+
+module _ (car : Vehicle) (vs hs room : List ℕ) where
+  -- checks 1 to 9 passed, so only the room is left to be refused
+  pub write-as : {r : Written} {room′ : List ℕ} → job-fault car vs hs ≡ none → BytesAs (job-bytes car vs hs) room r room′ → WriteAs car vs hs room r room′
+  unfolding write-fault written write-room _orelse_
+  write-as e b = record { answered = rw e (b .answered); the-length = rw e (b .the-length); room-left = rw e (b .room-left) }
+
+  -- they refuse: nothing is written
+  pub refused-as : {a : Answer} {q : Refusal} → said a ≡ job-fault car vs hs → a ≡ Refused q → WriteAs car vs hs room (record { answer = a; length = 0 }) room
+  unfolding said write-fault written write-room _orelse_ left filled
+  refused-as {a} {q} s d =
+      let e : job-fault car vs hs ≡ some (record { no = number q; spot = place q }) = sym s ∙ rw d in
+      record { answered = rw e (s ∙ e); the-length = rw e; room-left = rw e }
+
+-- they are done: nothing is refused
+pub none-refused : {a : Answer} {f : Option Fault} → said a ≡ f → a ≡ Done → f ≡ none
+unfolding said
+none-refused e d = sym e ∙ rw d

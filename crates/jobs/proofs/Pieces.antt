@@ -1,0 +1,188 @@
+-- Bytes put one after another. The invariant says that the bytes that are left, put from here, make what was asked.
+-- Assumes nothing.
+use Prim.Native.Nat.{ℕ, suc, _+_, _-_, _≤_, _<_}
+use native.Mathlib.Nat.{add-zero}
+use native.Mathlib.Omega.{arith}
+use mathlib.Core.Path.{_≡_, refl, sym, ap, _∙_}
+use mathlib.Core.List.{List, [], _∷_, _++_, append-nil, append-assoc}
+use lib.ListN.{length, drop, set, length-append, drop-of-length-le}
+use lib.Seq.{sets, length-sets, drop-cons, getD-drop, drop-drop}
+use lib.Dec.{eqb}
+use Rattle.rules.specs.Words.{at, table}
+use Rattle.rules.specs.Groups.{form}
+use Rattle.rules.specs.Forms.{value, _then_, row-write, row, many}
+use Rattle.rules.specs.Job.{point, points-of, gather}
+use Rattle.rules.proofs.Laws.Words.{by-test}
+use Rattle.rules.proofs.Laws.Groups.{form-size}
+use Rattle.jobs.specs.Writing.{values-bytes, pairs-bytes, hold-bytes, held-one, Put}
+
+-- ---- one piece after another
+
+sets-append : (l : List ℕ) (i : ℕ) (a b : List ℕ) → sets l i (a ++ b) ≡ sets (sets l i a) (i + length a) b
+sets-append l i [] b = rw add-zero
+sets-append l i (x ∷ a) b = let e : i + suc (length a) ≡ suc i + length a = omega arith in rw e (sets-append (set l i x) (suc i) a b)
+
+pub put-byte : (room : List ℕ) (i b : ℕ) → i < length room → Put (b ∷ []) room i (i + 1) (set room i b)
+put-byte room i b h = record { after = omega arith; inside = omega arith; now-is = refl }
+
+pub put-none : {room : List ℕ} {i : ℕ} → i ≤ length room → Put [] room i i room
+put-none h = record { after = omega arith; inside = h; now-is = refl }
+
+-- of all the bytes, which were to be put from `start` on, these are left, from here on
+pub record Left (room₀ : List ℕ) (start : ℕ) (all room : List ℕ) (next : ℕ) (left : List ℕ) : Type 0 where
+  pub long : length room ≡ length room₀
+  pub fits : next + length left ≤ length room
+  pub ends : next + length left ≡ start + length all
+  pub rest : sets room next left ≡ sets room₀ start all
+
+pub all-left : (room : List ℕ) (start : ℕ) (all : List ℕ) → start + length all ≤ length room → Left room start all room start all
+all-left room start all h = record { long = refl; fits = h; ends = refl; rest = refl }
+
+module _ {room₀ : List ℕ} {start : ℕ} {all room : List ℕ} {next : ℕ} where
+  pub fewer-left : {piece left room′ : List ℕ} {r : ℕ} → Left room₀ start all room next (piece ++ left) → Put piece room next r room′ → Left room₀ start all room′ r left
+  fewer-left {piece} {left} {room′} {r} l p =
+      let n : length (piece ++ left) ≡ length piece + length left = length-append piece left in
+      let same : length room′ ≡ length room = ap length (p .now-is) ∙ length-sets room next piece in
+      record {
+        long = same ∙ l .long;
+        fits = omega (arith, l .fits, p .after);
+        ends = omega (arith, l .ends, p .after);
+        rest = rw (p .now-is, p .after, ← sets-append room next piece left) (l .rest);
+      }
+
+  -- there is space for the next piece
+  pub has-space : (piece left : List ℕ) → Left room₀ start all room next (piece ++ left) → next + length piece ≤ length room
+  has-space piece left l = omega (arith, l .fits, length-append piece left)
+
+  pub none-left : Left room₀ start all room next [] → Put all room₀ start next room
+  none-left l = record { after = omega (arith, l .ends); inside = omega (arith, l .fits, l .long); now-is = l .rest }
+
+  -- the bytes that are left may be said otherwise
+  pub said-as : {left left′ : List ℕ} → left ≡ left′ → Left room₀ start all room next left → Left room₀ start all room next left′
+  said-as e l = rw e at l
+
+-- the last piece
+pub last-left : {room₀ : List ℕ} {start : ℕ} {all room : List ℕ} {next : ℕ} {left room′ : List ℕ} {r : ℕ} → Left room₀ start all room next left → Put left room next r room′
+    → Put all room₀ start r room′
+last-left {left} l p = none-left (fewer-left (said-as (sym (append-nil left)) l) p)
+
+-- two pieces are one
+pub put-both : {u v room room′ room″ : List ℕ} {i j k : ℕ} → Put u room i j room′ → Put v room′ j k room″ → Put (u ++ v) room i k room″
+put-both {u} {v} {room} {room′} {room″} {i} {j} {k} p q =
+    let same : length room′ ≡ length room = ap length (p .now-is) ∙ length-sets room i u in
+    record {
+      after = omega (arith, length-append u v, p .after, q .after);
+      inside = omega (arith, q .inside);
+      now-is = q .now-is ∙ rw (p .now-is, p .after) (sym (sets-append room i u v));
+    }
+
+-- ---- values in a row, of which i are put
+
+abbrev pub values-left : List ℕ → ℕ → ℕ → List ℕ
+values-left vs k i = many value k .write (table (at vs) i (k - i))
+
+pub values-more : (vs : List ℕ) (k i : ℕ) → i < k → values-left vs k i ≡ form (at vs i) ++ values-left vs k (suc i)
+unfolding many row row-write value table
+values-more vs k i h = let z : k - i ≡ suc (k - suc i) = omega arith in rw z
+
+pub values-none : (vs : List ℕ) (k i : ℕ) → k ≤ i → values-left vs k i ≡ []
+unfolding many row row-write table
+values-none vs k i h = let z : k - i ≡ 0 = omega arith in rw z
+
+pub values-all : (vs : List ℕ) (k : ℕ) → values-left vs k 0 ≡ values-bytes vs k
+values-all vs k = let z : k - 0 ≡ k = omega arith in ap (λ (m : ℕ). many value k .write (table (at vs) 0 m)) z
+
+pub values-begin : (room : List ℕ) (start : ℕ) (vs : List ℕ) (k : ℕ) → start + length (values-bytes vs k) ≤ length room
+    → Left room start (values-bytes vs k) room start (values-left vs k 0)
+values-begin room start vs k h = said-as (sym (values-all vs k)) (all-left room start (values-bytes vs k) h)
+
+-- ---- pairs in a row
+
+pub pair-more : (x : ℕ × ℕ) (l : List (ℕ × ℕ)) → pairs-bytes (x ∷ l) ≡ form (x .0) ++ (form (x .1) ++ pairs-bytes l)
+unfolding many row row-write point _then_ value
+pair-more x l = rw append-assoc
+
+pub pair-none : pairs-bytes [] ≡ []
+unfolding many row row-write
+pair-none = refl
+
+-- points, of which i are put
+abbrev pub points-left : List ℕ → List ℕ → ℕ → ℕ → List ℕ
+points-left ns ps k i = pairs-bytes (points-of (k - i) (drop i ns) (drop i ps))
+
+pub points-more : (ns ps : List ℕ) (k i : ℕ) → i < k → points-left ns ps k i ≡ form (at ns i) ++ (form (at ps i) ++ points-left ns ps k (suc i))
+unfolding points-of
+points-more ns ps k i h =
+    let z : k - i ≡ suc (k - suc i) = omega arith in
+    let e : i + 1 ≡ suc i = omega arith in
+    let o : i + 0 ≡ i = omega arith in
+    rw (z, pair-more, getD-drop i ns 0 0, getD-drop i ps 0 0, o, drop-drop 1 i ns, drop-drop 1 i ps, e)
+
+pub points-none : (ns ps : List ℕ) (k i : ℕ) → k ≤ i → points-left ns ps k i ≡ []
+unfolding points-of
+points-none ns ps k i h = let z : k - i ≡ 0 = omega arith in rw z pair-none
+
+pub points-begin : (room : List ℕ) (start : ℕ) (ns ps : List ℕ) (k : ℕ) → start + length (pairs-bytes (points-of k ns ps)) ≤ length room
+    → Left room start (pairs-bytes (points-of k ns ps)) room start (points-left ns ps k 0)
+points-begin room start ns ps k h =
+    let z : k - 0 ≡ k = omega arith in
+    said-as (ap (λ (m : ℕ). pairs-bytes (points-of m ns ps)) (sym z)) (all-left room start (pairs-bytes (points-of k ns ps)) h)
+
+-- holds, of which those of the seconds before i are put
+abbrev pub held-left : List ℕ → ℕ → List (ℕ × ℕ)
+held-left hs i = gather i (drop i hs)
+
+module _ (hs : List ℕ) (i : ℕ) (h : i < length hs) where
+  pub held-more : pairs-bytes (held-left hs i) ≡ hold-bytes i (at hs i) ++ pairs-bytes (held-left hs (suc i))
+  unfolding gather hold-bytes
+  held-more =
+      rw (drop-cons hs i 0 h)
+      (by-test (eqb (at hs i) 0) (λ z. rw z) (λ z. rw (z, pair-more, append-assoc)))
+
+  pub held-count : length (held-left hs i) ≡ held-one (at hs i) + length (held-left hs (suc i))
+  unfolding gather held-one
+  held-count =
+      rw (drop-cons hs i 0 h)
+      (by-test (eqb (at hs i) 0) (λ z. rw z (omega arith)) (λ z. rw z (omega arith)))
+
+held-none : (hs : List ℕ) (i : ℕ) → length hs ≤ i → held-left hs i ≡ []
+unfolding gather
+held-none hs i h = rw (drop-of-length-le hs {i = i} h)
+
+pub held-end : (hs : List ℕ) (i : ℕ) → length hs ≤ i → pairs-bytes (held-left hs i) ≡ []
+held-end hs i h = rw (held-none hs i h) pair-none
+
+pub held-nought : (hs : List ℕ) (i : ℕ) → length hs ≤ i → length (held-left hs i) ≡ 0
+held-nought hs i h = rw (held-none hs i h)
+
+-- no hold, so no bytes
+no-pairs : (l : List (ℕ × ℕ)) → length l ≡ 0 → pairs-bytes l ≡ []
+no-pairs [] e = pair-none
+no-pairs (x ∷ l) e = absurd (omega arith)
+
+pub held-nowhere : (hs : List ℕ) → length (gather 0 hs) ≡ 0 → pairs-bytes (gather 0 hs) ≡ []
+held-nowhere hs e = no-pairs (gather 0 hs) e
+
+pub hold-short : (s g : ℕ) → length (hold-bytes s g) ≤ 6
+unfolding hold-bytes
+hold-short s g = by-test (eqb g 0) (λ z. rw z (omega arith)) (λ z. rw (z, length-append) (omega (arith, form-size s .1, form-size g .1)))
+
+pub one-short : (g : ℕ) → held-one g ≤ 1
+unfolding held-one
+one-short g = by-test (eqb g 0) (λ z. rw z (omega arith)) (λ z. rw z (omega arith))
+
+-- ---- bytes that are measured
+
+-- so many are measured, and these are left
+pub record Measured (all : List ℕ) (size : ℕ) (left : List ℕ) : Type 0 where
+  pub sum : size + length left ≡ length all
+
+pub measured-more : {all : List ℕ} {size : ℕ} (piece left : List ℕ) {before : List ℕ} → before ≡ piece ++ left → Measured all size before → Measured all (size + length piece) left
+measured-more piece left e m = record { sum = omega (arith, m .sum, ap length e, length-append piece left) }
+
+pub measured-all : {all : List ℕ} {size : ℕ} {left : List ℕ} → left ≡ [] → Measured all size left → size ≡ length all
+measured-all {left} e m = let n : length left ≡ 0 = ap length e in omega (arith, m .sum)
+
+-- at first nothing is measured
+pub measured-none : {all left : List ℕ} → left ≡ all → Measured all 0 left
+measured-none e = record { sum = omega (arith, ap length e) }

@@ -1,0 +1,101 @@
+-- `jobs::puts::put_vehicle` meets its contract: the pieces of the vehicle's bytes, put one after another.
+-- Assumes nothing.
+use Prim.Native.Nat.{ℕ, _+_}
+use native.Mathlib.Omega.{arith}
+use mathlib.Core.List.{List, _++_}
+use Rattle.rules.specs.declared.Vehicle.{Vehicle}
+use Rattle.rules.specs.Groups.{form}
+use Rattle.rules.specs.Job.{points-of, parts-of, vehicle}
+use Rattle.jobs.specs.Writing.{values-bytes, pairs-bytes}
+use Rattle.jobs.proofs.Pieces.{all-left, fewer-left, has-space, last-left, said-as}
+use Rattle.jobs.proofs.Bytes.{vehicle-bytes, eight-long}
+use borrow.Author.Needs.{needs}
+use Rattle.jobs.proofs.puts.put_vehicle.Statement.{statement}
+use Rattle.jobs.proofs.puts.put_vehicle.Tie as tie
+
+-- the pieces
+abbrev gears : Vehicle → List ℕ
+gears car = form (car .ng) ++ values-bytes (car .ratio) (car .ng)
+
+abbrev eight : Vehicle → List ℕ
+eight car = values-bytes (parts-of car .1 .0) 8
+
+abbrev points : Vehicle → List ℕ
+points car = pairs-bytes (points-of (car .points) (car .n) (car .p))
+
+abbrev after-eight : Vehicle → List ℕ
+after-eight car = form (car .points) ++ points car
+
+abbrev after-gears : Vehicle → List ℕ
+after-gears car = eight car ++ after-eight car
+
+numbers-of-requires : tie.Need-numbers-of-requires
+numbers-of-requires c κs = search needs
+
+put-counted-requires : tie.Need-put-counted-requires
+put-counted-requires c κs =
+    let s = c .before .before .before .before .before .before in
+    let car = s .args .t3 in
+    let l₀ = said-as (vehicle-bytes car) (all-left (s .args .room .now) (s .args .at) (vehicle .write car) (s .pre .1)) in
+    (omega (arith, s .pre .0 .ng-to), omega (arith, has-space (gears car) (after-gears car) l₀))
+
+slice-aggregate-put-values : tie.Need-slice-aggregate-put-values
+slice-aggregate-put-values c = search needs
+
+put-values-requires : tie.Need-put-values-requires
+put-values-requires c κs =
+    let s = c .before .before .before .before .before .before .before .before .before .before .before in
+    let car = s .args .t3 in
+    let l₀ = said-as (vehicle-bytes car) (all-left (s .args .room .now) (s .args .at) (vehicle .write car) (s .pre .1)) in
+    let l₁ = fewer-left l₀ (c .before .before .before .before .put-counted .ensures) in
+    let r = c .before .before .before .before .before .before .before .before .before .numbers-of .ensures in
+    (rw r (omega (arith, eight-long car)), rw r (omega (arith, has-space (eight car) (after-eight car) l₁)))
+
+put-group-requires : tie.Need-put-group-requires
+put-group-requires c κs =
+    let s = c .before .before .before .before .before .before .before .before .before .before .before .before .before .before .before in
+    let car = s .args .t3 in
+    let l₀ = said-as (vehicle-bytes car) (all-left (s .args .room .now) (s .args .at) (vehicle .write car) (s .pre .1)) in
+    let l₁ = fewer-left l₀ (c .before .before .before .before .before .before .before .before .put-counted .ensures) in
+    let l₂ = fewer-left l₁ (rw (c .before .before .before .before .before .before .before .before .before .before .before .before .before .numbers-of .ensures) at (c .before .before .before .put-values .ensures)) in
+    omega (arith, has-space (form (car .points)) (points car) l₂)
+
+cast-put-points : tie.Need-cast-put-points
+cast-put-points c = search needs
+
+put-points-requires : tie.Need-put-points-requires
+put-points-requires c κs =
+    let s = c .before .before .before .before .before .before .before .before .before .before .before .before .before .before .before .before .before .before .before .before .before .before .before .before in
+    let car = s .args .t3 in
+    let l₀ = said-as (vehicle-bytes car) (all-left (s .args .room .now) (s .args .at) (vehicle .write car) (s .pre .1)) in
+    let l₁ = fewer-left l₀ (c .before .before .before .before .before .before .before .before .before .before .before .before .before .before .before .before .before .put-counted .ensures) in
+    let l₂ = fewer-left l₁ (rw (c .before .before .before .before .before .before .before .before .before .before .before .before .before .before .before .before .before .before .before .before .before .before .numbers-of .ensures) at (c .before .before .before .before .before .before .before .before .before .before .before .before .put-values .ensures)) in
+    let l₃ = fewer-left l₂ (c .before .before .before .before .before .before .before .before .put-group .ensures) in
+    (omega (arith, s .pre .0 .points-to), omega (arith, s .pre .0 .points-to), omega (arith, l₃ .fits))
+
+same-length : tie.Need-same-length
+same-length c = search needs
+
+returns : tie.Need-returns
+returns c =
+    let s = c .before .before .before .before .before .before .before .before .before .before .before .before .before .before .before .before .before .before .before .before .before .before .before .before .before .before .before in
+    let car = s .args .t3 in
+    let l₀ = said-as (vehicle-bytes car) (all-left (s .args .room .now) (s .args .at) (vehicle .write car) (s .pre .1)) in
+    let l₁ = fewer-left l₀ (c .before .before .before .before .before .before .before .before .before .before .before .before .before .before .before .before .before .before .before .before .put-counted .ensures) in
+    let l₂ = fewer-left l₁ (rw (c .before .before .before .before .before .before .before .before .before .before .before .before .before .before .before .before .before .before .before .before .before .before .before .before .before .numbers-of .ensures) at (c .before .before .before .before .before .before .before .before .before .before .before .before .before .before .before .put-values .ensures)) in
+    let l₃ = fewer-left l₂ (c .before .before .before .before .before .before .before .before .before .before .before .put-group .ensures) in
+    last-left l₃ (c .before .before .put-points .ensures)
+
+pub put-vehicle-spec : {M : Type 1} → statement M
+put-vehicle-spec =
+    tie.close
+    (tie.spec
+    numbers-of-requires
+    put-counted-requires
+    slice-aggregate-put-values
+    put-values-requires
+    put-group-requires
+    cast-put-points
+    put-points-requires
+    same-length
+    returns)

@@ -1,0 +1,87 @@
+-- `jobs::sizes::values_size` meets its contract. The loop's invariant: what is measured, and the bytes that are left, make all.
+-- Assumes nothing.
+use Prim.Native.Nat.{suc, _+_, _-_, _*_, _≤_}
+use native.Mathlib.Omega.{arith}
+use native.Mathlib.Numerals.{add-one}
+use mathlib.Core.Path.{ap}
+use lib.ListN.{length, length-append}
+use Rattle.rules.specs.Groups.{form}
+use Rattle.rules.specs.Words.{at}
+use Rattle.rules.proofs.Laws.Groups.{form-size}
+use Rattle.jobs.specs.Writing.{values-bytes}
+use Rattle.jobs.proofs.Pieces.{values-left, values-more, values-none, Measured, measured-all, measured-none, values-all}
+use borrow.Author.Needs.{needs}
+use Rattle.jobs.proofs.sizes.values_size.Statement.{statement}
+use Rattle.jobs.proofs.sizes.values_size.Tie as tie
+
+abbrev Inv-loop : tie.InvT-loop
+Inv-loop values count extra₀ i₀ extra i = (i ≤ count) × (extra ≤ 2 * i) × Measured (values-bytes values count) (i + extra) (values-left values count i)
+
+abbrev μ-loop : tie.MeasureT-loop
+μ-loop values count extra₀ i₀ extra i = count - i
+
+loop-holds : tie.Need-loop-holds Inv-loop μ-loop
+loop-holds c = (omega arith, omega arith, measured-none (values-all (c .before .args .values .now) (c .before .args .count)))
+
+mul-more : tie.Need-mul-more Inv-loop μ-loop
+mul-more c = search needs
+
+shared-slice-read-more : tie.Need-shared-slice-read-more Inv-loop μ-loop
+shared-slice-read-more c = search needs
+
+more-requires : tie.Need-more-requires Inv-loop μ-loop
+more-requires c κs = search needs
+
+add-extra : tie.Need-add-extra Inv-loop μ-loop
+add-extra c =
+    let c₀ = c .before .before .before in
+    let s = c₀ .before .before in
+    omega (arith, c .more .ensures, form-size (at (s .args .values .now) (c₀ .loop .i)) .1)
+
+add-i : tie.Need-add-i Inv-loop μ-loop
+add-i c = search needs
+
+loop-less : tie.Need-loop-less Inv-loop μ-loop
+loop-less c = search needs
+
+loop-again : tie.Need-loop-again Inv-loop μ-loop
+loop-again c =
+    let c₀ = c .before .before .before in
+    let s = c₀ .before .before in
+    let vs = s .args .values .now in
+    let n = s .args .count in
+    let i = c₀ .loop .i in
+    let v = at vs i in
+    let e = ap length (values-more vs n i (omega arith)) in
+    let m = c₀ .loop .inv .2 .sum in
+    (omega arith, omega (arith, c .more .ensures, form-size v .1), rw add-one (record { sum = omega (arith, m, c .more .ensures, e, length-append (form v) (values-left vs n (suc i))) }))
+
+cast-result : tie.Need-cast-result Inv-loop μ-loop
+cast-result c = search needs
+
+add-result : tie.Need-add-result Inv-loop μ-loop
+add-result c = search needs
+
+returns : tie.Need-returns Inv-loop μ-loop
+returns c =
+    let s = c .before .before .before in
+    let i = c .before .loop .i in
+    omega (arith, measured-all (values-none (s .args .values .now) (s .args .count) i (omega arith)) (c .before .loop .inv .2))
+
+pub values-size-spec : {M : Type 1} → statement M
+values-size-spec =
+    tie.close
+    (tie.spec
+    Inv-loop
+    μ-loop
+    loop-holds
+    mul-more
+    shared-slice-read-more
+    more-requires
+    add-extra
+    add-i
+    loop-less
+    loop-again
+    cast-result
+    add-result
+    returns)

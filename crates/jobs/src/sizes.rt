@@ -1,0 +1,119 @@
+// How long a job is: measured before the first byte is put.
+ghost use mathlib.Core.Path.{_≡_};
+ghost use Prim.Native.Nat.{_+_, _≤_};
+ghost use lib.ListN.{length};
+ghost use Rattle.rules.specs.Groups.{form};
+ghost use Rattle.rules.specs.Job.{gather, vehicle};
+ghost use Rattle.rules.specs.Vocabulary.{InBounds};
+ghost use Rattle.jobs.specs.Writing.{values-bytes, pairs-bytes, hold-bytes, held-one};
+use crate::Tally;
+use crate::numbers::numbers_of;
+use rules::Vehicle;
+
+// The bytes of a value's group after its first.
+fn more(v: u16) -> u16
+    ensures { λ r. ⌜ 1 + r ≡ length (form v) ⌝ }
+{
+    if v < 128 {
+        return 0;
+    }
+    if v < 16384 {
+        return 1;
+    }
+    2
+}
+
+// The bytes of a value's group.
+pub fn group_size(v: u16) -> usize
+    ensures { λ r. ⌜ r ≡ length (form v) ⌝ }
+{
+    1 + more(v) as usize
+}
+
+// The bytes of the first so many values. Those after the first of each group are summed up in sixteen bits, so that many values are looked at at once.
+pub fn values_size(values: &[u16], count: usize) -> usize
+    requires { ⌜ (count ≤ length (now values)) × (count ≤ 16384) ⌝ }
+    ensures { λ r. ⌜ r ≡ length (values-bytes (now (values .entry)) count) ⌝ }
+{
+    let mut extra: u16 = 0;
+    let mut i = 0;
+    while i < count {
+        extra += more(values[i]);
+        i += 1;
+    }
+    count + extra as usize
+}
+
+// The bytes of a hold's second and gear, none where there is no hold.
+fn hold_size(second: u16, gear: u8) -> usize
+    ensures { λ r. ⌜ r ≡ length (hold-bytes second gear) ⌝ }
+{
+    if gear == 0 {
+        return 0;
+    }
+    group_size(second) + group_size(gear as u16)
+}
+
+// One where there is a hold.
+fn one(gear: u8) -> u16
+    ensures { λ r. ⌜ r ≡ held-one gear ⌝ }
+{
+    if gear == 0 {
+        return 0;
+    }
+    1
+}
+
+// How many holds there are.
+fn held_count(holds: &[u8]) -> u16
+    requires { ⌜ length (now holds) ≤ 65535 ⌝ }
+    ensures { λ r. ⌜ r ≡ length (gather 0 (now (holds .entry))) ⌝ }
+{
+    let mut count: u16 = 0;
+    let mut i = 0;
+    while i < holds.len() {
+        count += one(holds[i]);
+        i += 1;
+    }
+    count
+}
+
+// The bytes of their seconds and gears. Most traces have no hold.
+fn held_size(holds: &[u8], count: u16) -> usize
+    requires { ⌜ (length (now holds) ≤ 65535) × (count ≡ length (gather 0 (now holds))) ⌝ }
+    ensures { λ r. ⌜ r ≡ length (pairs-bytes (gather 0 (now (holds .entry)))) ⌝ }
+{
+    if count == 0 {
+        return 0;
+    }
+    let mut bytes = 0;
+    let mut i = 0;
+    while i < holds.len() {
+        bytes += hold_size(i as u16, holds[i]);
+        i += 1;
+    }
+    bytes
+}
+
+// How many holds there are, and the bytes of their seconds and gears.
+pub fn tally(holds: &[u8]) -> Tally
+    requires { ⌜ length (now holds) ≤ 65535 ⌝ }
+    ensures { λ r. ⌜ (r .count ≡ length (gather 0 (now (holds .entry)))) × (r .bytes ≡ length (pairs-bytes (gather 0 (now (holds .entry))))) ⌝ }
+{
+    let count = held_count(holds);
+    let bytes = held_size(holds, count);
+    Tally { count, bytes }
+}
+
+// The bytes of the vehicle.
+pub fn vehicle_size(car: Vehicle) -> usize
+    requires { ⌜ InBounds car ⌝ }
+    ensures { λ r. ⌜ r ≡ length (vehicle .write car) ⌝ }
+{
+    let numbers = numbers_of(car);
+    let gears = car.ng as usize;
+    let points = car.points as usize;
+    let gearbox = group_size(car.ng) + values_size(&car.ratio, gears);
+    let curve = group_size(car.points) + values_size(&car.n, points) + values_size(&car.p, points);
+    gearbox + values_size(&numbers, 8) + curve
+}
