@@ -111,7 +111,16 @@ WRITE_SLIPS = [
     ("write: a hold of second 1 dropped", "filter(|(_, gear)| *gear != 0)", "filter(|(second, gear)| *second != 1 && *gear != 0)", "jobs.rs"),
     ("write: p before n", "values.extend([v.n[k], v.p[k]]);", "values.extend([v.p[k], v.n[k]]);", "jobs.rs"),
 ]
-SLIPS = [(*slip, "paper.rs") for slip in SLIPS] + [(*slip, "exports.rs") for slip in EXPORT_SLIPS] + WRITE_SLIPS
+# Slips in src/revs.rs: sentences that are too much to ask of a card.
+REVS_SLIPS = [
+    ("Twelve: nmax excluded", "* u64::from(self.speeds[s]) > u64::from", "* u64::from(self.speeds[s]) >= u64::from"),
+    ("Twelve: no gear above the one before", "if gear <= before + 1 {", "if gear <= before {"),
+    ("Twelve: no floor", "(1..gear).all(|lower| self.over_nmax(lower, s))", "false"),
+    ("Twelve: below the floor", "(1..gear).all(|lower|", "(1..=gear).all(|lower|"),
+    ("Twelve: held seconds too", " && self.holds[s] == 0 {", " {"),
+    ("Twelve: level speed too", "self.speeds[s] > self.speeds[s - 1] &&", "self.speeds[s] >= self.speeds[s - 1] &&"),
+]
+SLIPS = [(*slip, "paper.rs") for slip in SLIPS] + [(*slip, "exports.rs") for slip in EXPORT_SLIPS] + WRITE_SLIPS + [(*slip, "revs.rs") for slip in REVS_SLIPS]
 
 
 def run(k, name, old, new, file):

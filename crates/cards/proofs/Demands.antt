@@ -27,6 +27,8 @@ use Rattle.rules.specs.Vocabulary.{Wanting, PassesOthers, Out}
 use Rattle.rules.proofs.Laws.Words.{at-table, length-table}
 use Rattle.rules.proofs.Laws.Refusals.{said-once}
 use Rattle.rules.proofs.Laws.Checks.{orelse-none, when-none, rooms-in, accepted}
+use Rattle.rules.specs.Vocabulary.{Spares}
+use Rattle.rules.proofs.Theorems.{right-card-spares, reworked-card-spares}
 use Rattle.rules.proofs.Theorems.{want-of-a-gear, quick-as-whole, card-untouched, card-untouched-standing, holds-untouched, hold-as-whole, release-as-whole, released-free, none-held-by-7, held-shown}
 use Rattle.cards.proofs.whole.work.Kinds as work-kinds
 use Rattle.cards.proofs.whole.work.Reads as work-reads
@@ -262,3 +264,36 @@ pub demand-3-run : {car : Vehicle} {vs hs old ks new : List ℕ} → Run car vs 
 demand-3-run no-more R = R
 demand-3-run (then-hold H r) R = demand-3-run r (demand-3-stays H R)
 demand-3-run (then-release H r) R = demand-3-run r (demand-3-stays-release H R)
+
+-- ---- Request Twelve. No card over-revs an engine: at every second of the finished card both sentences of the request (`Spares`)
+
+-- of a card that is right for its trace and holds
+pub twelve : {car : Vehicle} {vs hs old : List ℕ} → Right car vs hs old → (i : ℕ) → Spares car vs hs old i
+twelve {car} {vs} {hs} {old} R = right-card-spares car vs hs old (R .accepted) (R .its-card)
+
+-- the whole working leaves a right card where it accepts
+pub worked-right : {car : Vehicle} {vs hs old : List ℕ} {z : Answer} {new : List ℕ} → Worked car vs hs old z new → said z ≡ none → Right car vs hs new
+worked-right {car} {vs} {hs} {old} {z} {new} W e =
+    let ok : work-fault car vs hs old ≡ none = sym (W .answer) ∙ e in
+    record { accepted = same-room car vs hs old new (W .card-left) ok; its-card = demand-2-card W e }
+
+-- so both hold after the whole working
+pub twelve-work : {car : Vehicle} {vs hs old : List ℕ} {z : Answer} {new : List ℕ} → Worked car vs hs old z new → said z ≡ none → (i : ℕ) → Spares car vs hs new i
+twelve-work W e = twelve (worked-right W e)
+
+-- and after any run of holds and releases from a right card, refused ones among them
+pub twelve-run : {car : Vehicle} {vs hs old ks new : List ℕ} → Run car vs hs old ks new → Right car vs hs old → (i : ℕ) → Spares car vs ks new i
+twelve-run r R = twelve (demand-3-run r R)
+
+-- whether the card was right or not, an edit that is accepted leaves both at every second that it re-works
+edit-spares : {car : Vehicle} {vs hs old : List ℕ} {s g : ℕ} {z : Answer} {ks new : List ℕ} → EditedBy car vs hs old s g z ks new → said z ≡ none → moving (at vs s) ≡ true
+    → (i : ℕ) → span-lo vs s ≤ i → i < stop vs s → Spares car vs ks new i
+edit-spares {car} {vs} {hs} {old} {s} {g} E e m i a b = rw (E .holds-left, E .card-left) (reworked-card-spares car vs hs old s g (sym (E .answer) ∙ e) m i a b)
+
+pub twelve-hold : {car : Vehicle} {vs hs old : List ℕ} {s g : ℕ} {z : Answer} {ks new : List ℕ} → HeldBy car vs hs old s g z ks new → said z ≡ none → moving (at vs s) ≡ true
+    → (i : ℕ) → span-lo vs s ≤ i → i < stop vs s → Spares car vs ks new i
+twelve-hold H = edit-spares (a-hold H)
+
+pub twelve-release : {car : Vehicle} {vs hs old : List ℕ} {s : ℕ} {z : Answer} {ks new : List ℕ} → ReleasedBy car vs hs old s z ks new → said z ≡ none → moving (at vs s) ≡ true
+    → (i : ℕ) → span-lo vs s ≤ i → i < stop vs s → Spares car vs ks new i
+twelve-release H = edit-spares (a-release H)

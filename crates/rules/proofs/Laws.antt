@@ -14,6 +14,7 @@ pub mod Held
 pub mod Limits
 pub mod Checks
 pub mod Cards
+pub mod Rising
 pub mod Want
 pub mod Edits
 pub mod Quick

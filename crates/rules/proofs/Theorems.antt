@@ -34,6 +34,7 @@ use Rattle.rules.proofs.Laws.Choice.{first-choice-plainly}
 use Rattle.rules.proofs.Laws.Held.{not-free, peak-fixed, rising-fixed, slowing-fixed}
 use Rattle.rules.proofs.Laws.Checks.{vehicle-in, rooms-in, Accepted, accepted}
 use Rattle.rules.proofs.Laws.Cards.{fit-of, held-shows, byte-gear, no-over-rev}
+use Rattle.rules.proofs.Laws.Rising.{right-spares, reworked-spares}
 use Rattle.rules.proofs.Laws.Want.{refused-for-want, lowest-wanting}
 use Rattle.rules.proofs.Laws.Edits.{reaches, edit-as-whole}
 use Rattle.rules.proofs.Laws.Quick.{quick-whole}
@@ -234,6 +235,18 @@ module _ (car : Vehicle) (vs hs old : List ℕ) (s : ℕ) where
   held-shown g e =
       let h = held-from-one car vs hs old s g e in
       rw (asked-gear g h) (hold-shown car vs hs old s g (rw (asked-gear g h) at e) (λ z. omega arith))
+
+-- ---- Request Twelve: no card over-revs an engine, and where the speed rises a free second's gear rises by one at most, or to its floor. `Spares` has
+-- both sentences, of one second
+
+-- on every card that is right for its trace and holds, at every second
+pub right-card-spares : (car : Vehicle) (vs hs old : List ℕ) → work-fault car vs hs old ≡ none → old ≡ card car vs hs → (i : ℕ) → Spares car vs hs old i
+right-card-spares car vs hs old ok = right-spares car vs hs old (accepted car vs hs old ok)
+
+-- and, right or not, at every second that one hold by the quick way re-works
+pub reworked-card-spares : (car : Vehicle) (vs hs old : List ℕ) (s g : ℕ) → quick-fault car vs hs old s g ≡ none → moving (at vs s) ≡ true
+    → (i : ℕ) → span-lo vs s ≤ i → i < stop vs s → Spares car vs (quick-holds car vs hs old s g) (quick-card car vs hs old s g) i
+reworked-card-spares = reworked-spares
 
 -- ---- 8. Groups: every value 0 to 65,535 has exactly one form that is accepted, and reading that form gives the value and the place after it
 

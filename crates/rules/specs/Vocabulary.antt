@@ -1,7 +1,7 @@
 -- The words of the theorems: what they say, as records of plain facts. A reader who has the definitions reads these, and then the theorems, without
 -- any law.
 -- Assumes nothing.
-use Prim.Native.Nat.{ℕ, suc, _+_, _-_, _*_, _^_, _≤_, _<_}
+use Prim.Native.Nat.{ℕ, suc, _+_, _-_, _*_, _^_, _≤_, _<_, _%_}
 use mathlib.Core.Path.{_≡_}
 use mathlib.Core.Logic.{_≢_, _⊎_}
 use mathlib.Core.Bool.{Bool, true, false}
@@ -14,6 +14,7 @@ use Rattle.rules.specs.Words.{at}
 use Rattle.rules.specs.Units.{ratio-of, low, moving, start}
 use Rattle.rules.specs.Gears.{Place, engine, minimum, fits, power, enough, more, suits}
 use Rattle.rules.specs.Refusals.{trace-fault, room-fault, vehicle-fault, over-ng, over-rev, no-gear, bad, seconds-fault}
+use Rattle.rules.specs.Corrections.{floor}
 use Rattle.rules.specs.Quick.{span-lo, span-hi}
 use Rattle.rules.specs.Groups.{got, group, form}
 
@@ -196,6 +197,28 @@ pub record Fit (car : Vehicle) (vs hs : List ℕ) (i : ℕ) : Type 0 where
   pub hold-in-ng : bad over-ng car vs hs 0 i ≡ false
   pub hold-in-nmax : bad over-rev car vs hs 0 i ≡ false
   pub some-gear : bad no-gear car vs hs 0 i ≡ false
+
+-- ---- request Twelve, over a finished card: the gear that it shows at a second is its byte there modulo 16
+
+-- the gear at second i, one of the vehicle's, turns the engine at nmax or below
+pub record AtMostNmax (car : Vehicle) (vs shown : List ℕ) (i : ℕ) : Type 0 where
+  pub from : low car ≤ at shown i % 16
+  pub to : at shown i % 16 ≤ car .ng
+  pub in-limits : engine car (at shown i % 16) (at vs i) ≤ 1000 * car .nmax
+
+-- a second without a hold, not the first of its trip, whose speed is above the second before
+pub record FreeRise (vs hs : List ℕ) (i : ℕ) : Type 0 where
+  pub moves : moving (at vs i) ≡ true
+  pub no-hold : at hs i ≡ 0
+  pub not-first : i ≢ start vs i
+  pub above : at vs (i - 1) < at vs i
+
+-- what the request asks of a card at second i
+pub record Spares (car : Vehicle) (vs hs shown : List ℕ) (i : ℕ) : Type 0 where
+  -- the gear at each moving second turns the engine at nmax or below
+  pub never-over-revs : moving (at vs i) ≡ true → AtMostNmax car vs shown i
+  -- there the gear is at most one above the gear before, or is no higher than that second's floor
+  pub rises-by-one-or-floor : FreeRise vs hs i → (at shown i % 16 ≤ at shown (i - 1) % 16 + 1) ⊎ (at shown i % 16 ≤ floor car (at vs i))
 
 -- ---- an edit of one second
 

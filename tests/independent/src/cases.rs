@@ -5,6 +5,7 @@ use crate::exports;
 use crate::jobs;
 use crate::library::{Library, Loan};
 use crate::paper::{self, Edited, Refusal};
+use crate::revs::Finished;
 use crate::rng::Rng;
 use crate::traces;
 use crate::vehicle::{Vehicle, ZERO};
@@ -186,9 +187,10 @@ fn on_screen(r: &mut Rng) -> (Setting, bool) {
     (c, right)
 }
 
-/// The paper against itself: a right card stays the one the whole working gives.
+/// The paper against itself: a right card stays the one the whole working gives, and spares the engine.
 fn agrees_with_whole(c: &Setting, expected: &Edited) -> Result<(), String> {
     let Ok((holds, card)) = expected else { return Ok(()) };
+    Finished { vehicle: &c.vehicle, speeds: &c.speeds, holds, card }.check()?;
     if paper::work(&c.vehicle, &c.speeds, holds, holds.len()).as_ref() == Ok(card) {
         return Ok(());
     }

@@ -4,6 +4,7 @@ use crate::cycles;
 use crate::jobs;
 use crate::library::{Library, Loan};
 use crate::paper;
+use crate::revs::Finished;
 use crate::rng::Rng;
 use crate::traces;
 use crate::vehicle::{car_z, Vehicle};
@@ -98,6 +99,7 @@ impl Drive<'_> {
         self.library.hold(self.vehicle, &loan, second, gear, &expected).map_err(|why| format!("{why}\n{}", asked()))?;
         let Ok(after) = expected else { return Ok(0) };
         (*holds, *card) = after;
+        Finished { vehicle: self.vehicle, speeds: self.speeds, holds, card }.check()?;
         Ok(1)
     }
 
@@ -108,6 +110,7 @@ impl Drive<'_> {
         self.library.release(self.vehicle, &loan, second, &expected).map_err(|why| format!("{why}\n{}", asked()))?;
         let Ok(after) = expected else { return Ok(0) };
         (*holds, *card) = after;
+        Finished { vehicle: self.vehicle, speeds: self.speeds, holds, card }.check()?;
         Ok(1)
     }
 

@@ -18,9 +18,11 @@ pub enum Event {
     FreeReleased,
     RoomExact,
     WrittenAsRead,
+    RisesByOne,
+    RisesToFloor,
 }
 
-const NAMES: [&str; 14] = [
+const NAMES: [&str; 16] = [
     "pass A lowered a gear",
     "pass A stopped by the floor",
     "pass B lowered a gear to the ceiling",
@@ -35,6 +37,8 @@ const NAMES: [&str; 14] = [
     "free second of a right card released",
     "job written into room of exactly its length",
     "job that was read written as the same bytes",
+    "a card's gear one above the gear before, the speed rising",
+    "a card's gear at its floor, two or more above the gear before, the speed rising",
 ];
 
 static COUNTS: [AtomicU64; NAMES.len()] = [const { AtomicU64::new(0) }; NAMES.len()];

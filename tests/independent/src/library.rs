@@ -1,7 +1,8 @@
 //! The library, called through driver.c: each lent slice lies inside a larger one, whose other places are compared too.
 
 use crate::exports::Coefficients;
-use crate::paper::{Edited, Job, Refusal};
+use crate::paper::{self, Edited, Job, Refusal};
+use crate::revs::Finished;
 use crate::rng::Rng;
 use crate::vehicle::{Vehicle, ZERO};
 use std::fmt::Debug;
@@ -88,6 +89,10 @@ impl<T: Wire> Lent<T> {
         Lent { all, before, length: content.len() }
     }
 
+    fn content(&self) -> &[T] {
+        &self.all[self.before..self.before + self.length]
+    }
+
     fn span(&self) -> [u32; 3] {
         [self.before, self.length, self.all.len() - self.before - self.length].map(|count| count as u32)
     }
@@ -125,6 +130,11 @@ impl Loan {
         self.speeds.compare("speeds", &after.speeds, expected)?;
         self.holds.compare("holds", &after.holds, &[])?;
         self.third.compare("third", &after.third, &[])
+    }
+
+    /// The third as a finished card of the others.
+    fn finished<'a>(&'a self, vehicle: &'a Vehicle) -> Finished<'a> {
+        Finished { vehicle, speeds: self.speeds.content(), holds: self.holds.content(), card: self.third.content() }
     }
 
     pub fn new(r: &mut Rng, speeds: &[u16], holds: &[u8], third: &[u8]) -> Loan {
@@ -248,7 +258,11 @@ impl Library {
         answer.compare(expected.as_ref().err().copied())?;
         loan.speeds.compare("speeds", &answer.loan.speeds, &[])?;
         loan.holds.compare("holds", &answer.loan.holds, &[])?;
-        loan.third.compare("card", &answer.loan.third, expected.as_deref().unwrap_or(&[]))
+        loan.third.compare("card", &answer.loan.third, expected.as_deref().unwrap_or(&[]))?;
+        if answer.number != 0 {
+            return Ok(());
+        }
+        answer.loan.finished(vehicle).check()
     }
 
     pub fn hold(&mut self, vehicle: &Vehicle, loan: &Loan, second: usize, gear: u8, expected: &Edited) -> Result<(), String> {
@@ -270,7 +284,13 @@ impl Library {
         };
         loan.speeds.compare("speeds", &answer.loan.speeds, &[])?;
         loan.holds.compare("holds", &answer.loan.holds, holds)?;
-        loan.third.compare("card", &answer.loan.third, card)
+        loan.third.compare("card", &answer.loan.third, card)?;
+        let speeds = loan.speeds.content();
+        if answer.number != 0 || !paper::moving(speeds[request.second]) {
+            return Ok(());
+        }
+        // Whether the card was right or not, the seconds that were worked anew.
+        answer.loan.finished(request.vehicle).check_trip(paper::trip_of(speeds, request.second))
     }
 
     /// `expected`: the first places of the room, which is lent as the speeds.

@@ -15,6 +15,7 @@ mod exports;
 mod jobs;
 mod library;
 mod paper;
+mod revs;
 mod rng;
 mod sums;
 mod traces;

@@ -53,6 +53,9 @@ module _ (car : Vehicle) (C : InBounds car) where
       go none h = inr (refl, λ g a b. none-first (under-nmax car v) (suc (car .ng) - low car) (low car) h g a (omega (arith, e)))
       go (some i) h = inl (rw e at (first-found (under-nmax car v) (suc (car .ng) - low car) (low car) i h))
 
+  pub floor-low : (v : ℕ) → low car ≤ floor car v
+  floor-low v = elim (floor-is v) [ inl f ↦ f .from | inr n ↦ omega (arith, C .low-ng) ]
+
   pub under-of : (v g : ℕ) → InRange v g → under-nmax car v g ≡ true
   unfolding under-nmax
   under-of v g r =

@@ -100,6 +100,10 @@ module _ (f : ℕ → List ℕ → ℕ) (gs : List ℕ) where
       (λ e. rw e (getD-set-same (pass f k gs) k (f k (pass f k gs)) 0 (rw length-pass (omega arith))))
       (λ m. getD-set-other (pass f k gs) k j (f k (pass f k gs)) 0 (omega arith) ∙ pass-at k j m l)
 
+  -- a place that has been passed over stays
+  pub pass-done : (k m j : ℕ) → j < k → j < m → j < length gs → at (pass f k gs) j ≡ at (pass f m gs) j
+  pass-done k m j a b l = pass-at k j a l ∙ sym (pass-at m j b l)
+
   -- what the rule says of a place, if it says nothing of it, or keeps a property of it
   pub pass-holds : (P : ℕ → ℕ → Type 0) → ((j : ℕ) (rs : List ℕ) → P j (at rs j) → P j (f j rs))
       → (k j : ℕ) → j < length gs → P j (at gs j) → P j (at (pass f k gs) j)
