@@ -28,18 +28,19 @@ static void stop(const char *what) {
 }
 
 /* ---- cases ---- */
-enum kind { WORK, HOLD, READ, FILL, WRITE };
+enum kind { WORK, HOLD, READ, FILL, WRITE, MEND };
 typedef struct {
   char name[40];
   enum kind kind;
   car_t car;
   size_t count, second, length;
   uint8_t gear;
+  uint16_t speed[2]; /* of a mended sample, in turn */
   uint16_t v[ROOM];
   uint8_t h[ROOM], card[ROOM];
   uint8_t job[BYTES];
 } case_t;
-static case_t cases[40];
+static case_t cases[60];
 static int ncases;
 
 static case_t *fresh(const char *name, enum kind kind) {
@@ -134,9 +135,10 @@ static const struct {
   verdict_t (*work)(car_t, const uint16_t *, size_t, const uint8_t *, size_t, uint8_t *, size_t);
   verdict_t (*hold)(car_t, const uint16_t *, size_t, uint8_t *, size_t, uint8_t *, size_t, size_t, uint8_t);
   verdict_t (*release)(car_t, const uint16_t *, size_t, uint8_t *, size_t, uint8_t *, size_t, size_t);
+  verdict_t (*mend)(car_t, uint16_t *, size_t, const uint8_t *, size_t, uint8_t *, size_t, size_t, uint16_t);
   job_t (*read)(const uint8_t *, size_t, uint16_t *, size_t, uint8_t *, size_t);
   written_t (*write)(car_t, const uint16_t *, size_t, const uint8_t *, size_t, uint8_t *, size_t);
-} sides[2] = {{gearcard_work, gearcard_hold, gearcard_release, gearcard_read, gearcard_write}, {twin_work, twin_hold, twin_release, twin_read, twin_write}};
+} sides[2] = {{gearcard_work, gearcard_hold, gearcard_release, gearcard_mend, gearcard_read, gearcard_write}, {twin_work, twin_hold, twin_release, twin_mend, twin_read, twin_write}};
 
 static uint16_t room_v[ROOM];
 static uint8_t room_h[ROOM], room_w[BYTES];
@@ -159,6 +161,9 @@ static __attribute__((noinline)) void call(case_t *c, int twin, long reps) {
       refused |= (r & 1 ? sides[twin].release(c->car, c->v, n, c->h, n, c->card, n, c->second)
                         : sides[twin].hold(c->car, c->v, n, c->h, n, c->card, n, c->second, c->gear))
                      .number;
+    break;
+  case MEND: /* mended there and back in turn */
+    for (long r = 0; r < reps; r++) refused |= sides[twin].mend(c->car, c->v, n, c->h, n, c->card, n, c->second, c->speed[r & 1]).number;
     break;
   case READ:
     for (long r = 0; r < reps; r++) refused |= sides[twin].read(c->job, c->length, room_v, ROOM, room_h, ROOM).verdict.number;
@@ -205,6 +210,15 @@ static uint32_t same_hold(const car_t *car, const uint16_t *v, size_t n, uint8_t
   verdict_t a = gearcard_hold(*car, v, n, h, n, card, n, second, gear), b = twin_hold(*car, v, n, h2, n, c2, n, second, gear);
   if (memcmp(h, h2, n) || memcmp(card, c2, n)) stop("hold: bytes differ");
   return same_verdict("hold", a, b);
+}
+static uint32_t same_mend(const car_t *car, uint16_t *v, size_t n, const uint8_t *h, uint8_t *card, size_t second, uint16_t speed) {
+  static uint16_t v2[ROOM + 64];
+  static uint8_t c2[ROOM + 64];
+  memcpy(v2, v, n * sizeof *v);
+  memcpy(c2, card, n);
+  verdict_t a = gearcard_mend(*car, v, n, h, n, card, n, second, speed), b = twin_mend(*car, v2, n, h, n, c2, n, second, speed);
+  if (memcmp(v2, v, n * sizeof *v) || memcmp(c2, card, n)) stop("mend: bytes differ");
+  return same_verdict("mend", a, b);
 }
 static uint32_t same_release(const car_t *car, const uint16_t *v, size_t n, uint8_t *h, uint8_t *card, size_t second) {
   static uint8_t h2[ROOM + 64], c2[ROOM + 64];
@@ -311,10 +325,16 @@ static void random_checks(long rounds) {
       same_hold(&car, v, n, h, card, second, gear);
       if (rnd(3) == 0) same_release(&car, v, n, h, card, rnd(2) ? second : rnd((uint32_t)n + (rnd(8) == 0)));
     }
+    for (int k = 0; k < 6; k++) { /* a little more or less, at rest, as a neighbour, or anything */
+      size_t second = rnd((uint32_t)n + (rnd(8) == 0));
+      uint16_t now = second < n ? v[second] : 0;
+      uint32_t how = rnd(8), speed = how < 3 ? now + rnd(40) : how < 5 ? rnd(16) : how < 6 ? (uint32_t)v[second ? second - 1 : 0] + rnd(20) : how < 7 ? now : rnd(2200);
+      same_mend(&car, v, n, h, card, second, (uint16_t)speed);
+    }
     if (no == 0) { /* the quick way gave what the whole working gives */
       uint8_t whole[ROOM];
       twin_work(car, v, n, h, n, whole, n);
-      if (memcmp(whole, card, n)) stop("hold: not the card of the whole working");
+      if (memcmp(whole, card, n)) stop("hold, mend: not the card of the whole working");
     }
     if (car.f1 < -5000 || car.f1 > 60535 || car.ng > 10 || car.points > 64) continue;
     size_t len = encode(s, &car, v, n, h);
@@ -409,6 +429,25 @@ static void build(const char *path) {
     if (g > 1 && (uint32_t)c->car.ratio[g - 2] * v[c->second] <= 1000u * c->car.nmax) g--;
     c->gear = (uint8_t)g;
   }
+  /* samples mended: a little more and back, in the same trips; the longest trip that can be split by one sample, split and joined again */
+  for (int t = 0; t < ntrips; t++) {
+    const char *what = t == 0 ? "short" : t == ntrips - 1 ? "longest" : t == (ntrips - 1) / 2 ? "typical" : NULL;
+    if (!what) continue;
+    snprintf(name, sizeof name, "mend.%s", what);
+    c = fresh(name, MEND), c->car = job.vehicle, c->count = n;
+    memcpy(c->v, v, sizeof v);
+    memcpy(c->card, card, sizeof card);
+    c->length = trips[t].b - trips[t].a;
+    c->second = trips[t].a + c->length / 2;
+    c->speed[0] = (uint16_t)(v[c->second] + 1), c->speed[1] = v[c->second];
+  }
+  c = fresh("mend.split", MEND), c->car = job.vehicle, c->count = n;
+  memcpy(c->v, v, sizeof v);
+  memcpy(c->card, card, sizeof card);
+  for (int t = 0; t < ntrips; t++)
+    for (size_t i = trips[t].a + 1; i + 1 < trips[t].b; i++)
+      if (v[i - 1] <= 150 && v[i + 1] <= 150) c->second = i, c->length = trips[t].b - trips[t].a;
+  c->speed[0] = 0, c->speed[1] = v[c->second];
   /* reading */
   c = fresh("read.class3", READ);
   memcpy(c->job, bytes, len), c->length = len;
@@ -502,6 +541,14 @@ int main(int argc, char **argv) {
       no |= same_release(&c->car, c->v, c->count, h, card, c->second);
       if (memcmp(card, c->card, c->count)) stop("hold and release: not the card as it was");
     }
+    if (c->kind == MEND) {
+      uint16_t w[ROOM];
+      uint8_t card[ROOM];
+      memcpy(w, c->v, sizeof w), memcpy(card, c->card, ROOM);
+      no = same_mend(&c->car, w, c->count, c->h, card, c->second, c->speed[0]);
+      no |= same_mend(&c->car, w, c->count, c->h, card, c->second, c->speed[1]);
+      if (memcmp(card, c->card, c->count)) stop("mend and back: not the card as it was");
+    }
     if (no) {
       fprintf(stderr, "%s is refused by %u\n", c->name, no);
       return 1;
@@ -510,7 +557,7 @@ int main(int argc, char **argv) {
   printf("same bytes on every benchmark input (%d cases)\n", ncases);
   memset(numbers, 0, sizeof numbers);
   random_checks(6000);
-  printf("same bytes on 6000 random cars and traces (work, writes, 6 holds, reads each); answers by number:");
+  printf("same bytes on 6000 random cars and traces (work, writes, 6 holds, 6 mended samples, reads each); answers by number:");
   for (int i = 0; i < 18; i++) printf(" %d:%ld", i, numbers[i]);
   printf("\n");
   if (argc > 2 && !strcmp(argv[2], "--check")) return 0;
@@ -534,7 +581,8 @@ int main(int argc, char **argv) {
   printf("\n");
   for (int i = 0; i < ncases; i++) {
     case_t *c = &cases[i], *w = &cases[0];
-    if (c->kind != HOLD) continue;
+    if (c->kind != HOLD && c->kind != MEND) continue;
+    const char *edit = c->kind == HOLD ? "hold" : "mend";
     long rh0 = reps_for(c, 0, 0.003), rh1 = reps_for(c, 1, 0.003), rw0 = reps_for(w, 0, 0.003), rw1 = reps_for(w, 1, 0.003);
     for (int r = 0; r < ROUNDS; r++) {
       double a = timed(w, 0, rw0) / rw0, b = timed(c, 0, rh0) / rh0;
@@ -543,9 +591,9 @@ int main(int argc, char **argv) {
       y[r] = a / b;
     }
     char what[40];
-    snprintf(what, sizeof what, "whole/hold lib  %4zu s", c->length);
+    snprintf(what, sizeof what, "whole/%s lib  %4zu s", edit, c->length);
     row(c->name, what, x, ROUNDS);
-    snprintf(what, sizeof what, "whole/hold twin %4zu s", c->length);
+    snprintf(what, sizeof what, "whole/%s twin %4zu s", edit, c->length);
     row(c->name, what, y, ROUNDS);
   }
   return 0;

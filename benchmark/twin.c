@@ -416,6 +416,33 @@ verdict_t twin_release(car_t vehicle, const uint16_t *v, size_t n, uint8_t *h, s
   return edit(&vehicle, v, n, h, nh, card, nc, second, 0);
 }
 
+/* A sample made speed. It is written, judged in its place, and put back where it is refused. */
+verdict_t twin_mend(car_t vehicle, uint16_t *v, size_t n, const uint8_t *h, size_t nh, uint8_t *card, size_t nc, size_t second, uint16_t speed) {
+  verdict_t r = opening(&vehicle, n, nh, nc);
+  if (UNLIKELY(r.number)) return r;
+  if (second >= n) return say(11, second);
+  prep_t k;
+  prepare(&k, &vehicle);
+  size_t a = second, b = second + 1;
+  while (a > 0 && v[a - 1] >= 10) a--;
+  while (b < n && v[b] >= 10) b++;
+  size_t lo = a ? a - 1 : 0, hi = b < n ? b + 1 : n;
+  uint16_t was = v[second];
+  v[second] = speed;
+  r = judge(&k, v, n, h, n, 0, lo, hi);
+  if (UNLIKELY(r.number)) {
+    v[second] = was;
+    return r;
+  }
+  for (size_t i = lo; i < b;) {
+    if (i + 1 < b && v[i + 1] >= 10)
+      i = trip(&k, v, h, card, i + 1);
+    else
+      card[i++] = 0;
+  }
+  return say(0, 0);
+}
+
 /* A group at *at into *out; 0, or the number of its fault. */
 INLINE uint32_t group(const uint8_t *s, size_t end, size_t *at, uint32_t *out) {
   size_t i = *at;

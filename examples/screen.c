@@ -1,7 +1,9 @@
-/* What a driver's aid screen does: reads a job, works it, holds one second or releases it, and shows the seconds that changed.
+/* What a driver's aid screen does: reads a job, works it, holds one second, releases it or mends its speed, and shows the seconds that changed.
    usage: screen JOB SECOND GEAR        holds it
           screen JOB SECOND release     releases it
-   Exit status: 0 where the edit was taken, 1 where something was refused, 2 where the words are not these or the file cannot be opened. */
+          screen JOB SECOND =SPEED      mends its speed, in tenths of km/h
+   More seconds with their edits may follow, each shown by itself.
+   Exit status: 0 where each edit was taken, 1 where something was refused, 2 where the words are not these or the file cannot be opened. */
 #include "gearcard.h"
 
 #include <stdio.h>
@@ -30,22 +32,43 @@ static int refused(const char *what, struct gearcard_verdict verdict) {
   return 1;
 }
 
+static uint16_t speeds[GEARCARD_LONGEST];
+static uint8_t holds[GEARCARD_LONGEST], card[GEARCARD_LONGEST], before[GEARCARD_LONGEST];
+
+/* One edit, and what it changed. */
+static int edit(struct gearcard_vehicle vehicle, size_t count, const char *where, const char *what) {
+  size_t second, value = 0;
+  int release = strcmp(what, "release") == 0, mend = *what == '=';
+  if (!number(where, SIZE_MAX, &second)) {
+    fprintf(stderr, "screen: %s is no second\n", where);
+    return 2;
+  }
+  if (mend && !number(what + 1, UINT16_MAX, &value)) {
+    fprintf(stderr, "screen: %s is no speed from 0 to 65535\n", what + 1);
+    return 2;
+  }
+  if (!mend && !release && !number(what, UINT8_MAX, &value)) {
+    fprintf(stderr, "screen: %s is no gear from 0 to 255\n", what);
+    return 2;
+  }
+  memcpy(before, card, count);
+  struct gearcard_verdict verdict;
+  if (mend)
+    verdict = gearcard_mend(vehicle, speeds, count, holds, count, card, count, second, (uint16_t)value);
+  else if (release)
+    verdict = gearcard_release(vehicle, speeds, count, holds, count, card, count, second);
+  else
+    verdict = gearcard_hold(vehicle, speeds, count, holds, count, card, count, second, (uint8_t)value);
+  if (refused(mend ? "speed" : release ? "release" : "hold", verdict)) return 1;
+  for (size_t i = 0; i < count; i++)
+    if (card[i] != before[i]) show(i, card[i]);
+  return 0;
+}
+
 int main(int argc, char **argv) {
   static uint8_t job[20000];
-  static uint16_t speeds[GEARCARD_LONGEST];
-  static uint8_t holds[GEARCARD_LONGEST], card[GEARCARD_LONGEST], before[GEARCARD_LONGEST];
-  if (argc != 4) {
-    fprintf(stderr, "usage: screen JOB SECOND GEAR, or screen JOB SECOND release\n");
-    return 2;
-  }
-  size_t second, gear = 0;
-  int release = strcmp(argv[3], "release") == 0;
-  if (!number(argv[2], SIZE_MAX, &second)) {
-    fprintf(stderr, "screen: %s is no second\n", argv[2]);
-    return 2;
-  }
-  if (!release && !number(argv[3], UINT8_MAX, &gear)) {
-    fprintf(stderr, "screen: %s is no gear from 0 to 255\n", argv[3]);
+  if (argc < 4 || argc % 2 != 0) {
+    fprintf(stderr, "usage: screen JOB SECOND GEAR, screen JOB SECOND release, or screen JOB SECOND =SPEED\n");
     return 2;
   }
   FILE *file = fopen(argv[1], "rb");
@@ -59,15 +82,10 @@ int main(int argc, char **argv) {
   struct gearcard_job read = gearcard_read(job, length, speeds, GEARCARD_LONGEST, holds, GEARCARD_LONGEST);
   if (refused("job", read.verdict)) return 1;
   if (refused("trace", gearcard_work(read.vehicle, speeds, read.count, holds, read.count, card, read.count))) return 1;
-
-  memcpy(before, card, read.count);
-  struct gearcard_verdict edit;
-  if (release)
-    edit = gearcard_release(read.vehicle, speeds, read.count, holds, read.count, card, read.count, second);
-  else
-    edit = gearcard_hold(read.vehicle, speeds, read.count, holds, read.count, card, read.count, second, (uint8_t)gear);
-  if (refused(release ? "release" : "hold", edit)) return 1;
-  for (size_t i = 0; i < read.count; i++)
-    if (card[i] != before[i]) show(i, card[i]);
+  for (int word = 2; word < argc; word += 2) {
+    int status = edit(read.vehicle, read.count, argv[word], argv[word + 1]);
+    if (status != 0) return status;
+    if (word + 2 < argc) printf("then\n");
+  }
   return 0;
 }

@@ -38,8 +38,8 @@ struct gearcard_vehicle {
 };
 
 /* The answer: number 0 and place 0 where it is accepted, else the refusal and its place. Seconds and bytes count from 0. Where several apply,
-   gearcard_work, gearcard_hold, gearcard_release and gearcard_write give the first in this order, at its lowest second; gearcard_read the first fault of the
-   job from left to right.
+   gearcard_work, gearcard_hold, gearcard_release, gearcard_mend and gearcard_write give the first in this order, at its lowest second; gearcard_read the
+   first fault of the job from left to right.
 
     1  trace empty or over 2,048 seconds                              place 0
     2  holds or card not as long as the trace;                        place 0
@@ -47,7 +47,8 @@ struct gearcard_vehicle {
        in gearcard_cycle, a room under 1,801;
        in gearcard_downscale, a room not 1,801
     3  a vehicle field out of bounds, the first such                  field, 1 to 13
-   11  second outside the trace (gearcard_hold, gearcard_release)     second asked
+   11  second outside the trace (gearcard_hold, gearcard_release,     second asked
+       gearcard_mend)
     4  speed over 2,000                                               second
     5  step from the second before over 150                           second
     6  first, then last, sample is moving                             second
@@ -114,6 +115,13 @@ struct gearcard_verdict gearcard_hold(struct gearcard_vehicle vehicle, const uin
    only the hold is written. */
 struct gearcard_verdict gearcard_release(struct gearcard_vehicle vehicle, const uint16_t *speeds, size_t speeds_length, uint8_t *holds,
                                          size_t holds_length, uint8_t *card, size_t card_length, size_t second);
+
+/* Corrects one speed sample. The speed is written, and the card re-worked for the trips that hold this second or a neighbour in the new trace, the
+   standing second before each, this second and the one before it; no other byte changes, and no hold. Trips may split or join. Of the new trace it
+   checks those trips with a standing second on either side, this second and its neighbours, and no others. A held second that would stand is refused
+   by 8. Where the card was the right one for the speeds and the holds, it is then the one that gearcard_work would give for the new speeds. */
+struct gearcard_verdict gearcard_mend(struct gearcard_vehicle vehicle, uint16_t *speeds, size_t speeds_length, const uint8_t *holds, size_t holds_length,
+                                      uint8_t *card, size_t card_length, size_t second, uint16_t speed);
 
 /* Fills the first 1,801 places of the room with the Class 3 cycle for top speeds of 120 km/h and over, the whole of it whatever the part. Room beyond is
    untouched. Part 0 is the whole cycle, 1 to 4 are Low, Medium, High and Extra High. */

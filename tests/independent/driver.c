@@ -5,14 +5,15 @@
    is READ, the export where it is EXPORT, the room where it is WRITE, else the card) the number of elements of the guard before it, of the slice and of the guard after it (u32 each);
    then the elements of the three, guards included. An answer: number (u32), place (u64); where kind is READ the vehicle's fields and the count (u64), where
    it is EXPORT F0, F1, F2 and TM, where it is WRITE the length (u64); then the elements again. Where kind is CYCLE or CYCLE_PART the second is the part's number and the speeds are the room;
-   CYCLE_PART answers the count as number and the first second as place. Where kind is DOWNSCALE the second is the factor. All little-endian, as x86-64 is.
+   CYCLE_PART answers the count as number and the first second as place. Where kind is DOWNSCALE the second is the factor, where it is MEND the gear is the
+   speed. All little-endian, as x86-64 is.
    Exit 0 at the end of the requests, 2 where one is cut or past the limits here. */
 #include "gearcard.h"
 
 #include <stdio.h>
 #include <stdlib.h>
 
-enum { READ, WORK, HOLD, RELEASE, EXPORT, CYCLE, CYCLE_PART, DOWNSCALE, WRITE };
+enum { READ, WORK, HOLD, RELEASE, EXPORT, CYCLE, CYCLE_PART, DOWNSCALE, WRITE, MEND };
 enum { SECONDS = 4096, BYTES = 32768 };
 
 struct span {
@@ -83,6 +84,8 @@ static void answer(uint32_t kind, uint32_t gear, uint64_t second, struct gearcar
     verdict = gearcard_release(vehicle, v, s.length, held, h.length, last, t.length, second);
   } else if (kind == CYCLE) {
     verdict = gearcard_cycle((uint32_t)second, v, s.length);
+  } else if (kind == MEND) {
+    verdict = gearcard_mend(vehicle, v, s.length, held, h.length, last, t.length, second, (uint16_t)gear);
   } else if (kind == DOWNSCALE) {
     verdict = gearcard_downscale((uint32_t)second, v, s.length);
   } else if (kind == WRITE) {
@@ -129,7 +132,7 @@ int main(void) {
     get(&second, sizeof second);
     vehicle_fields(&vehicle, get);
     get(spans, sizeof spans);
-    if (kind > WRITE || gear > 255) refuse("no such request");
+    if (kind > MEND || gear > (kind == MEND ? 65535u : 255u)) refuse("no such request");
     answer(kind, gear, second, vehicle, spans[0], spans[1], spans[2]);
   }
 }

@@ -1,13 +1,11 @@
--- The three demands, over the contracts of `work`, `hold` and `release` as the check reads them, and document 01's definitions.
+-- The three demands, over the contracts of `work`, `hold`, `release` and `mend` as the check reads them, and document 01's definitions.
 -- Assumes nothing.
 use Prim.Native.Nat.{ℕ, suc, _+_, _-_, _≤_, _<_, _%_}
 use native.Mathlib.Nat.{zero-add}
 use native.Mathlib.Omega.{arith}
 use mathlib.Core.Path.{_≡_, refl, sym, ap, _∙_}
 use mathlib.Core.Logic.{_≢_, _↔_}
-use mathlib.Core.Bool.{true, false, not}
-use lib.Dec.{ltb}
-use borrow.Author.Tests.{ltb-true, not-false}
+use mathlib.Core.Bool.{true, false}
 use mathlib.Core.Option.{Option, none, some}
 use mathlib.Core.List.{List}
 use lib.ListN.{length, set}
@@ -20,22 +18,23 @@ use Rattle.rules.specs.declared.Answer.{Answer}
 use Rattle.rules.specs.Words.{at}
 use Rattle.rules.specs.Units.{moving, stop}
 use Rattle.rules.specs.Corrections.{gear-at, byte, card-at, card}
-use Rattle.rules.specs.Refusals.{Fault, said, room-fault, work-fault, left, work-card, second-fault, edit-fault}
+use Rattle.rules.specs.Refusals.{Fault, said, work-fault, left, work-card}
 use Rattle.rules.specs.Quick.{span-lo, quick-fault, quick-holds, quick-card}
 use Rattle.rules.specs.Holds.{asked, hold-fault, hold-holds, hold-card, release-fault, release-holds, release-card}
-use Rattle.rules.specs.Vocabulary.{Wanting, PassesOthers, Out}
-use Rattle.rules.proofs.Laws.Words.{at-table, length-table}
+use Rattle.rules.specs.Mend.{mend-lo, mend-hi, mend-fault, mend-speeds, mend-card}
+use Rattle.rules.specs.Vocabulary.{Wanting, PassesOthers, Out, Right, Spares}
+use Rattle.rules.proofs.Laws.Words.{at-table}
 use Rattle.rules.proofs.Laws.Refusals.{said-once}
-use Rattle.rules.proofs.Laws.Checks.{orelse-none, when-none, rooms-in, accepted}
-use Rattle.rules.specs.Vocabulary.{Spares}
-use Rattle.rules.proofs.Theorems.{right-card-spares, reworked-card-spares}
-use Rattle.rules.proofs.Theorems.{want-of-a-gear, quick-as-whole, card-untouched, card-untouched-standing, holds-untouched, hold-as-whole, release-as-whole, released-free, none-held-by-7, held-shown}
+use Rattle.rules.proofs.Laws.Runs.{anew}
+use Rattle.rules.proofs.Theorems.{want-of-a-gear, card-untouched, card-untouched-standing, holds-untouched, hold-as-whole, release-as-whole, released-free, none-held-by-7, held-shown, mend-as-whole, mended-same, mend-frame, mend-frame-speeds, mend-hold-wins, hold-stays-right, release-stays-right, mend-stays-right, right-card-spares, reworked-card-spares}
 use Rattle.cards.proofs.whole.work.Kinds as work-kinds
 use Rattle.cards.proofs.whole.work.Reads as work-reads
 use Rattle.cards.proofs.buttons.hold.Kinds as hold-kinds
 use Rattle.cards.proofs.buttons.hold.Reads as hold-reads
 use Rattle.cards.proofs.buttons.release.Kinds as release-kinds
 use Rattle.cards.proofs.buttons.release.Reads as release-reads
+use Rattle.cards.proofs.sample.mend.Kinds as mend-kinds
+use Rattle.cards.proofs.sample.mend.Reads as mend-reads
 
 -- ---- what the contract of `work` says
 
@@ -86,6 +85,19 @@ a-release : {car : Vehicle} {vs hs old : List ℕ} {s : ℕ} {z : Answer} {ks ne
 unfolding release-fault release-holds release-card
 a-release H = record { answer = H .answer; holds-left = H .holds-left; card-left = H .card-left }
 
+-- ---- and that of `mend`
+
+-- an answer, and the speeds and the card that are left
+pub record MendedBy (car : Vehicle) (vs hs old : List ℕ) (s v : ℕ) (z : Answer) (ws new : List ℕ) : Type 0 where
+  pub answer : said z ≡ mend-fault car vs hs old s v
+  pub speeds-left : ws ≡ mend-speeds car vs hs old s v
+  pub card-left : new ≡ mend-card car vs hs old s v
+
+pub mend-says : (κs : Lfts 3) (a : Dens κs mend-kinds.ps) → mend-reads.Asked κs a → (z : resT mend-kinds.r κs .Denot) (ws : Lasts (endedOf 3 mend-kinds.ps mend-kinds.r) κs a)
+    → mend-reads.Learnt κs a z (atExit (endedOf 3 mend-kinds.ps mend-kinds.r) κs a ws)
+    → MendedBy (a .0) (now (a .1 .0)) (now (a .1 .1 .0)) (now (a .1 .1 .1 .0)) (a .1 .1 .1 .1 .0) (a .1 .1 .1 .1 .1 .0) z (ws .1 .0) (ws .1 .1 .1 .0)
+mend-says κs a asked z ws p = record { answer = p .0; speeds-left = p .1 .0; card-left = p .1 .1 }
+
 -- ---- Demand 1. Every input gets an answer (no function asks anything of its caller), refused by number and place exactly where the
 -- table says, and a refusal changes no byte
 
@@ -120,6 +132,14 @@ module _ {car : Vehicle} {vs hs old : List ℕ} {s : ℕ} {z : Answer} {ks new :
   pub demand-1-untouched-release : (q : Fault) → said z ≡ some q → (ks ≡ hs) × (new ≡ old)
   demand-1-untouched-release = edit-untouched (a-release H)
 
+module _ {car : Vehicle} {vs hs old : List ℕ} {s v : ℕ} {z : Answer} {ws new : List ℕ} (M : MendedBy car vs hs old s v z ws new) where
+  pub demand-1-table-mend : said z ≡ mend-fault car vs hs old s v
+  demand-1-table-mend = M .answer
+
+  pub demand-1-untouched-mend : (q : Fault) → said z ≡ some q → (ws ≡ vs) × (new ≡ old)
+  unfolding mend-speeds mend-card
+  demand-1-untouched-mend q e = let f = sym (M .answer) ∙ e in (M .speeds-left ∙ left-alone vs _ f, M .card-left ∙ left-alone old _ f)
+
 -- ---- Demand 2. An accepted trace gets, at every second, the gear and clutch that document 01 prescribes. Of the job, in both directions, it stands in the
 -- Demands of `jobs`
 
@@ -136,37 +156,7 @@ module _ {car : Vehicle} {vs hs old : List ℕ} {z : Answer} {new : List ℕ} (W
   pub demand-2-want : PassesOthers car vs hs old → ((i : ℕ) × (said z ≡ some (record { no = 10; spot = i }))) ↔ ((i : ℕ) × Wanting car vs hs i)
   demand-2-want P = let t = want-of-a-gear car vs hs old P in (λ r. t .0 (r .0, sym (W .answer) ∙ r .1), λ w. let r = t .1 w in (r .0, W .answer ∙ r .1))
 
--- what an accepted edit leaves
-accepted-card : (car : Vehicle) (vs hs old : List ℕ) → work-fault car vs hs old ≡ none → work-card car vs hs old ≡ card car vs hs
-unfolding work-card left
-accepted-card car vs hs old e = rw e
-
-accepted-holds : (car : Vehicle) (vs hs old : List ℕ) (s g : ℕ) → quick-fault car vs hs old s g ≡ none → quick-holds car vs hs old s g ≡ set hs s g
-unfolding quick-holds left
-accepted-holds car vs hs old s g e = rw e
-
-accepted-in : (car : Vehicle) (vs hs old : List ℕ) (s g : ℕ) → quick-fault car vs hs old s g ≡ none → s < length vs
-unfolding quick-fault edit-fault second-fault
-accepted-in car vs hs old s g e =
-    let a = orelse-none _ _ e in
-    let b = orelse-none _ _ (a .1) in
-    let c = orelse-none _ _ (b .1) in
-    let d = orelse-none _ _ (c .1) in
-    ltb-true s (length vs) (not-false _ (when-none 11 (not (ltb s (length vs))) s (d .0)))
-
--- the working looks at the length of a lent card alone
-same-room : (car : Vehicle) (vs hs old new : List ℕ) → new ≡ work-card car vs hs old → work-fault car vs hs old ≡ none → work-fault car vs hs new ≡ none
-unfolding work-fault room-fault card
-same-room car vs hs old new e f =
-    let r = accepted car vs hs old f in
-    let l : length new ≡ length old = ap length (e ∙ accepted-card car vs hs old f) ∙ length-table (card-at car vs hs) 0 (length vs) ∙ sym (rooms-in vs hs old (r .room) .1) in
-    rw l f
-
--- ---- Demand 3. The card on the screen is the right one for the present holds
-
-pub record Right (car : Vehicle) (vs hs old : List ℕ) : Type 0 where
-  pub accepted : work-fault car vs hs old ≡ none
-  pub its-card : old ≡ card car vs hs
+-- ---- Demand 3. The card on the screen is the right one for the present speeds and holds (`Right`)
 
 -- of the one edit
 
@@ -179,22 +169,6 @@ module _ {car : Vehicle} {vs hs old : List ℕ} {s g : ℕ} {z : Answer} {ks new
 
   edit-frame-holds : (i : ℕ) → i ≢ s → at ks i ≡ at hs i
   edit-frame-holds i n = ap (λ (c : List ℕ). at c i) (E .holds-left) ∙ holds-untouched car vs hs old s g i n
-
-  edit-stays : Right car vs hs old → Right car vs ks new
-  edit-stays R = by-answer (quick-fault car vs hs old s g) refl
-    where
-      kept : {f : Fault} → quick-fault car vs hs old s g ≡ some f → Right car vs ks new
-      kept {f} e = let u = edit-untouched E f (E .answer ∙ e) in rw (u .0, u .1) R
-
-      by-answer : (f : Option Fault) → quick-fault car vs hs old s g ≡ f → Right car vs ks new
-      by-answer (some f) e = kept e
-      by-answer none e =
-          let l = accepted-in car vs hs old s g e in
-          let t = quick-as-whole car vs hs old s g (R .accepted) (R .its-card) l in
-          let w : work-fault car vs (set hs s g) old ≡ none = sym (t .0) ∙ e in
-          let c : new ≡ card car vs (set hs s g) = E .card-left ∙ t .1 ∙ accepted-card car vs (set hs s g) old w in
-          let k : ks ≡ set hs s g = E .holds-left ∙ accepted-holds car vs hs old s g e in
-          rw k (record { accepted = same-room car vs (set hs s g) old new (c ∙ sym (accepted-card car vs (set hs s g) old w)) w; its-card = c })
 
 -- of holding
 
@@ -225,7 +199,7 @@ module _ {car : Vehicle} {vs hs old : List ℕ} {s g : ℕ} {z : Answer} {ks new
 
   -- a right card stays right
   pub demand-3-stays : Right car vs hs old → Right car vs ks new
-  demand-3-stays = edit-stays (a-hold H)
+  demand-3-stays R = rw (H .holds-left, H .card-left) (hold-stays-right car vs hs old s R g)
 
 -- of releasing, the same
 
@@ -251,19 +225,50 @@ module _ {car : Vehicle} {vs hs old : List ℕ} {s : ℕ} {z : Answer} {ks new :
   demand-3-frame-holds-release = edit-frame-holds (a-release H)
 
   pub demand-3-stays-release : Right car vs hs old → Right car vs ks new
-  demand-3-stays-release = edit-stays (a-release H)
+  demand-3-stays-release R = rw (H .holds-left, H .card-left) (release-stays-right car vs hs old s R)
 
--- a run of holds and releases, one after the other, each perhaps refused
-pub data Run (car : Vehicle) (vs : List ℕ) : List ℕ → List ℕ → List ℕ → List ℕ → Type 0 where
-  no-more : {hs old : List ℕ} → Run car vs hs old hs old
-  then-hold : {hs old ks new ls last : List ℕ} {s g : ℕ} {z : Answer} → HeldBy car vs hs old s g z ks new → Run car vs ks new ls last → Run car vs hs old ls last
-  then-release : {hs old ks new ls last : List ℕ} {s : ℕ} {z : Answer} → ReleasedBy car vs hs old s z ks new → Run car vs ks new ls last → Run car vs hs old ls last
+-- of mending a sample, the same on the new trace
 
--- any sequence of quick edits from a right card ends in the right card of the final holds
-pub demand-3-run : {car : Vehicle} {vs hs old ks new : List ℕ} → Run car vs hs old ks new → Right car vs hs old → Right car vs ks new
+module _ {car : Vehicle} {vs hs old : List ℕ} {s v : ℕ} {z : Answer} {ws new : List ℕ} (M : MendedBy car vs hs old s v z ws new) where
+  pub demand-3-as-whole-mend : Right car vs hs old → s < length vs → {y : Answer} {fresh : List ℕ} → Worked car (set vs s v) hs old y fresh → (z ≡ y) × (new ≡ fresh)
+  demand-3-as-whole-mend R l {y} W =
+      let t = mend-as-whole car vs hs old s v (R .accepted) (R .its-card) l in
+      (said-once z y (M .answer ∙ t .0 ∙ sym (W .answer)), M .card-left ∙ t .1 ∙ sym (W .card-left))
+
+  -- the speed that it has changes no byte
+  pub demand-3-same-mend : v ≡ at vs s → Right car vs hs old → s < length vs → (said z ≡ none) × (ws ≡ vs) × (new ≡ old)
+  demand-3-same-mend e R l =
+      let t = mended-same car vs hs old s v e (R .accepted) (R .its-card) l in
+      (M .answer ∙ t .0, M .speeds-left ∙ t .1, M .card-left ∙ t .2)
+
+  -- a hold stays in force: a held second that is mended moves
+  pub demand-3-hold-wins-mend : said z ≡ none → at hs s ≢ 0 → moving v ≡ true
+  demand-3-hold-wins-mend e h = mend-hold-wins car vs hs old s v (sym (M .answer) ∙ e) h
+
+  -- whether the card was right or not, no byte changes outside the trips that hold the second or a neighbour, the standing second before each, the
+  -- second and the one before it; and no speed but its own
+  pub demand-3-frame-mend : (i : ℕ) → Out (mend-lo vs s) (mend-hi vs s) i → at new i ≡ at old i
+  demand-3-frame-mend i o = ap (λ (c : List ℕ). at c i) (M .card-left) ∙ mend-frame car vs hs old s v i o
+
+  pub demand-3-frame-speeds-mend : (i : ℕ) → i ≢ s → at ws i ≡ at vs i
+  demand-3-frame-speeds-mend i n = ap (λ (c : List ℕ). at c i) (M .speeds-left) ∙ mend-frame-speeds car vs hs old s v i n
+
+  pub demand-3-stays-mend : Right car vs hs old → Right car ws hs new
+  demand-3-stays-mend R = rw (M .speeds-left, M .card-left) (mend-stays-right car vs hs old s R v)
+
+-- a run of holds, releases and mended samples, one after the other, each perhaps refused: from speeds, holds and card to speeds, holds and card
+pub data Run (car : Vehicle) : List ℕ → List ℕ → List ℕ → List ℕ → List ℕ → List ℕ → Type 0 where
+  no-more : {vs hs old : List ℕ} → Run car vs hs old vs hs old
+  then-hold : {vs hs old ks new us ls last : List ℕ} {s g : ℕ} {z : Answer} → HeldBy car vs hs old s g z ks new → Run car vs ks new us ls last → Run car vs hs old us ls last
+  then-release : {vs hs old ks new us ls last : List ℕ} {s : ℕ} {z : Answer} → ReleasedBy car vs hs old s z ks new → Run car vs ks new us ls last → Run car vs hs old us ls last
+  then-mend : {vs hs old ws new us ls last : List ℕ} {s v : ℕ} {z : Answer} → MendedBy car vs hs old s v z ws new → Run car ws hs new us ls last → Run car vs hs old us ls last
+
+-- any sequence of quick edits from a right card ends in the right card of the final speeds and holds
+pub demand-3-run : {car : Vehicle} {vs hs old ws ks new : List ℕ} → Run car vs hs old ws ks new → Right car vs hs old → Right car ws ks new
 demand-3-run no-more R = R
 demand-3-run (then-hold H r) R = demand-3-run r (demand-3-stays H R)
 demand-3-run (then-release H r) R = demand-3-run r (demand-3-stays-release H R)
+demand-3-run (then-mend M r) R = demand-3-run r (demand-3-stays-mend M R)
 
 -- ---- Request Twelve. No card over-revs an engine: at every second of the finished card both sentences of the request (`Spares`)
 
@@ -273,16 +278,14 @@ twelve {car} {vs} {hs} {old} R = right-card-spares car vs hs old (R .accepted) (
 
 -- the whole working leaves a right card where it accepts
 pub worked-right : {car : Vehicle} {vs hs old : List ℕ} {z : Answer} {new : List ℕ} → Worked car vs hs old z new → said z ≡ none → Right car vs hs new
-worked-right {car} {vs} {hs} {old} {z} {new} W e =
-    let ok : work-fault car vs hs old ≡ none = sym (W .answer) ∙ e in
-    record { accepted = same-room car vs hs old new (W .card-left) ok; its-card = demand-2-card W e }
+worked-right {car} {vs} {hs} {old} {z} {new} W e = anew car vs hs old new (sym (W .answer) ∙ e) (W .card-left)
 
 -- so both hold after the whole working
 pub twelve-work : {car : Vehicle} {vs hs old : List ℕ} {z : Answer} {new : List ℕ} → Worked car vs hs old z new → said z ≡ none → (i : ℕ) → Spares car vs hs new i
 twelve-work W e = twelve (worked-right W e)
 
--- and after any run of holds and releases from a right card, refused ones among them
-pub twelve-run : {car : Vehicle} {vs hs old ks new : List ℕ} → Run car vs hs old ks new → Right car vs hs old → (i : ℕ) → Spares car vs ks new i
+-- and after any run of holds, releases and mended samples from a right card, refused ones among them
+pub twelve-run : {car : Vehicle} {vs hs old ws ks new : List ℕ} → Run car vs hs old ws ks new → Right car vs hs old → (i : ℕ) → Spares car ws ks new i
 twelve-run r R = twelve (demand-3-run r R)
 
 -- whether the card was right or not, an edit that is accepted leaves both at every second that it re-works

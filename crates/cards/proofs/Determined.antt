@@ -11,6 +11,8 @@ use Rattle.cards.proofs.buttons.hold.Kinds as hold-kinds
 use Rattle.cards.proofs.buttons.hold.Reads as hold-reads
 use Rattle.cards.proofs.buttons.release.Kinds as release-kinds
 use Rattle.cards.proofs.buttons.release.Reads as release-reads
+use Rattle.cards.proofs.sample.mend.Kinds as mend-kinds
+use Rattle.cards.proofs.sample.mend.Reads as mend-reads
 
 pub work : Determined work-kinds.ps work-kinds.r work-reads.Asked work-reads.Learnt
 work κs a asked z z′ ws ws′ p q = (said-once z z′ (p .0 ∙ sym (q .0)), ap (λ (x : List ℕ). (tt, (tt, (tt, (x, tt))))) (p .1 ∙ sym (q .1)))
@@ -22,3 +24,7 @@ hold κs a asked z z′ ws ws′ p q =
 pub release : Determined release-kinds.ps release-kinds.r release-reads.Asked release-reads.Learnt
 release κs a asked z z′ ws ws′ p q =
     (said-once z z′ (p .0 ∙ sym (q .0)), λ i. (tt, (tt, ((p .1 .0 ∙ sym (q .1 .0)) i, ((p .1 .1 ∙ sym (q .1 .1)) i, (tt, tt))))))
+
+pub mend : Determined mend-kinds.ps mend-kinds.r mend-reads.Asked mend-reads.Learnt
+mend κs a asked z z′ ws ws′ p q =
+    (said-once z z′ (p .0 ∙ sym (q .0)), λ i. (tt, ((p .1 .0 ∙ sym (q .1 .0)) i, (tt, ((p .1 .1 ∙ sym (q .1 .1)) i, (tt, (tt, tt)))))))

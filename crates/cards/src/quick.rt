@@ -101,14 +101,14 @@ fn around(trip: Span, seconds: usize) -> Span
 }
 
 // The second before, where there is one.
-fn before(a: usize) -> usize
+pub fn before(a: usize) -> usize
     ensures { λ r. ⌜ r ≡ a - 1 ⌝ }
 {
     if a == 0 { 0 } else { a - 1 }
 }
 
 // Past the second b, where there is one.
-fn past(b: usize, seconds: usize) -> usize
+pub fn past(b: usize, seconds: usize) -> usize
     ensures { λ r. ⌜ r ≡ min (b + 1) seconds ⌝ }
 {
     if b < seconds { b + 1 } else { seconds }

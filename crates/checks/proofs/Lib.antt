@@ -4,5 +4,6 @@ pub mod OnePass
 pub mod Scans
 pub mod Tests
 pub mod Calmness
+pub mod Pieces
 pub mod Wanting
 pub mod Determined

@@ -19,6 +19,12 @@ pub record Seconds (vs : List ℕ) (lo hi : ℕ) : Type 0 where
   pub order : lo ≤ hi
   pub inside : hi ≤ length vs
 
+-- seconds of the trace, and second s one of them
+pub record Around (vs : List ℕ) (lo hi s : ℕ) : Type 0 where
+  pub since : lo ≤ s
+  pub until : s < hi
+  pub inside : hi ≤ length vs
+
 -- so it is at each place from lo up to hi
 abbrev pub Each : (ℕ → Type 0) → ℕ → ℕ → Type 0
 Each P lo hi = (i : ℕ) → lo ≤ i → i < hi → P i

@@ -30,10 +30,9 @@ pub record TraceSecond (k : Numbers) (vs : List ℕ) (i : ℕ) : Type 0 where
   pub rated-from : k .idle ≤ k .rated
   pub inside : i < length vs
 
--- a second of the trace, and a gear that it is held in
-pub record HeldSecond (k : Numbers) (vs : List ℕ) (i held : ℕ) : Type 0 where
+-- a gear that a second is held in, of such a vehicle
+pub record HeldGear (k : Numbers) (held : ℕ) : Type 0 where
   pub ng-to : k .ng ≤ 10
-  pub inside : i < length vs
   pub some : 1 ≤ held
 
 -- a span of the trace, of a vehicle as above, with a hold for each second

@@ -12,17 +12,19 @@ ghost use Rattle.gears.specs.Parts.{Has};
 ghost use Rattle.checks.specs.Checks.{Spanned};
 ghost use Rattle.checks.specs.Calm.{Seconds, Each, AtMost, gap-at, Stands, HoldPasses};
 use crate::Hold;
+use crate::Sample;
 use crate::Span;
 use crate::seconds::gap;
 use crate::seconds::held_fault;
 use crate::seconds::hold_at;
+use crate::seconds::speed_at;
 use gears::Numbers;
 use rules::FASTEST;
 use rules::STEEPEST;
 use rules::moving;
 
 // The larger of two.
-fn larger(a: u16, b: u16) -> u16
+pub fn larger(a: u16, b: u16) -> u16
     ensures first { λ r. ⌜ a ≤ r ⌝ }
     ensures second { λ r. ⌜ b ≤ r ⌝ }
 {
@@ -58,7 +60,7 @@ pub fn fastest(speeds: &[u16], span: Span) -> u16
 }
 
 // The largest step between two seconds of a span, up or down.
-fn steepest(speeds: &[u16], span: Span) -> u16
+pub fn steepest(speeds: &[u16], span: Span) -> u16
     requires { ⌜ Seconds (now speeds) (span .lo) (span .hi) ⌝ }
     ensures { λ r. ⌜ AtMost (gap-at (now (speeds .entry))) (span .lo + 1) (span .hi) r ⌝ }
 {
@@ -88,7 +90,7 @@ pub fn stands(speeds: &[u16], span: Span) -> bool
 }
 
 // The highest hold of a span: 0 where no second is held.
-fn most_held(holds: &[u8], span: Span) -> u8
+pub fn most_held(holds: &[u8], span: Span) -> u8
     requires { ⌜ Seconds (now holds) (span .lo) (span .hi) ⌝ }
     ensures { λ r. ⌜ AtMost (at (now (holds .entry))) (span .lo) (span .hi) r ⌝ }
 {
@@ -102,22 +104,23 @@ fn most_held(holds: &[u8], span: Span) -> u8
 }
 
 // Whether each held second passes 7, 8 and 9, one after the other.
-fn each_passes<'a>(
+pub fn each_passes<'a>(
     k: Numbers,
     ratio: &'a [u16; 10],
     speeds: &'a [u16],
     holds: &'a [u8],
+    sample: Sample,
     hold: Hold,
     span: Span,
 ) -> bool
     requires { ⌜ Spanned k (now speeds) (now holds) (span .lo) (span .hi) ⌝ }
-    ensures { λ r. ⌜ (r ≡ true → Each (HoldPasses k (now (ratio .entry)) (now (speeds .entry)) (set (now (holds .entry)) (hold .second) (hold .gear)) (span .lo)) (span .lo) (span .hi)) ⌝ }
+    ensures { λ r. ⌜ (r ≡ true → Each (HoldPasses k (now (ratio .entry)) (set (now (speeds .entry)) (sample .second) (sample .speed)) (set (now (holds .entry)) (hold .second) (hold .gear)) (span .lo)) (span .lo) (span .hi)) ⌝ }
 {
     let mut i = span.lo;
     while i < span.hi {
         let held = hold_at(holds, hold, i);
         if held != 0 {
-            if held_fault(k, ratio, speeds, held, i) != 10 {
+            if held_fault(k, ratio, speed_at(speeds, sample, i), held) != 10 {
                 return false;
             }
         }
@@ -139,7 +142,11 @@ fn holds_pass<'a>(
     ensures { λ r. ⌜ (r ≡ true → Each (HoldPasses k (now (ratio .entry)) (now (speeds .entry)) (set (now (holds .entry)) (hold .second) (hold .gear)) (span .lo)) (span .lo) (span .hi)) ⌝ }
 {
     if most_held(holds, span) != 0 {
-        return each_passes(k, ratio, speeds, holds, hold, span);
+        let none = Sample {
+            second: speeds.len(),
+            speed: 0,
+        };
+        return each_passes(k, ratio, speeds, holds, none, hold, span);
     }
     if hold.second < span.lo {
         return true;
@@ -150,7 +157,8 @@ fn holds_pass<'a>(
     if hold.gear == 0 {
         return true;
     }
-    held_fault(k, ratio, speeds, hold.gear, hold.second) == 10
+    let second = hold.second;
+    held_fault(k, ratio, speeds[second], hold.gear) == 10
 }
 
 // Whether nothing is wrong in the span, by the highest speed and the largest step alone where no second is held.

@@ -7,8 +7,9 @@ ghost use Rattle.rules.specs.declared.Vehicle.{Vehicle};
 ghost use Rattle.rules.specs.Words.{at};
 ghost use Rattle.rules.specs.Refusals.{step, ends, checks, bad, said, seconds-fault};
 ghost use Rattle.gears.specs.Parts.{Has};
-ghost use Rattle.checks.specs.Checks.{fault-no, kept, hold-checks, HeldSecond, TraceSecond, Spanned};
+ghost use Rattle.checks.specs.Checks.{fault-no, kept, hold-checks, HeldGear, TraceSecond, Spanned};
 use crate::Hold;
+use crate::Sample;
 use crate::Span;
 use crate::calm::calm;
 use gears::Numbers;
@@ -31,6 +32,17 @@ pub fn hold_at(holds: &[u8], hold: Hold, i: usize) -> u8
     holds[i]
 }
 
+// The speed of second i, were the sample that is asked for written.
+pub fn speed_at(speeds: &[u16], sample: Sample, i: usize) -> u16
+    requires { ⌜ i < length (now speeds) ⌝ }
+    ensures { λ r. ⌜ r ≡ at (set (now (speeds .entry)) (sample .second) (sample .speed)) i ⌝ }
+{
+    if i == sample.second {
+        return sample.speed;
+    }
+    speeds[i]
+}
+
 // How far apart two speeds are, either way round, so that no sum can pass the end of a u16.
 pub fn gap(a: u16, b: u16) -> u16
     ensures { λ r. ⌜ r ≡ (a - b) + (b - a) ⌝ }
@@ -42,25 +54,28 @@ pub fn gap(a: u16, b: u16) -> u16
 }
 
 // Check 5. The step into the span's first second is not looked at.
-fn step_over(speeds: &[u16], lo: usize, i: usize) -> bool
+fn step_over(speeds: &[u16], sample: Sample, lo: usize, i: usize) -> bool
     requires { ⌜ i < length (now speeds) ⌝ }
-    ensures { λ r. ⌜ ((car : Vehicle) (hs : List ℕ) → r ≡ bad step car (now (speeds .entry)) hs lo i) ⌝ }
+    ensures { λ r. ⌜ ((car : Vehicle) (hs : List ℕ) → r ≡ bad step car (set (now (speeds .entry)) (sample .second) (sample .speed)) hs lo i) ⌝ }
 {
     if i <= lo {
         return false;
     }
-    if STEEPEST < gap(speeds[i - 1], speeds[i]) {
+    let before = speed_at(speeds, sample, i - 1);
+    let here = speed_at(speeds, sample, i);
+    if STEEPEST < gap(before, here) {
         return true;
     }
     false
 }
 
 // Check 6, at the trace's own ends and not the span's.
-fn end_moving(speeds: &[u16], i: usize) -> bool
+fn end_moving(speeds: &[u16], sample: Sample, i: usize) -> bool
     requires { ⌜ i < length (now speeds) ⌝ }
-    ensures { λ r. ⌜ ((car : Vehicle) (hs : List ℕ) (lo : ℕ) → r ≡ bad ends car (now (speeds .entry)) hs lo i) ⌝ }
+    ensures { λ r. ⌜ ((car : Vehicle) (hs : List ℕ) (lo : ℕ) → r ≡ bad ends car (set (now (speeds .entry)) (sample .second) (sample .speed)) hs lo i) ⌝ }
 {
-    if !moving(speeds[i]) {
+    let v = speed_at(speeds, sample, i);
+    if !moving(v) {
         return false;
     }
     if i == 0 {
@@ -73,17 +88,10 @@ fn end_moving(speeds: &[u16], i: usize) -> bool
 }
 
 // Checks 7, 8 and 9 of a held second. A gear above ng has no ratio, so 7 is asked before a ratio is read.
-pub fn held_fault<'a>(
-    k: Numbers,
-    ratio: &'a [u16; 10],
-    speeds: &'a [u16],
-    held: u8,
-    i: usize,
-) -> u32
-    requires { ⌜ HeldSecond k (now speeds) i held ⌝ }
-    ensures { λ r. ⌜ ((car : Vehicle) → Has car k (now (ratio .entry)) → (hs : List ℕ) (lo : ℕ) → at hs i ≡ held → r ≡ fault-no car (now (speeds .entry)) hs lo i hold-checks) ⌝ }
+pub fn held_fault(k: Numbers, ratio: &[u16; 10], v: u16, held: u8) -> u32
+    requires { ⌜ HeldGear k held ⌝ }
+    ensures { λ r. ⌜ ((car : Vehicle) → Has car k (now (ratio .entry)) → (vs hs : List ℕ) (lo i : ℕ) → at vs i ≡ v → at hs i ≡ held → r ≡ fault-no car vs hs lo i hold-checks) ⌝ }
 {
-    let v = speeds[i];
     if k.ng < held as u16 {
         return 7;
     }
@@ -101,26 +109,28 @@ fn fault_at<'a>(
     k: Numbers,
     ratio: &'a [u16; 10],
     speeds: &'a [u16],
+    sample: Sample,
     held: u8,
     lo: usize,
     i: usize,
 ) -> u32
     requires { ⌜ TraceSecond k (now speeds) i ⌝ }
-    ensures { λ r. ⌜ ((car : Vehicle) → Has car k (now (ratio .entry)) → (hs : List ℕ) → at hs i ≡ held → r ≡ fault-no car (now (speeds .entry)) hs lo i checks) ⌝ }
+    ensures { λ r. ⌜ ((car : Vehicle) → Has car k (now (ratio .entry)) → (hs : List ℕ) → at hs i ≡ held → r ≡ fault-no car (set (now (speeds .entry)) (sample .second) (sample .speed)) hs lo i checks) ⌝ }
 {
-    if FASTEST < speeds[i] {
+    let v = speed_at(speeds, sample, i);
+    if FASTEST < v {
         return 4;
     }
-    if step_over(speeds, lo, i) {
+    if step_over(speeds, sample, lo, i) {
         return 5;
     }
-    if end_moving(speeds, i) {
+    if end_moving(speeds, sample, i) {
         return 6;
     }
     if held == 0 {
         return 10;
     }
-    held_fault(k, ratio, speeds, held, i)
+    held_fault(k, ratio, v, held)
 }
 
 // The refusal of a number that the pass kept, at its place.
@@ -140,23 +150,24 @@ fn answer_of(best: u32, place: usize) -> Answer
 }
 
 // Checks 4 to 9 of each second, one after the other: the lowest number wins, and for one number the lowest second.
-fn judge_seconds<'a>(
+pub fn judge_seconds<'a>(
     k: Numbers,
     ratio: &'a [u16; 10],
     speeds: &'a [u16],
     holds: &'a [u8],
+    sample: Sample,
     hold: Hold,
     span: Span,
 ) -> Answer
     requires { ⌜ Spanned k (now speeds) (now holds) (span .lo) (span .hi) ⌝ }
-    ensures { λ r. ⌜ ((car : Vehicle) → Has car k (now (ratio .entry)) → said r ≡ seconds-fault car (now (speeds .entry)) (set (now (holds .entry)) (hold .second) (hold .gear)) (span .lo) (span .hi)) ⌝ }
+    ensures { λ r. ⌜ ((car : Vehicle) → Has car k (now (ratio .entry)) → said r ≡ seconds-fault car (set (now (speeds .entry)) (sample .second) (sample .speed)) (set (now (holds .entry)) (hold .second) (hold .gear)) (span .lo) (span .hi)) ⌝ }
 {
     let mut best: u32 = 10;
     let mut place: usize = 0;
     let mut i = span.lo;
     while i < span.hi {
         let held = hold_at(holds, hold, i);
-        let no = fault_at(k, ratio, speeds, held, span.lo, i);
+        let no = fault_at(k, ratio, speeds, sample, held, span.lo, i);
         if no < best {
             best = no;
             place = i;
@@ -182,5 +193,10 @@ pub fn check_seconds<'a>(
     if calm(k, ratio, speeds, holds, hold, span) {
         return Answer::Done;
     }
-    judge_seconds(k, ratio, speeds, holds, hold, span)
+    // no sample is asked for: a second past the trace leaves the speeds as they are
+    let none = Sample {
+        second: speeds.len(),
+        speed: 0,
+    };
+    judge_seconds(k, ratio, speeds, holds, none, hold, span)
 }

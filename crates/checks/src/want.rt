@@ -57,7 +57,7 @@ fn covered(k: Numbers, ratio: &[u16; 10]) -> bool
 }
 
 // Whether some gear fits at every moving second up to the speed `most`.
-fn no_gap(k: Numbers, ratio: &[u16; 10], most: u16) -> bool
+pub fn no_gap(k: Numbers, ratio: &[u16; 10], most: u16) -> bool
     requires { ⌜ Geared k ⌝ }
     ensures { λ r. ⌜ (r ≡ true → NoGap k (now (ratio .entry)) most) ⌝ }
 {

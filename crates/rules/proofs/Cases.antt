@@ -3,7 +3,7 @@
 use Prim.Native.Nat.{ℕ}
 use mathlib.Core.Path.{_≡_, refl}
 use mathlib.Core.Bool.{Bool, true, false}
-use mathlib.Core.Option.{Option, some}
+use mathlib.Core.Option.{Option, none, some}
 use mathlib.Core.List.{List, [], _∷_}
 use lib.IntN.{ℤ, pos, negℤ}
 use lib.ListN.{replicate, drop}
@@ -19,6 +19,7 @@ use Rattle.rules.specs.Groups.{Read, got, refused, hand-on, demand, earl
 use Rattle.rules.specs.Forms.{value, checked, bounded, _then_, seen, row-read, row as in-a-row, many, counted, whole, row-write}
 use Rattle.rules.specs.Job.{version, gearbox, numbers as eight-numbers, point, curve, seconds, trace as speeds, hold, rising as rising-holds, padded, vehicle-of, vehicle, put, holds, packed, stages, job, job-read, points-of, parts-of, gather, fields}
 use Rattle.rules.specs.Write.{job-from, job-bytes}
+use Rattle.rules.specs.Mend.{mend-lo, mend-hi, mend-end, mended-fault, mended-card, mend-fault, mend-speeds, mend-card}
 use Rattle.rules.specs.Text.{digits, decimal, heading, pedal, line, lines, card-text, refusal-text, worked-text, read-text, printed}
 
 -- car Z, with its idle and rated speeds and its F0
@@ -67,6 +68,10 @@ up = 100 ∷ 110 ∷ 120 ∷ 130 ∷ 140 ∷ 150 ∷ 160 ∷ 170 ∷ []
 -- speeds 0, 50, 150, 100, 0
 trace : List ℕ
 trace = 0 ∷ 50 ∷ 150 ∷ 100 ∷ 0 ∷ []
+
+-- the same with second 2 at rest: two trips
+split : List ℕ
+split = 0 ∷ 50 ∷ 0 ∷ 100 ∷ 0 ∷ []
 
 -- a short trip, then a longer one whose first choices are corrected
 two-trips : List ℕ
@@ -166,6 +171,23 @@ rows =
     ∷ row (numbers (job-bytes Z trace (replicate 5 0))) (numbers job-Z)
     -- with gear 3 held at second 2: one hold, of second 2 and gear 3, at the end
     ∷ row (numbers (drop 62 (job-bytes Z trace (0 ∷ 0 ∷ 3 ∷ 0 ∷ 0 ∷ [])))) (numbers (1 ∷ 2 ∷ 3 ∷ []))
+    -- a sample mended, and the speeds that are left
+    ∷ row (numbers (mend-card Z trace (replicate 5 0) (17 ∷ 1 ∷ 2 ∷ 18 ∷ 0 ∷ []) 2 110)) (numbers (17 ∷ 1 ∷ 18 ∷ 18 ∷ 0 ∷ []))
+    ∷ row (numbers (mend-speeds Z trace (replicate 5 0) (17 ∷ 1 ∷ 2 ∷ 18 ∷ 0 ∷ []) 2 110)) (numbers (0 ∷ 50 ∷ 110 ∷ 100 ∷ 0 ∷ []))
+    -- a trip split, and two trips joined; a trip begun, and one ended
+    ∷ row (numbers (mend-card Z trace (replicate 5 0) (17 ∷ 1 ∷ 2 ∷ 18 ∷ 0 ∷ []) 2 0)) (numbers (17 ∷ 17 ∷ 17 ∷ 1 ∷ 0 ∷ []))
+    ∷ row (numbers (mend-card Z split (replicate 5 0) (17 ∷ 17 ∷ 17 ∷ 1 ∷ 0 ∷ []) 2 150)) (numbers (17 ∷ 1 ∷ 2 ∷ 18 ∷ 0 ∷ []))
+    ∷ row (numbers (mend-card Z (replicate 4 0) (replicate 4 0) (replicate 4 0) 2 50)) (numbers (0 ∷ 17 ∷ 17 ∷ 0 ∷ []))
+    ∷ row (numbers (mend-card Z (0 ∷ 0 ∷ 50 ∷ 0 ∷ []) (replicate 4 0) (0 ∷ 17 ∷ 17 ∷ 0 ∷ []) 2 0)) (numbers (replicate 4 0))
+    -- a hold that would stand at rest is refused by 8; a step too large is found at the neighbour, an end that would move, a second outside the trace
+    ∷ row (refusal (mend-fault Z trace (0 ∷ 0 ∷ 3 ∷ 0 ∷ 0 ∷ []) (17 ∷ 1 ∷ 19 ∷ 18 ∷ 0 ∷ []) 2 9)) (refusal (some (record { no = 8; spot = 2 })))
+    ∷ row (refusal (mend-fault Z trace (replicate 5 0) (17 ∷ 1 ∷ 2 ∷ 18 ∷ 0 ∷ []) 3 151)) (refusal (some (record { no = 5; spot = 4 })))
+    ∷ row (refusal (mend-fault Z trace (replicate 5 0) (17 ∷ 1 ∷ 2 ∷ 18 ∷ 0 ∷ []) 4 10)) (refusal (some (record { no = 6; spot = 4 })))
+    ∷ row (refusal (mend-fault Z trace (replicate 5 0) (17 ∷ 1 ∷ 2 ∷ 18 ∷ 0 ∷ []) 5 10)) (refusal (some (record { no = 11; spot = 5 })))
+    ∷ row (numbers (mend-speeds Z trace (replicate 5 0) (17 ∷ 1 ∷ 2 ∷ 18 ∷ 0 ∷ []) 4 10)) (numbers trace)
+    -- the step into the span is not looked at, and no byte before it is written
+    ∷ row (refusal (mend-fault Z (0 ∷ 100 ∷ 200 ∷ 0 ∷ 50 ∷ 0 ∷ []) (replicate 6 0) (replicate 6 0) 4 60)) (refusal none)
+    ∷ row (numbers (mend-card Z (0 ∷ 100 ∷ 200 ∷ 0 ∷ 50 ∷ 0 ∷ []) (replicate 6 0) (replicate 6 0) 4 60)) (numbers (0 ∷ 0 ∷ 0 ∷ 17 ∷ 17 ∷ 0 ∷ []))
     -- what the card program prints of car Z's job
     ∷ row (numbers (printed job-Z)) (numbers (
     115 ∷ 101 ∷ 99 ∷ 111 ∷ 110 ∷ 100 ∷ 32 ∷ 115 ∷ 112 ∷ 101 ∷ 101 ∷ 100 ∷ 32 ∷ 103 ∷ 101 ∷ 97 ∷ 114 ∷ 32 ∷ 99 ∷ 108 ∷ 117 ∷ 116 ∷ 99 ∷ 104 ∷ 10 ∷
@@ -183,5 +205,5 @@ papers [] = []
 papers (r ∷ rs) = r .paper ∷ papers rs
 
 sums-done-on-paper : sums rows ≡ papers rows
-unfolding sums papers rows row choice car-of car-Z Z halves inside free-trip steady up trace two-trips job-Z _and_ _or_ within every first highest pass table patch ratio-of ratio-good point-good bounds first-failed bad-field low longest moving rise start run stop engine minimum-of minimum under-nmax over-minimum allowed fits required between on-segment reaches segment power-speed power enough more suits beats strongest choose floor closing ceiling here first-choice free is-peak peak too-high rising too-low slowing firsts after-A after-B gears trip-speeds trip-holds first-at gear-at clutch byte card-at card refuse-at _orelse_ when trace-fault room-fault vehicle-fault check-number checks last-check bad fault-of seconds-fault gear-fault span-fault work-fault left second-fault edit-fault span-lo span-hi standing-fault own-fault quick-fault reworked quick-holds quick-card asked hold-fault hold-holds hold-card release-holds release-card hand-on demand early group-if group value checked bounded _then_ seen row-read in-a-row many counted whole version gearbox eight-numbers point curve seconds speeds hold rising-holds padded vehicle-of vehicle put holds packed stages job job-read digits decimal heading pedal line lines card-text refusal-text worked-text read-text printed form row-write points-of parts-of gather fields job-from job-bytes
+unfolding sums papers rows row choice car-of car-Z Z halves inside free-trip steady up trace two-trips job-Z _and_ _or_ within every first highest pass table patch ratio-of ratio-good point-good bounds first-failed bad-field low longest moving rise start run stop engine minimum-of minimum under-nmax over-minimum allowed fits required between on-segment reaches segment power-speed power enough more suits beats strongest choose floor closing ceiling here first-choice free is-peak peak too-high rising too-low slowing firsts after-A after-B gears trip-speeds trip-holds first-at gear-at clutch byte card-at card refuse-at _orelse_ when trace-fault room-fault vehicle-fault check-number checks last-check bad fault-of seconds-fault gear-fault span-fault work-fault left second-fault edit-fault span-lo span-hi standing-fault own-fault quick-fault reworked quick-holds quick-card asked hold-fault hold-holds hold-card release-holds release-card hand-on demand early group-if group value checked bounded _then_ seen row-read in-a-row many counted whole version gearbox eight-numbers point curve seconds speeds hold rising-holds padded vehicle-of vehicle put holds packed stages job job-read digits decimal heading pedal line lines card-text refusal-text worked-text read-text printed form row-write points-of parts-of gather fields job-from job-bytes split mend-lo mend-hi mend-end mended-fault mended-card mend-fault mend-speeds mend-card
 sums-done-on-paper = refl

@@ -20,6 +20,8 @@ pub mod Edits
 pub mod Quick
 pub mod Span
 pub mod Holds
+pub mod Mend
+pub mod Runs
 pub mod Reading
 pub mod Groups
 pub mod Forms

@@ -21,9 +21,10 @@ use Rattle.rules.specs.Job.{most-groups, longest-job, Job, job-read}
 use Rattle.rules.specs.Text.{printed}
 use Rattle.rules.specs.Quick.{span-lo, span-hi, own-fault, quick-fault, reworked, quick-holds, quick-card}
 use Rattle.rules.specs.Holds.{asked, hold-fault, hold-holds, hold-card, release-fault, release-holds, release-card}
-use Rattle.rules.specs.Vocabulary.{IsTrip, FirstChoice, OnSegment, Wanting, PassesOthers, Out, Edit, SameSpan, OneForm, _times_, In64, nested, nested-sum, engine-sum, idle-sum, required-sum, w-sum, Q-sum, margin-sum, Bytes}
+use Rattle.rules.specs.Vocabulary.{IsTrip, FirstChoice, OnSegment, Wanting, PassesOthers, Out, Edit, SameSpan, OneForm, _times_, In64, nested, nested-sum, engine-sum, idle-sum, required-sum, w-sum, Q-sum, margin-sum, Bytes, MayChange, Right, Run, Spares}
 use Rattle.rules.specs.Groups.{got}
 use Rattle.rules.specs.Write.{job-from, job-fault, write-fault, written, cleared}
+use Rattle.rules.specs.Mend.{mend-lo, mend-hi, mend-end, mended-fault, mended-card, mend-fault, mend-speeds, mend-card}
 use Rattle.rules.proofs.Laws.Words.{by-order, pass-keeps}
 use Rattle.rules.proofs.Laws.Trips.{trip-of, trip-le, trip-start, trip-stop, start-before, stop-after, stop-in, moving-in}
 use Rattle.rules.proofs.Laws.Vehicle.{in-bounds}
@@ -40,6 +41,8 @@ use Rattle.rules.proofs.Laws.Edits.{reaches, edit-as-whole}
 use Rattle.rules.proofs.Laws.Quick.{quick-whole}
 use Rattle.rules.proofs.Laws.Span.{looks-at-span, reworks-span, card-frame, card-standing, holds-frame, quick-shows}
 use Rattle.rules.proofs.Laws.Holds.{asked-gear, held-from-one, none-held-moving, none-held-standing, none-held-right, hold-whole, release-whole, free-released, cleared-standing, fault-of-two, holds-of-two, card-of-two}
+use Rattle.rules.proofs.Laws.Mend.{mend-whole, mend-same, lo-kept, hi-kept, bytes-kept, speeds-kept, may-change, mend-looks, mend-reworks, hold-wins}
+use Rattle.rules.proofs.Laws.Runs.{hold-stays, release-stays, mend-stays, run-right}
 use Rattle.rules.proofs.Laws.Groups.{one-form}
 use Rattle.rules.proofs.Laws.Writes.{writable, reads-written, writes-read, write-none, none-write}
 use Rattle.rules.proofs.Laws.Long.{long-job}
@@ -175,11 +178,11 @@ module _ (car : Vehicle) (vs hs old : List ℕ) (s g : ℕ) where
   hold-shown = quick-shows car vs hs old s g
 
 -- what its checks say of a moving second depends on the seconds of its span and on no others
-pub quick-looks-at-span : (car : Vehicle) (vs hs ws ks : List ℕ) (s g : ℕ) → SameSpan vs hs ws ks s → moving (at vs s) ≡ true → own-fault car ws ks s g ≡ own-fault car vs hs s g
+pub quick-looks-at-span : (car : Vehicle) (vs hs ws ks : List ℕ) (s g : ℕ) → SameSpan vs hs ws ks (span-lo vs s) (span-hi vs s) → moving (at vs s) ≡ true → own-fault car ws ks s g ≡ own-fault car vs hs s g
 quick-looks-at-span = looks-at-span
 
 -- and so does what it leaves in the card
-pub quick-reworks-span : (car : Vehicle) (vs hs ws ks : List ℕ) (s g : ℕ) → SameSpan vs hs ws ks s → moving (at vs s) ≡ true
+pub quick-reworks-span : (car : Vehicle) (vs hs ws ks : List ℕ) (s g : ℕ) → SameSpan vs hs ws ks (span-lo vs s) (span-hi vs s) → moving (at vs s) ≡ true
     → (old : List ℕ) → reworked car ws (set ks s g) old s ≡ reworked car vs (set hs s g) old s
 quick-reworks-span = reworks-span
 
@@ -247,6 +250,62 @@ right-card-spares car vs hs old ok = right-spares car vs hs old (accepted car vs
 pub reworked-card-spares : (car : Vehicle) (vs hs old : List ℕ) (s g : ℕ) → quick-fault car vs hs old s g ≡ none → moving (at vs s) ≡ true
     → (i : ℕ) → span-lo vs s ≤ i → i < stop vs s → Spares car vs (quick-holds car vs hs old s g) (quick-card car vs hs old s g) i
 reworked-card-spares = reworked-spares
+
+-- Request Eight: mending a sample
+
+module _ (car : Vehicle) (vs hs old : List ℕ) (s v : ℕ) where
+  -- from a right card the very refusal, or the very card, of the whole working on the new trace
+  pub mend-as-whole : work-fault car vs hs old ≡ none → old ≡ card car vs hs → s < length vs
+      → (mend-fault car vs hs old s v ≡ work-fault car (set vs s v) hs old) × (mend-card car vs hs old s v ≡ work-card car (set vs s v) hs old)
+  mend-as-whole ok right l = mend-whole car vs hs old s v (accepted car vs hs old ok) right l
+
+  -- so mending a sample to the speed that it has changes nothing
+  pub mended-same : v ≡ at vs s → work-fault car vs hs old ≡ none → old ≡ card car vs hs → s < length vs
+      → (mend-fault car vs hs old s v ≡ none) × (mend-speeds car vs hs old s v ≡ vs) × (mend-card car vs hs old s v ≡ old)
+  mended-same e ok right l = rw e (mend-same car vs hs old s (accepted car vs hs old ok) right l)
+
+  -- with no such assumption: no byte changes outside what may change, and no speed but that of the second
+  pub mend-frame : (i : ℕ) → Out (mend-lo vs s) (mend-hi vs s) i → at (mend-card car vs hs old s v) i ≡ at old i
+  mend-frame i o = bytes-kept car vs hs old s v i o
+
+  pub mend-frame-speeds : (i : ℕ) → i ≢ s → at (mend-speeds car vs hs old s v) i ≡ at vs i
+  mend-frame-speeds i n = speeds-kept car vs hs old s v i n
+
+  -- and a held second that is mended still moves
+  pub mend-hold-wins : mend-fault car vs hs old s v ≡ none → at hs s ≢ 0 → moving v ≡ true
+  mend-hold-wins = hold-wins car vs hs old s v
+
+-- what may change does not hang on the speed at s, old or new
+pub mend-range : (vs : List ℕ) (s v : ℕ) → (mend-lo (set vs s v) s ≡ mend-lo vs s) × (mend-hi (set vs s v) s ≡ mend-hi vs s)
+mend-range vs s v = (lo-kept vs s v, hi-kept vs s v)
+
+-- it is the trips that hold s or a neighbour, the standing second before each, s and the second before it
+pub mend-changes : (ws : List ℕ) (s i : ℕ) → mend-lo ws s ≤ i → i < mend-hi ws s → MayChange ws s i
+mend-changes = may-change
+
+-- what the checks say depends on the seconds of the span and on no others, and so does the card that is left
+pub mend-looks-at-span : (car : Vehicle) (vs hs us ks : List ℕ) (s v : ℕ) → SameSpan vs hs us ks (mend-lo vs s) (mend-end vs s)
+    → mended-fault car (set us s v) ks s ≡ mended-fault car (set vs s v) hs s
+mend-looks-at-span = mend-looks
+
+pub mend-reworks-span : (car : Vehicle) (vs hs us ks : List ℕ) (s v : ℕ) → SameSpan vs hs us ks (mend-lo vs s) (mend-end vs s)
+    → (old : List ℕ) → mended-card car (set us s v) ks old s ≡ mended-card car (set vs s v) hs old s
+mend-reworks-span = mend-reworks
+
+-- Edits one after the other: a right card stays right under each, and under a run of holds, releases and mended samples, each perhaps refused
+
+module _ (car : Vehicle) (vs hs old : List ℕ) (s : ℕ) (R : Right car vs hs old) where
+  pub hold-stays-right : (g : ℕ) → Right car vs (hold-holds car vs hs old s g) (hold-card car vs hs old s g)
+  hold-stays-right = hold-stays car vs hs old s R
+
+  pub release-stays-right : Right car vs (release-holds car vs hs old s) (release-card car vs hs old s)
+  release-stays-right = release-stays car vs hs old s R
+
+  pub mend-stays-right : (v : ℕ) → Right car (mend-speeds car vs hs old s v) hs (mend-card car vs hs old s v)
+  mend-stays-right = mend-stays car vs hs old s R
+
+pub run-stays-right : {car : Vehicle} {vs hs old ws ks new : List ℕ} → Run car vs hs old ws ks new → Right car vs hs old → Right car ws ks new
+run-stays-right = run-right
 
 -- ---- 8. Groups: every value 0 to 65,535 has exactly one form that is accepted, and reading that form gives the value and the place after it
 

@@ -13,9 +13,10 @@ use Rattle.rules.specs.declared.Vehicle.{Vehicle}
 use Rattle.rules.specs.Words.{at}
 use Rattle.rules.specs.Units.{ratio-of, low, moving, start}
 use Rattle.rules.specs.Gears.{Place, engine, minimum, fits, power, enough, more, suits}
-use Rattle.rules.specs.Refusals.{trace-fault, room-fault, vehicle-fault, over-ng, over-rev, no-gear, bad, seconds-fault}
-use Rattle.rules.specs.Corrections.{floor}
-use Rattle.rules.specs.Quick.{span-lo, span-hi}
+use Rattle.rules.specs.Refusals.{trace-fault, room-fault, vehicle-fault, over-ng, over-rev, no-gear, bad, seconds-fault, work-fault}
+use Rattle.rules.specs.Corrections.{floor, card}
+use Rattle.rules.specs.Holds.{hold-holds, hold-card, release-holds, release-card}
+use Rattle.rules.specs.Mend.{mend-speeds, mend-card}
 use Rattle.rules.specs.Groups.{got, group, form}
 
 -- ---- the vehicle
@@ -234,12 +235,49 @@ pub record Edit (vs hs ws ks : List ℕ) (s : ℕ) : Type 0 where
   pub speed-at : (i : ℕ) → i ≢ s → at ws i ≡ at vs i
   pub hold-at : (i : ℕ) → i ≢ s → at ks i ≡ at hs i
 
--- two traces with their holds that say the same of each second of the span of s in the first
-pub record SameSpan (vs hs ws ks : List ℕ) (s : ℕ) : Type 0 where
+-- two traces with their holds that say the same of each second from lo up to hi
+pub record SameSpan (vs hs ws ks : List ℕ) (lo hi : ℕ) : Type 0 where
   pub speeds : length ws ≡ length vs
   pub holds : length ks ≡ length hs
-  pub speed-at : (i : ℕ) → span-lo vs s ≤ i → i < span-hi vs s → at ws i ≡ at vs i
-  pub hold-at : (i : ℕ) → span-lo vs s ≤ i → i < span-hi vs s → at ks i ≡ at hs i
+  pub speed-at : (i : ℕ) → lo ≤ i → i < hi → at ws i ≡ at vs i
+  pub hold-at : (i : ℕ) → lo ≤ i → i < hi → at ks i ≡ at hs i
+
+-- a trip that holds s or a neighbour, at second k
+pub record NearTrip (ws : List ℕ) (s a b : ℕ) : Type 0 where
+  pub trip : IsTrip ws a b
+  pub k : ℕ
+  pub one-of : (suc k ≡ s) ⊎ (k ≡ s) ⊎ (k ≡ suc s)
+  pub from : a ≤ k
+  pub below : k < b
+
+-- second i lies in such a trip
+pub record InNear (ws : List ℕ) (s i : ℕ) : Type 0 where
+  pub a : ℕ
+  pub b : ℕ
+  pub near : NearTrip ws s a b
+  pub from : a ≤ i
+  pub below : i < b
+
+-- what mending at s may change: s itself, the second before it, a second of such a trip, the standing second before one
+pub data MayChange (ws : List ℕ) (s i : ℕ) : Type 0 where
+  itself : i ≡ s → MayChange ws s i
+  just-before : suc i ≡ s → MayChange ws s i
+  in-near : InNear ws s i → MayChange ws s i
+  before-near : moving (at ws i) ≡ false → InNear ws s (suc i) → MayChange ws s i
+
+-- ---- edits, one after the other
+
+-- the card on the screen is the right one for the present speeds and holds
+pub record Right (car : Vehicle) (vs hs old : List ℕ) : Type 0 where
+  pub accepted : work-fault car vs hs old ≡ none
+  pub its-card : old ≡ card car vs hs
+
+-- a run of holds, releases and mended samples, each perhaps refused: from the first three lists, speeds, holds and card, to the last three
+pub data Run (car : Vehicle) : List ℕ → List ℕ → List ℕ → List ℕ → List ℕ → List ℕ → Type 0 where
+  no-more : {vs hs old : List ℕ} → Run car vs hs old vs hs old
+  then-hold : {vs hs old ws ks new : List ℕ} (s g : ℕ) → Run car vs (hold-holds car vs hs old s g) (hold-card car vs hs old s g) ws ks new → Run car vs hs old ws ks new
+  then-release : {vs hs old ws ks new : List ℕ} (s : ℕ) → Run car vs (release-holds car vs hs old s) (release-card car vs hs old s) ws ks new → Run car vs hs old ws ks new
+  then-mend : {vs hs old ws ks new : List ℕ} (s v : ℕ) → Run car (mend-speeds car vs hs old s v) hs (mend-card car vs hs old s v) ws ks new → Run car vs hs old ws ks new
 
 -- ---- groups
 

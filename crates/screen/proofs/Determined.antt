@@ -13,6 +13,8 @@ use Rattle.screen.proofs.gearcard_hold.Kinds as hold-kinds
 use Rattle.screen.proofs.gearcard_hold.Reads as hold-reads
 use Rattle.screen.proofs.gearcard_release.Kinds as release-kinds
 use Rattle.screen.proofs.gearcard_release.Reads as release-reads
+use Rattle.screen.proofs.gearcard_mend.Kinds as mend-kinds
+use Rattle.screen.proofs.gearcard_mend.Reads as mend-reads
 use Rattle.screen.proofs.gearcard_cycle.Kinds as cycle-kinds
 use Rattle.screen.proofs.gearcard_cycle.Reads as cycle-reads
 use Rattle.screen.proofs.gearcard_cycle_part.Kinds as cycle-part-kinds
@@ -48,6 +50,10 @@ gearcard-hold κs a asked z z′ ws ws′ p q =
 pub gearcard-release : Determined release-kinds.ps release-kinds.r release-reads.Asked release-reads.Learnt
 gearcard-release κs a asked z z′ ws ws′ p q =
     (p .0 ∙ sym (q .0), λ i. (tt, (tt, ((p .1 .0 ∙ sym (q .1 .0)) i, ((p .1 .1 ∙ sym (q .1 .1)) i, (tt, tt))))))
+
+pub gearcard-mend : Determined mend-kinds.ps mend-kinds.r mend-reads.Asked mend-reads.Learnt
+gearcard-mend κs a asked z z′ ws ws′ p q =
+    (p .0 ∙ sym (q .0), λ i. (tt, ((p .1 .0 ∙ sym (q .1 .0)) i, (tt, ((p .1 .1 ∙ sym (q .1 .1)) i, (tt, (tt, tt)))))))
 
 pub gearcard-cycle : Determined cycle-kinds.ps cycle-kinds.r cycle-reads.Asked cycle-reads.Learnt
 gearcard-cycle κs a asked z z′ ws ws′ p q = (p .0 ∙ sym (q .0), λ i. (tt, ((p .1 ∙ sym (q .1)) i, tt)))

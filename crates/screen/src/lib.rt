@@ -1,8 +1,9 @@
-// The C functions for driver's aid screens: thin wrappers over the readers, the writer, the working, the two buttons and the built-in cycle.
+// The C functions for driver's aid screens: thin wrappers over the readers, the writer, the working, the two buttons, the mending of a sample and the built-in cycle.
 // include/gearcard.h declares them.
 ghost use mathlib.Core.Path.{_≡_};
 ghost use Rattle.rules.specs.Refusals.{work-fault, work-card};
 ghost use Rattle.rules.specs.Holds.{hold-fault, hold-holds, hold-card, release-fault, release-holds, release-card};
+ghost use Rattle.rules.specs.Mend.{mend-fault, mend-speeds, mend-card};
 ghost use lib.ListN.{length};
 ghost use Rattle.cycles.specs.Parts.{fill-fault, fill-room, stretch};
 ghost use Rattle.downscale.specs.Steps.{down-fault, down-room};
@@ -134,6 +135,24 @@ pub extern "C" fn gearcard_release(
     ensures card { λ r. ⌜ now (card .exit) ≡ release-card vehicle (now (speeds .entry)) (now (holds .entry)) (now (card .entry)) second ⌝ }
 {
     let answer = cards::release(vehicle, speeds, holds, card, second);
+    verdict_of(answer)
+}
+
+// Corrects one speed sample.
+#[no_mangle]
+pub extern "C" fn gearcard_mend(
+    vehicle: Vehicle,
+    speeds: &mut [u16],
+    holds: &[u8],
+    card: &mut [u8],
+    second: usize,
+    speed: u16,
+) -> Verdict
+    ensures answer { λ r. ⌜ r ≡ as-verdict (mend-fault vehicle (now (speeds .entry)) (now (holds .entry)) (now (card .entry)) second speed) ⌝ }
+    ensures speeds { λ r. ⌜ now (speeds .exit) ≡ mend-speeds vehicle (now (speeds .entry)) (now (holds .entry)) (now (card .entry)) second speed ⌝ }
+    ensures card { λ r. ⌜ now (card .exit) ≡ mend-card vehicle (now (speeds .entry)) (now (holds .entry)) (now (card .entry)) second speed ⌝ }
+{
+    let answer = cards::mend(vehicle, speeds, holds, card, second, speed);
     verdict_of(answer)
 }
 

@@ -4,14 +4,14 @@ use crate::events::{note, Event};
 use crate::exports;
 use crate::jobs;
 use crate::library::{Library, Loan};
-use crate::paper::{self, Edited, Refusal};
+use crate::paper::{self, Edited, Mended, Refusal};
 use crate::revs::Finished;
 use crate::rng::Rng;
 use crate::traces;
 use crate::vehicle::{Vehicle, ZERO};
 use crate::vehicles;
 
-pub const KINDS: [&str; 6] = ["read", "work", "hold", "release", "export", "write"];
+pub const KINDS: [&str; 7] = ["read", "work", "hold", "release", "export", "write", "mend"];
 
 /// The number of the answer (0: accepted), or a description of the mismatch.
 pub type Outcome = Result<u32, String>;
@@ -24,7 +24,8 @@ pub fn run(library: &mut Library, seed: u64, kind: usize, index: u64) -> Outcome
         2 => hold_case(library, &mut r),
         3 => release_case(library, &mut r),
         4 => export_case(library, &mut r),
-        _ => write_case(library, &mut r),
+        5 => write_case(library, &mut r),
+        _ => mend_case(library, &mut r),
     };
     outcome.map_err(|why| format!("FAILED: gearcard_{}, seed {seed}, case {index}\n{why}", KINDS[kind]))
 }
@@ -374,4 +375,86 @@ fn written_as_read(bytes: &[u8], was: Option<&[u8]>) -> Result<(), String> {
         return Ok(());
     }
     Err(format!("the reference writes a job that it read as other bytes; it was {was:?}"))
+}
+
+// ---------------------------------------------------------------- mending a sample
+
+/// A sample mended; now and then another, and mostly back again, which joins what was split.
+fn mend_case(library: &mut Library, r: &mut Rng) -> Outcome {
+    let (mut c, mut right) = on_screen(r);
+    let second = ask_mended(r, &c);
+    let speed = ask_speed(r, &c, second);
+    let was = c.speeds.get(second).copied();
+    let expected = mend_once(library, r, &c, right, second, speed)?;
+    let answer = number(&expected);
+    if let (Ok((speeds, card)), Some(was), true) = (expected, was, r.chance(60)) {
+        (c.speeds, c.card) = (speeds, card);
+        right &= paper::work(&c.vehicle, &c.speeds, &c.holds, c.card.len()).as_ref() == Ok(&c.card);
+        mend_once(library, r, &c, right, second, was).map(drop)?;
+    }
+    Ok(answer)
+}
+
+fn mend_once(library: &mut Library, r: &mut Rng, c: &Setting, right: bool, second: usize, speed: u16) -> Result<Mended, String> {
+    let expected = paper::mend(&c.vehicle, &c.speeds, &c.holds, &c.card, second, speed);
+    let loan = Loan::new(r, &c.speeds, &c.holds, &c.card);
+    let told = |why: String| format!("{why}\nsecond {second} mended to {speed}\n{}\nreference (speeds, card): {expected:?}", describe(c));
+    library.mend(&c.vehicle, &loan, second, speed, &expected).map_err(told)?;
+    if right {
+        mended_as_whole(c, second, speed, &expected).map_err(told)?;
+    }
+    if expected == Err((8, second)) && c.holds[second] <= c.vehicle.ng as u8 && !paper::moving(speed) {
+        note(Event::HoldWon);
+    }
+    Ok(expected)
+}
+
+/// The paper against itself: from a right card the very card, or the very refusal, of the whole working on the new trace.
+fn mended_as_whole(c: &Setting, second: usize, speed: u16, expected: &Mended) -> Result<(), String> {
+    if second >= c.speeds.len() {
+        return Ok(());
+    }
+    let mut speeds = c.speeds.clone();
+    speeds[second] = speed;
+    let whole = paper::work(&c.vehicle, &speeds, &c.holds, c.card.len());
+    if expected.as_ref().map(|(_, card)| card).map_err(|refusal| *refusal) == whole.as_ref().map_err(|refusal| *refusal) {
+        return Ok(());
+    }
+    Err(format!("the reference's mending and its whole working disagree: {whole:?}"))
+}
+
+/// Any second: near a fault, held, between two trips, or moving or standing; sometimes outside.
+fn ask_mended(r: &mut Rng, c: &Setting) -> usize {
+    let length = c.speeds.len();
+    if length == 0 || r.chance(3) || (!c.faults.is_empty() && r.chance(50)) {
+        return ask_second(r, c);
+    }
+    let moves = |s: usize| paper::moving(c.speeds[s]);
+    let found = match r.range(0, 9) {
+        0 => traces::any_place(r, c.holds.len().min(length), |s| c.holds[s] != 0),
+        1..=2 => traces::any_place(r, length, |s| s > 0 && s + 1 < length && !moves(s) && moves(s - 1) && moves(s + 1)),
+        3..=4 => traces::any_place(r, length, |s| !moves(s)),
+        _ => traces::any_place(r, length, moves),
+    };
+    found.unwrap_or_else(|| r.below(length))
+}
+
+/// Mostly within a step of both neighbours: a little more or less, at rest, just moving, as the neighbours; sometimes too far, or anything.
+fn ask_speed(r: &mut Rng, c: &Setting, second: usize) -> u16 {
+    let near = |s: usize| c.speeds.get(s).map_or(0, |&speed| speed as i64);
+    let (before, now, after) = (near(second.wrapping_sub(1)), near(second), near(second.wrapping_add(1)));
+    let (low, high) = (before.max(after) - 150, before.min(after) + 150);
+    let speed = match r.range(0, 99) {
+        0..=34 => now + r.range(-12, 12),
+        35..=49 => r.range(0, 9),
+        50..=57 => r.range(10, 30),
+        58..=69 if low <= high => r.edge(low.max(0), high),
+        70..=79 => (before + after) / 2,
+        80..=84 => low - 1,
+        85..=89 => high + 1,
+        90..=91 => r.pick(&[2000, 2001, 2100, 65_535]),
+        92 => r.next() as u16 as i64,
+        _ => now,
+    };
+    speed.clamp(0, 65_535) as u16
 }

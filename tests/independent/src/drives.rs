@@ -1,4 +1,5 @@
-//! The regulation's cycles, each driven whole by several cars: the working, the job read back and written, and holds set and released the quick way.
+//! The regulation's cycles, each driven whole by several cars: the working, the job read back, holds set and released the quick way, and
+//! samples mended and mended back.
 
 use crate::cycles;
 use crate::jobs;
@@ -16,6 +17,8 @@ const KIND: u64 = 100;
 const REALISTIC: usize = 6;
 /// Holds set by one car on one cycle, and as many released.
 const HOLDS: usize = 100;
+/// Samples mended by one car on one cycle, and mended back.
+const MENDS: usize = 60;
 
 pub fn run(library: &mut Library, seed: u64, dir: &Path) -> Result<(), String> {
     let all = cycles::traces(dir);
@@ -24,18 +27,18 @@ pub fn run(library: &mut Library, seed: u64, dir: &Path) -> Result<(), String> {
     }
     for (index, (name, speeds)) in all.iter().enumerate() {
         let mut r = Rng::of_case(seed, KIND, index as u64);
-        let (mut driven, mut refused, mut holds) = (0, 0, 0);
+        let (mut driven, mut refused, mut holds, mut mends) = (0, 0, 0, 0);
         for vehicle in &cars(&mut r) {
             let mut drive = Drive { library, r: &mut r, vehicle, speeds };
             match drive.whole().map_err(|why| format!("FAILED: cycle {name}, seed {seed}\n{vehicle:?}\n{why}"))? {
-                Some(accepted) => (driven, holds) = (driven + 1, holds + accepted),
+                Some((held, mended)) => (driven, holds, mends) = (driven + 1, holds + held, mends + mended),
                 None => refused += 1,
             }
         }
-        if holds == 0 {
-            return Err(format!("FAILED: cycle {name}: no car had a hold accepted, so little was tried"));
+        if holds == 0 || mends == 0 {
+            return Err(format!("FAILED: cycle {name}: no car had a hold, or a mended sample, accepted, so little was tried"));
         }
-        println!("cycles: {name}, {} seconds, {driven} cars ({refused} more refused), {holds} holds: agreed", speeds.len());
+        println!("cycles: {name}, {} seconds, {driven} cars ({refused} more refused), {holds} holds, {mends} mended samples: agreed", speeds.len());
     }
     Ok(())
 }
@@ -55,8 +58,8 @@ struct Drive<'a> {
 }
 
 impl Drive<'_> {
-    /// How many holds were accepted, set or released; none where the cycle itself is refused with this car.
-    fn whole(&mut self) -> Result<Option<usize>, String> {
+    /// How many holds were accepted, set or released, and how many mended samples; none where the cycle itself is refused with this car.
+    fn whole(&mut self) -> Result<Option<(usize, usize)>, String> {
         let none = vec![0; self.speeds.len()];
         let Some(first) = self.work(&none)? else { return Ok(None) };
         let (mut holds, mut card) = (none, first.clone());
@@ -79,7 +82,33 @@ impl Drive<'_> {
         if card != first {
             return Err(String::from("the reference's card is another after all holds are released"));
         }
-        Ok(Some(accepted))
+        let mut mended = 0;
+        for _ in 0..MENDS {
+            mended += self.mend_and_back(&first)?;
+        }
+        Ok(Some((accepted, mended)))
+    }
+
+    /// 1 where the sample is taken, a little more or less, or at rest; mended back, the card is the first again.
+    fn mend_and_back(&mut self, first: &[u8]) -> Result<usize, String> {
+        let second = self.r.below(self.speeds.len());
+        let was = self.speeds[second];
+        let speed = if self.r.chance(30) { self.r.range(0, 9) } else { (was as i64 + self.r.range(-15, 15)).max(0) } as u16;
+        let free = vec![0; self.speeds.len()];
+        let speeds = self.speeds.to_vec();
+        let Ok((speeds, card)) = self.mend(&speeds, &free, first, second, speed)? else { return Ok(0) };
+        match self.mend(&speeds, &free, &card, second, was)? {
+            Ok((speeds, card)) if speeds == self.speeds && card == first => Ok(1),
+            other => Err(format!("the reference's sample mended back at {second} from {speed} does not give the first card: {other:?}")),
+        }
+    }
+
+    fn mend(&mut self, speeds: &[u16], holds: &[u8], card: &[u8], second: usize, speed: u16) -> Result<paper::Mended, String> {
+        let expected = paper::mend(self.vehicle, speeds, holds, card, second, speed);
+        let loan = Loan::new(self.r, speeds, holds, card);
+        let told = |why| format!("{why}\nsecond {second} mended to {speed}\nspeeds {speeds:?}\ncard {card:?}\nreference (speeds, card): {expected:?}");
+        self.library.mend(self.vehicle, &loan, second, speed, &expected).map_err(told)?;
+        Ok(expected)
     }
 
     /// The reference's card, where it is no refusal.

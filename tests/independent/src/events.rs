@@ -20,9 +20,14 @@ pub enum Event {
     WrittenAsRead,
     RisesByOne,
     RisesToFloor,
+    TripSplit,
+    TripsJoined,
+    TripBegun,
+    TripEnded,
+    HoldWon,
 }
 
-const NAMES: [&str; 16] = [
+const NAMES: [&str; 21] = [
     "pass A lowered a gear",
     "pass A stopped by the floor",
     "pass B lowered a gear to the ceiling",
@@ -39,12 +44,22 @@ const NAMES: [&str; 16] = [
     "job that was read written as the same bytes",
     "a card's gear one above the gear before, the speed rising",
     "a card's gear at its floor, two or more above the gear before, the speed rising",
+    "trip split by a mended sample",
+    "two trips joined by a mended sample",
+    "trip begun by a mended sample",
+    "trip ended by a mended sample",
+    "held second not mended to rest",
 ];
 
 static COUNTS: [AtomicU64; NAMES.len()] = [const { AtomicU64::new(0) }; NAMES.len()];
 
 pub fn note(event: Event) {
     COUNTS[event as usize].fetch_add(1, Relaxed);
+}
+
+/// How often, so far.
+pub fn met(event: Event) -> u64 {
+    COUNTS[event as usize].load(Relaxed)
 }
 
 pub fn print() {

@@ -1,7 +1,7 @@
 //! The library, called through driver.c: each lent slice lies inside a larger one, whose other places are compared too.
 
 use crate::exports::Coefficients;
-use crate::paper::{self, Edited, Job, Refusal};
+use crate::paper::{self, Edited, Job, Mended, Refusal};
 use crate::revs::Finished;
 use crate::rng::Rng;
 use crate::vehicle::{Vehicle, ZERO};
@@ -153,13 +153,15 @@ enum Call {
     CyclePart,
     Downscale,
     Write,
+    Mend,
 }
 
 struct Request<'a> {
     call: Call,
     vehicle: &'a Vehicle,
     second: usize,
-    gear: u8,
+    /// Of a mend the speed.
+    gear: u16,
     loan: &'a Loan,
 }
 
@@ -266,7 +268,7 @@ impl Library {
     }
 
     pub fn hold(&mut self, vehicle: &Vehicle, loan: &Loan, second: usize, gear: u8, expected: &Edited) -> Result<(), String> {
-        self.edit(&Request { call: Call::Hold, vehicle, second, gear, loan }, expected)
+        self.edit(&Request { call: Call::Hold, vehicle, second, gear: gear as u16, loan }, expected)
     }
 
     pub fn release(&mut self, vehicle: &Vehicle, loan: &Loan, second: usize, expected: &Edited) -> Result<(), String> {
@@ -291,6 +293,19 @@ impl Library {
         }
         // Whether the card was right or not, the seconds that were worked anew.
         answer.loan.finished(request.vehicle).check_trip(paper::trip_of(speeds, request.second))
+    }
+
+    /// `expected`: the speeds and the card.
+    pub fn mend(&mut self, vehicle: &Vehicle, loan: &Loan, second: usize, speed: u16, expected: &Mended) -> Result<(), String> {
+        let answer = self.call(&Request { call: Call::Mend, vehicle, second, gear: speed, loan })?;
+        answer.compare(expected.as_ref().err().copied())?;
+        let (speeds, card): (&[u16], &[u8]) = match expected {
+            Ok((speeds, card)) => (speeds, card),
+            Err(_) => (&[], &[]),
+        };
+        loan.speeds.compare("speeds", &answer.loan.speeds, speeds)?;
+        loan.holds.compare("holds", &answer.loan.holds, &[])?;
+        loan.third.compare("card", &answer.loan.third, card)
     }
 
     /// `expected`: the first places of the room, which is lent as the speeds.

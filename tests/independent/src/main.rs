@@ -1,6 +1,6 @@
-//! Compares the gear card library with a working of its own, written from docs/01-scope.md and, for exports and for writing, requests Five and One of document 02 alone.
+//! Compares the gear card library with a working of its own, written from docs/01-scope.md and requests One, Five and Eight of document 02 alone.
 //!
-//!   independent [--seed S] [--cases N] [--cycles DIR] -- DRIVER..    the cycles of DIR, the built-in and the scaled cycle, then N cases of each kind (read, work, hold, release, export, write)
+//!   independent [--seed S] [--cases N] [--cycles DIR] -- DRIVER..    the cycles of DIR, the built-in and the scaled cycle, then N cases of each kind (read, work, hold, release, export, write, mend)
 //!   with --class-3 FILE: that job must have the speeds of the built-in cycle
 //!   independent [--seed S] --case KIND I -- DRIVER..                 one case again (KIND as above)
 //!   independent --job FILE                                           what the card program would print of a job, from the reference alone
@@ -22,6 +22,7 @@ mod traces;
 mod vehicle;
 mod vehicles;
 
+use events::Event;
 use library::Library;
 use std::path::Path;
 use std::process::exit;
@@ -159,6 +160,11 @@ fn all_met(met: &Counts) -> Result<(), String> {
     let by_none = NUMBERS.into_iter().filter(|&number| met.iter().all(|counts| counts[number] == 0));
     let by_no_export = OF_EXPORTS.into_iter().filter(|&number| met[4][number] == 0);
     let by_no_write = OF_WRITES.into_iter().filter(|&number| met[5][number] == 0);
+    for (event, name) in [(Event::TripSplit, "trip split"), (Event::TripsJoined, "two trips joined"), (Event::HoldWon, "held second not mended to rest")] {
+        if events::met(event) == 0 {
+            return Err(format!("FAILED: no case met: {name}"));
+        }
+    }
     let missed: Vec<String> = by_none.chain(by_no_export).chain(by_no_write).map(|number| number.to_string()).collect();
     if missed.is_empty() {
         return Ok(());

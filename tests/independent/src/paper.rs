@@ -390,6 +390,64 @@ fn no_gear_held(second: usize, others: Result<(), Refusal>) -> Refusal {
     }
 }
 
+// ---------------------------------------------------------------- mending a sample
+
+/// Speeds and card afterwards, or the refusal, which leaves both as they were.
+pub type Mended = Result<(Vec<u16>, Vec<u8>), Refusal>;
+
+/// Request Eight: the speed at one second changed.
+pub fn mend(v: &Vehicle, speeds: &[u16], holds: &[u8], card: &[u8], second: usize, speed: u16) -> Mended {
+    lengths_good(speeds.len(), holds.len(), card.len())?;
+    vehicle_good(v)?;
+    if second >= speeds.len() {
+        return Err((11, second));
+    }
+    let old = speeds;
+    let mut speeds = speeds.to_vec();
+    speeds[second] = speed;
+    let near = near_trips(&speeds, second);
+    // Those trips with a standing second on either side, the second itself and its neighbours.
+    let first = near.iter().map(|trip| trip.first).fold(second, usize::min);
+    let last = near.iter().map(|trip| trip.last).fold(second, usize::max);
+    seconds_good(v, &speeds, holds, first.saturating_sub(1), (last + 1).min(speeds.len() - 1))?;
+    note_mended(old, &speeds, second);
+    let mut card = card.to_vec();
+    for s in second.saturating_sub(1)..=second {
+        if !moving(speeds[s]) {
+            card[s] = 0;
+        }
+    }
+    for trip in near {
+        work_trip(v, &speeds, holds, trip, &mut card);
+    }
+    Ok((speeds, card))
+}
+
+/// The trips that hold the second or a neighbour.
+fn near_trips(speeds: &[u16], second: usize) -> Vec<Trip> {
+    let neighbours = second.saturating_sub(1)..=(second + 1).min(speeds.len() - 1);
+    let mut near: Vec<Trip> = Vec::new();
+    for s in neighbours.filter(|&s| moving(speeds[s])) {
+        let trip = trip_of(speeds, s);
+        if near.iter().all(|other| other.first != trip.first) {
+            near.push(trip);
+        }
+    }
+    near
+}
+
+/// Trips may split or join, begin or end.
+fn note_mended(old: &[u16], new: &[u16], second: usize) {
+    let neighbours = [second.wrapping_sub(1), second + 1].map(|s| new.get(s).is_some_and(|&speed| moving(speed)));
+    match (moving(old[second]), moving(new[second]), neighbours) {
+        (true, false, [true, true]) => note(Event::TripSplit),
+        (false, true, [true, true]) => note(Event::TripsJoined),
+        (false, true, [false, false]) => note(Event::TripBegun),
+        (true, false, [false, false]) => note(Event::TripEnded),
+        _ => {}
+    }
+}
+
 // ---------------------------------------------------------------- the reader
 
 pub struct Job {

@@ -47,6 +47,16 @@ fn cards() {
     assert_eq!(paper::release(&z, &speeds, &[0, 0, 3, 0, 0], &[17, 1, 19, 18, 0], 2), Ok((vec![0; 5], vec![17, 1, 2, 18, 0])));
     assert_eq!(paper::hold(&z, &speeds, &[0; 5], &[17, 1, 2, 18, 0], 2, 0), Err((7, 2)));
     assert_eq!(paper::hold(&z, &speeds, &[0; 5], &[17, 1, 2, 18, 0], 4, 0), Err((7, 4)));
+    let mend = |speeds: &[u16], holds: &[u8], card: &[u8], second, speed| paper::mend(&z, speeds, holds, card, second, speed);
+    let right = [17, 1, 2, 18, 0];
+    let split = [0, 50, 0, 100, 0];
+    assert_eq!(mend(&speeds, &[0; 5], &right, 2, 110), Ok((vec![0, 50, 110, 100, 0], vec![17, 1, 18, 18, 0])));
+    assert_eq!(mend(&speeds, &[0; 5], &right, 2, 0), Ok((split.to_vec(), vec![17, 17, 17, 1, 0])));
+    assert_eq!(mend(&split, &[0; 5], &[17, 17, 17, 1, 0], 2, 150), Ok((speeds.to_vec(), right.to_vec())));
+    assert_eq!(mend(&speeds, &[0, 0, 3, 0, 0], &[17, 1, 19, 18, 0], 2, 9), Err((8, 2)));
+    assert_eq!(mend(&speeds, &[0; 5], &right, 3, 151), Err((5, 4)));
+    assert_eq!(mend(&speeds, &[0; 5], &right, 4, 10), Err((6, 4)));
+    assert_eq!(mend(&speeds, &[0; 5], &right, 5, 10), Err((11, 5)));
     assert_eq!(paper::work(&z, &[0], &[0], 1), Ok(vec![0]));
     assert!(paper::work(&z, &[0, 150, 0], &[0; 3], 3).is_ok());
     assert_eq!(paper::work(&z, &[0, 151, 0], &[0; 3], 3), Err((5, 1)));

@@ -114,7 +114,20 @@ taken car vs hs old s own e =
     let d = orelse-none _ _ (c .1) in
     record { trace = a .0; room = b .0; vehicle = c .0; second = ltb-true s (length vs) (not-false _ (when-none 11 (not (ltb s (length vs))) s (d .0))); checks-pass = d .1 }
 
+-- refused or not
+pub by-fault : {P : Type 0} (f : Option Fault) → (f ≡ none → P) → ((q : Fault) → f ≡ some q → P) → P
+by-fault none x y = x refl
+by-fault (some q) x y = y q refl
+
 -- what is left by one answer
+pub left-none : {f : Option Fault} (old new : List ℕ) → f ≡ none → left f old new ≡ new
+unfolding left
+left-none old new e = rw e
+
+pub left-some : {f : Option Fault} {q : Fault} (old new : List ℕ) → f ≡ some q → left f old new ≡ old
+unfolding left
+left-some old new e = rw e
+
 pub left-same : (f : Option Fault) (old : List ℕ) {a b : List ℕ} → (f ≡ none → a ≡ b) → left f old a ≡ left f old b
 unfolding left
 left-same none old e = e refl

@@ -1,4 +1,5 @@
--- The quick way looks at the seconds of its span and at no others; what it leaves alone; and what the held second shows.
+-- A span between standing seconds: its checks and its bytes look at its seconds and at no others, and so does the quick way; what that leaves alone;
+-- and what the held second shows.
 -- Assumes nothing.
 use Prim.Native.Nat.{ℕ, zero, suc, _+_, _-_, _≤_, _<_, _%_, min}
 use native.Mathlib.Nat.{zero-add}
@@ -20,137 +21,147 @@ use Rattle.rules.specs.Refusals.{Fault, Check, speed, step, ends, over-n
 use Rattle.rules.specs.Quick.{span-lo, span-hi, standing-fault, own-fault, quick-fault, reworked, quick-holds, quick-card}
 use Rattle.rules.specs.Vocabulary.{InBounds, IsTrip, Out, SameSpan}
 use Rattle.rules.proofs.Laws.Words.{clash, by-test, by-order, part-ext, table-ext, patch-out, patch-in}
-use Rattle.rules.proofs.Laws.Trips.{trip-of, trip-start, trip-stop, stop-in, moving-in}
+use Rattle.rules.proofs.Laws.Trips.{trip-of, start-agree, stop-agree, stop-in, moving-in}
 use Rattle.rules.proofs.Laws.Checks.{passed, span-ext, orelse-none, when-none, rooms-in, vehicle-in, taken, left-by}
 use Rattle.rules.proofs.Laws.Cards.{held-shows, card-mod}
 
 -- ---- where to look
 
-module _ (car : Vehicle) (vs hs ws ks : List ℕ) (s g : ℕ) (S : SameSpan vs hs ws ks s) (m : moving (at vs s) ≡ true) where
+-- they say the same when one second is written in both
+set-same : (l m : List ℕ) (s x lo hi : ℕ) → length m ≡ length l → ((i : ℕ) → lo ≤ i → i < hi → at m i ≡ at l i) → (i : ℕ) → lo ≤ i → i < hi → at (set m s x) i ≡ at (set l s x) i
+set-same l m s x lo hi n h i a b =
+    by-test (eqb i s)
+    (λ t. let e : i ≡ s = eqb-true i s t in
+    by-order s (length l)
+    (λ y. rw e (getD-set-same m s x 0 (omega arith) ∙ sym (getD-set-same l s x 0 y)))
+    (λ y. rw e (List·getD-eq-default (set m s x) 0 (omega (arith, length-set m s x)) ∙ sym (List·getD-eq-default (set l s x) 0 (omega (arith, length-set l s x))))))
+    (λ t. getD-set-other m s i x 0 (eqb-false i s t) ∙ h i a b ∙ sym (getD-set-other l s i x 0 (eqb-false i s t)))
+
+same-hold : (vs hs ws ks : List ℕ) (lo hi s g : ℕ) → SameSpan vs hs ws ks lo hi → SameSpan vs (set hs s g) ws (set ks s g) lo hi
+same-hold vs hs ws ks lo hi s g S =
+    record { speeds = S .speeds; holds = length-set ks s g ∙ S .holds ∙ sym (length-set hs s g); speed-at = S .speed-at; hold-at = set-same hs ks s g lo hi (S .holds) (S .hold-at) }
+
+pub same-speed : (vs hs ws ks : List ℕ) (lo hi s v : ℕ) → SameSpan vs hs ws ks lo hi → SameSpan (set vs s v) hs (set ws s v) ks lo hi
+same-speed vs hs ws ks lo hi s v S =
+    record { speeds = length-set ws s v ∙ S .speeds ∙ sym (length-set vs s v); holds = S .holds; speed-at = set-same vs ws s v lo hi (S .speeds) (S .speed-at); hold-at = S .hold-at }
+
+-- A span between two standing seconds, the one before a and b, and these with it, as far as the trace goes. No trip crosses its ends
+pub record Between (vs : List ℕ) (a b : ℕ) : Type 0 where
+  pub order : a ≤ b
+  pub before : (k : ℕ) → suc k ≡ a → moving (at vs k) ≡ false
+  pub after : moving (at vs b) ≡ false
+
+module _ (car : Vehicle) (vs hs ws ks : List ℕ) (a b : ℕ) (B : Between vs a b) (S : SameSpan vs hs ws ks (a - 1) (min (suc b) (length vs))) where
   -- past the trace's end both are 0
-  speed-to : (i : ℕ) → span-lo vs s ≤ i → i < suc (stop vs s) → at ws i ≡ at vs i
-  unfolding span-hi
-  speed-to i a b =
-      by-order i (length vs) (λ h. S .speed-at i a (omega arith)) (λ h. List·getD-eq-default ws 0 (omega (arith, S .speeds)) ∙ sym (List·getD-eq-default vs 0 h))
+  pub speed-to : (i : ℕ) → a ≤ suc i → i ≤ b → at ws i ≡ at vs i
+  speed-to i x y =
+      by-order i (length vs) (λ h. S .speed-at i (omega arith) (omega arith)) (λ h. List·getD-eq-default ws 0 (omega (arith, S .speeds)) ∙ sym (List·getD-eq-default vs 0 h))
 
-  same-trip : IsTrip ws (start vs s) (stop vs s)
-  unfolding span-lo
-  same-trip =
-      let t = trip-of vs s m in
-      record {
-        some-second = t .0 .some-second;
-        inside = λ k a b. rw (speed-to k (omega arith) (omega arith)) (t .0 .inside k a b);
-        before = λ k e. rw (speed-to k (omega arith) (omega arith)) (t .0 .before k e);
-        after = rw (speed-to (stop vs s) (omega arith) (omega arith)) (t .0 .after);
-      }
-
-  same-start : start ws s ≡ start vs s
-  same-start = let t = trip-of vs s m in trip-start ws same-trip s (t .1) (t .2)
-
-  same-stop : stop ws s ≡ stop vs s
-  same-stop = let t = trip-of vs s m in trip-stop ws same-trip s (t .1) (t .2)
-
-  hold-to : (i : ℕ) → span-lo vs s ≤ i → i < span-hi vs s → at (set ks s g) i ≡ at (set hs s g) i
-  hold-to i a b =
-      by-test (eqb i s)
-      (λ t. let e : i ≡ s = eqb-true i s t in
-      by-order s (length hs)
-      (λ h. rw e (getD-set-same ks s g 0 (omega (arith, S .holds)) ∙ sym (getD-set-same hs s g 0 h)))
-      (λ h. rw e (List·getD-eq-default (set ks s g) 0 (omega (arith, S .holds, length-set ks s g)) ∙ sym (List·getD-eq-default (set hs s g) 0 (omega (arith, length-set hs s g))))))
-      (λ t. getD-set-other ks s i g 0 (eqb-false i s t) ∙ S .hold-at i a b ∙ sym (getD-set-other hs s i g 0 (eqb-false i s t)))
-
-  -- a moving second of the span lies in the trip
-  module _ (i : ℕ) (a : span-lo vs s ≤ i) (b : i < span-hi vs s) (u : moving (at vs i) ≡ true) where
-    in-trip : (start vs s ≤ i) × (i < stop vs s)
-    unfolding span-lo span-hi
-    in-trip =
-        let t = trip-of vs s m in (
-          by-order i (start vs s) (λ h. clash u (t .0 .before i (omega arith))) (λ h. h),
-          by-order i (stop vs s) (λ h. h) (λ h. let e : i ≡ stop vs s = omega arith in clash u (rw e (t .0 .after))),
+  -- the trip of a moving second of the span lies between
+  module _ (i : ℕ) (x : a ≤ suc i) (y : i ≤ b) (u : moving (at vs i) ≡ true) where
+    in-span : (a ≤ start vs i) × (stop vs i ≤ b)
+    in-span =
+        let t = trip-of vs i u in (
+          by-order (start vs i) a (λ h. by-order i a
+              (λ j. clash u (B .before i (omega arith)))
+              (λ j. clash (t .0 .inside (a - 1) (omega arith) (omega arith)) (B .before (a - 1) (omega arith)))) (λ h. h),
+          by-order b (stop vs i) (λ h. clash (t .0 .inside b (omega arith) h) (B .after)) (λ h. h),
         )
 
     -- whatever is worked out from the trip's own speeds and holds is the same
-    of-trip : (f : List ℕ → List ℕ → ℕ → ℕ)
-        → f (trip-speeds ws i) (trip-holds ws (set ks s g) i) (i - start ws i) ≡ f (trip-speeds vs i) (trip-holds vs (set hs s g) i) (i - start vs i)
-    unfolding trip-speeds trip-holds span-lo span-hi
+    of-trip : (f : List ℕ → List ℕ → ℕ → ℕ) → f (trip-speeds ws i) (trip-holds ws ks i) (i - start ws i) ≡ f (trip-speeds vs i) (trip-holds vs hs i) (i - start vs i)
+    unfolding trip-speeds trip-holds
     of-trip f =
-        let t = trip-of vs s m in
-        let x = in-trip in
-        let c = stop-in vs s m in
+        let t = trip-of vs i u in
+        let n = in-span in
+        let c = stop-in vs i u in
         rw (
-          trip-start ws same-trip i (x .0) (x .1),
-          trip-stop ws same-trip i (x .0) (x .1),
-          trip-start vs (t .0) i (x .0) (x .1),
-          trip-stop vs (t .0) i (x .0) (x .1),
-          part-ext ws vs (start vs s) (suc (stop vs s)) (S .speeds) (λ k y z. speed-to k (omega arith) (omega arith)),
-          part-ext (set ks s g) (set hs s g) (start vs s) (stop vs s) (length-set ks s g ∙ S .holds ∙ sym (length-set hs s g)) (λ k y z. hold-to k (omega arith) (omega arith)),
+          start-agree vs ws i (λ k p q. speed-to k (omega arith) (omega arith)),
+          stop-agree vs ws i (λ k p q. speed-to k (omega arith) (omega arith)),
+          part-ext ws vs (start vs i) (suc (stop vs i)) (S .speeds) (λ k p q. speed-to k (omega arith) (omega arith)),
+          part-ext ks hs (start vs i) (stop vs i) (S .holds) (λ k p q. S .hold-at k (omega arith) (omega arith)),
         )
 
-    first-same : first-at car ws (set ks s g) i ≡ first-at car vs (set hs s g) i
+    first-same : first-at car ws ks i ≡ first-at car vs hs i
     unfolding first-at
     first-same = of-trip (λ us gs j. at (firsts car us gs) j)
 
-    gear-same : gear-at car ws (set ks s g) i ≡ gear-at car vs (set hs s g) i
+    gear-same : gear-at car ws ks i ≡ gear-at car vs hs i
     unfolding gear-at
     gear-same = of-trip (λ us gs j. at (gears car us gs) j)
 
-  bad-same : (c : Check) (i : ℕ) → span-lo vs s ≤ i → i < span-hi vs s → bad c car ws (set ks s g) (span-lo vs s) i ≡ bad c car vs (set hs s g) (span-lo vs s) i
+  bad-same : (c : Check) (i : ℕ) → a - 1 ≤ i → i < min (suc b) (length vs) → bad c car ws ks (a - 1) i ≡ bad c car vs hs (a - 1) i
   unfolding bad _and_
-  bad-same c i a b =
-      let v = S .speed-at i a b in
-      let h = hold-to i a b in
+  bad-same c i x y =
+      let v = S .speed-at i x y in
+      let h = S .hold-at i x y in
       elim c [
         | speed ↦ rw v
-        | step ↦ by-order (span-lo vs s) i (λ x. rw (v, S .speed-at (i - 1) (omega arith) (omega arith))) (λ x. rw (le-ltb (span-lo vs s) i x))
+        | step ↦ by-order (a - 1) i (λ z. rw (v, S .speed-at (i - 1) (omega arith) (omega arith))) (λ z. rw (le-ltb (a - 1) i z))
         | ends ↦ rw (v, S .speeds)
         | over-ng ↦ rw h
         | at-rest ↦ rw (v, h)
         | over-rev ↦ rw (v, h)
-        | no-gear ↦ by-test (moving (at vs i)) (λ t. rw (v, t, first-same i a b t)) (λ t. rw (v, t))
+        | no-gear ↦ by-test (moving (at vs i)) (λ t. rw (v, t, first-same i (omega arith) (omega arith) t)) (λ t. rw (v, t))
       ]
 
-  same-lo : span-lo ws s ≡ span-lo vs s
-  unfolding span-lo
-  same-lo = rw same-start
+  -- what its checks say depends on the seconds of the span alone
+  pub fault-between : span-fault car ws ks (a - 1) (min (suc b) (length vs)) ≡ span-fault car vs hs (a - 1) (min (suc b) (length vs))
+  fault-between = span-ext car ws ks vs hs (a - 1) (min (suc b) (length vs)) bad-same
 
-  same-hi : span-hi ws s ≡ span-hi vs s
-  unfolding span-hi
-  same-hi = rw (same-stop, S .speeds)
-
-  -- what the checks of the quick way say of a moving second depends on its span alone
-  pub looks-at-span : own-fault car ws ks s g ≡ own-fault car vs hs s g
-  unfolding own-fault
-  looks-at-span =
-      let t = trip-of vs s m in
-      let e : moving (at ws s) ≡ true = same-trip .inside s (t .1) (t .2) in
-      rw (e, m, same-lo, same-hi) (span-ext car ws (set ks s g) vs (set hs s g) (span-lo vs s) (span-hi vs s) bad-same)
-
-  -- so is each byte that is re-worked
-  byte-same : (i : ℕ) → span-lo vs s ≤ i → i < stop vs s → card-at car ws (set ks s g) i ≡ card-at car vs (set hs s g) i
-  unfolding card-at byte clutch rise span-hi
-  byte-same i a b =
-      let c = stop-in vs s m in
-      let v = S .speed-at i a (omega arith) in
+  -- so does each byte before its last second
+  byte-same : (i : ℕ) → a - 1 ≤ i → i < b → card-at car ws ks i ≡ card-at car vs hs i
+  unfolding card-at byte clutch rise
+  byte-same i x y =
+      let v = speed-to i (omega arith) (omega arith) in
       let u = speed-to (suc i) (omega arith) (omega arith) in
       by-test (moving (at vs i))
-      (λ t. rw (v, u, S .speeds, t, gear-same i a (omega arith) t))
+      (λ t. rw (v, u, S .speeds, t, gear-same i (omega arith) (omega arith) t))
       (λ t. by-test (moving (at vs (suc i)))
-      (λ w. by-order (suc i) (stop vs s)
-      (λ h. rw (v, u, t, w, gear-same (suc i) (omega arith) (omega arith) w))
-      (λ h. let e : suc i ≡ stop vs s = omega arith in clash w (rw e (trip-of vs s m .0 .after))))
+      (λ w. rw (v, u, t, w, gear-same (suc i) (omega arith) (omega arith) w))
       (λ w. rw (v, u, t, w)))
 
   -- and so the card that is left
-  pub reworks-span : (old : List ℕ) → reworked car ws (set ks s g) old s ≡ reworked car vs (set hs s g) old s
-  unfolding reworked patch _and_
-  reworks-span old =
+  pub card-between : (old : List ℕ) → patch old (a - 1) b (card-at car ws ks) ≡ patch old (a - 1) b (card-at car vs hs)
+  unfolding patch _and_
+  card-between old =
+      table-ext _ _ 0 (length old) (λ i x y.
+      by-test (leb (a - 1) i)
+      (λ p. by-test (ltb i b) (λ q. rw (p, q) (byte-same i (leb-true _ _ p) (ltb-true _ _ q))) (λ q. rw (p, q)))
+      (λ p. rw p))
+
+-- so for the quick way at a moving second
+module _ (car : Vehicle) (vs hs ws ks : List ℕ) (s g : ℕ) (S : SameSpan vs hs ws ks (span-lo vs s) (span-hi vs s)) (m : moving (at vs s) ≡ true) where
+  its-trip : Between vs (start vs s) (stop vs s)
+  its-trip = let t = trip-of vs s m in record { order = omega arith; before = t .0 .before; after = t .0 .after }
+
+  its-span : SameSpan vs hs ws ks (start vs s - 1) (min (suc (stop vs s)) (length vs))
+  unfolding span-lo span-hi
+  its-span = S
+
+  -- the trip lies where it lay
+  same-place : (at ws s ≡ at vs s) × (start ws s ≡ start vs s) × (stop ws s ≡ stop vs s)
+  same-place =
       let t = trip-of vs s m in
-      let e : moving (at ws s) ≡ true = same-trip .inside s (t .1) (t .2) in
-      rw (e, m, same-lo, same-stop)
-      (table-ext _ _ 0 (length old) (λ i x y.
-      by-test (leb (span-lo vs s) i)
-      (λ p. by-test (ltb i (stop vs s)) (λ q. rw (p, q) (byte-same i (leb-true _ _ p) (ltb-true _ _ q))) (λ q. rw (p, q)))
-      (λ p. rw p)))
+      let to = speed-to car vs hs ws ks (start vs s) (stop vs s) its-trip its-span in
+      (to s (omega arith) (omega arith), start-agree vs ws s (λ k p q. to k p (omega arith)), stop-agree vs ws s (λ k p q. to k (omega arith) q))
+
+  its-holds : SameSpan vs (set hs s g) ws (set ks s g) (start vs s - 1) (min (suc (stop vs s)) (length vs))
+  its-holds = same-hold vs hs ws ks (start vs s - 1) (min (suc (stop vs s)) (length vs)) s g its-span
+
+  -- what its checks say of it depends on its span alone
+  pub looks-at-span : own-fault car ws ks s g ≡ own-fault car vs hs s g
+  unfolding own-fault span-lo span-hi
+  looks-at-span =
+      let p = same-place in
+      rw (p .0, m, p .1, p .2, S .speeds) (fault-between car vs (set hs s g) ws (set ks s g) (start vs s) (stop vs s) its-trip its-holds)
+
+  -- and so the card that it leaves
+  pub reworks-span : (old : List ℕ) → reworked car ws (set ks s g) old s ≡ reworked car vs (set hs s g) old s
+  unfolding reworked span-lo
+  reworks-span old =
+      let p = same-place in
+      rw (p .0, m, p .1, p .2) (card-between car vs (set hs s g) ws (set ks s g) (start vs s) (stop vs s) its-trip its-holds old)
 
 -- ---- what is left alone
 

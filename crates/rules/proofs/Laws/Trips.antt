@@ -21,7 +21,7 @@ module _ (vs : List ℕ) where
   start-le zero = omega arith
   start-le (suc i) = by-test (moving (at vs i)) (λ t. rw t (omega (arith, start-le i))) (λ t. rw t (omega arith))
 
-  start-inside : (i k : ℕ) → start vs i ≤ k → k < i → moving (at vs k) ≡ true
+  pub start-inside : (i k : ℕ) → start vs i ≤ k → k < i → moving (at vs k) ≡ true
   unfolding start
   start-inside zero k h l = absurd (not-suc-le-zero l)
   start-inside (suc i) k h l =
@@ -130,3 +130,32 @@ standing-past vs i h = by-test (moving (at vs i)) (λ m. let z = moving-in vs i 
 -- from a second of the trace, or its end, the run ends in the trace, or at its end
 pub stop-to : (vs : List ℕ) (i : ℕ) → i ≤ length vs → stop vs i ≤ length vs
 stop-to vs i h = by-test (moving (at vs i)) (λ m. stop-in vs i m) (λ m. rw (stop-standing vs i m) h)
+
+-- ---- what the two scans look at
+
+-- from the second before the first that is found up to i, not i itself
+pub start-agree : (vs ws : List ℕ) (i : ℕ) → ((k : ℕ) → start vs i ≤ suc k → k < i → at ws k ≡ at vs k) → start ws i ≡ start vs i
+unfolding start
+start-agree vs ws zero h = refl
+start-agree vs ws (suc i) h =
+    by-test (moving (at vs i))
+    (λ t. let e : start ws i ≡ start vs i = start-agree vs ws i (λ k a b. h k (rw t a) (omega arith)) in
+    let x = start-le vs i in rw (h i (rw t (omega arith)) (omega arith), t) e)
+    (λ t. rw (h i (rw t (omega arith)) (omega arith), t))
+
+run-agree : (l m : List ℕ) → ((j : ℕ) → j ≤ run l → at m j ≡ at l j) → run m ≡ run l
+unfolding run moving
+run-agree [] [] h = refl
+run-agree [] (u ∷ m) h = let e : u ≡ 0 = h 0 (omega arith) in rw e
+run-agree (v ∷ l) [] h = let e : 0 ≡ v = h 0 (omega arith) in rw (← e)
+run-agree (v ∷ l) (u ∷ m) h =
+    let e : u ≡ v = h 0 (omega arith) in
+    by-test (moving v)
+    (λ t. let r : run m ≡ run l = run-agree l m (λ j a. h (suc j) (rw t (omega arith))) in rw (e, t, r))
+    (λ t. rw (e, t))
+
+-- from i up to the second after the last
+pub stop-agree : (vs ws : List ℕ) (i : ℕ) → ((k : ℕ) → i ≤ k → k ≤ stop vs i → at ws k ≡ at vs k) → stop ws i ≡ stop vs i
+unfolding stop
+stop-agree vs ws i h =
+    ap (λ (k : ℕ). i + k) (run-agree (drop i vs) (drop i ws) (λ j a. run-at ws i j ∙ h (i + j) (omega arith) (omega arith) ∙ sym (run-at vs i j)))

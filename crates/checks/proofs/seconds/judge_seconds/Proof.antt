@@ -16,11 +16,11 @@ use Rattle.checks.proofs.seconds.judge_seconds.Statement.{statement}
 use Rattle.checks.proofs.seconds.judge_seconds.Tie as tie
 
 abbrev Inv-loop : tie.InvT-loop
-Inv-loop k ratio speeds holds hold span best₀ place₀ i₀ best place i =
-    Kept (λ car. Has car k ratio) checks speeds (set holds (hold .second) (hold .gear)) (span .lo) (span .hi) i best place
+Inv-loop k ratio speeds holds sample hold span best₀ place₀ i₀ best place i =
+    Kept (λ car. Has car k ratio) checks (set speeds (sample .second) (sample .speed)) (set holds (hold .second) (hold .gear)) (span .lo) (span .hi) i best place
 
 abbrev μ-loop : tie.MeasureT-loop
-μ-loop k ratio speeds holds hold span best₀ place₀ i₀ best place i = span .hi - i
+μ-loop k ratio speeds holds sample hold span best₀ place₀ i₀ best place i = span .hi - i
 
 loop-holds : tie.Need-loop-holds Inv-loop μ-loop
 loop-holds c = begin _ _ (omega arith)
@@ -42,8 +42,9 @@ loop-again c =
     let s = c .before .before .before .before .before .before .before .before in
     let a = s .args in
     let l = c .before .before .before .before .before .loop in
+    let vs = set (a .speeds .now) (a .sample .second) (a .sample .speed) in
     let hs = set (a .holds .now) (a .hold .second) (a .hold .gear) in
-    let is : (car : Vehicle) → Has car (a .k) (a .ratio .now) → c .before .fault-at .result ≡ fault-no car (a .speeds .now) hs (a .span .lo) (l .i) checks =
+    let is : (car : Vehicle) → Has car (a .k) (a .ratio .now) → c .before .fault-at .result ≡ fault-no car vs hs (a .span .lo) (l .i) checks =
     λ car H. c .before .fault-at .ensures car H hs (sym (c .before .before .hold-at .ensures)) in
     let one = built (a .k) (a .ratio .now) in
     let is-one = built-has (a .k) (a .ratio .now) in

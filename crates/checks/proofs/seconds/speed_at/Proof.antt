@@ -1,0 +1,28 @@
+-- `checks::seconds::speed_at` meets its contract: `set` changes the asked place and no other.
+-- Assumes nothing.
+use mathlib.Core.Path.{_≡_, sym}
+use native.Mathlib.Omega.{arith}
+use lib.Seq.{getD-set-same, getD-set-other}
+use borrow.Author.Needs.{needs}
+use Rattle.checks.proofs.seconds.speed_at.Statement.{statement}
+use Rattle.checks.proofs.seconds.speed_at.Tie as tie
+
+returns : tie.Need-returns
+returns c =
+    let a = c .before .before .args in
+    let e : a .i ≡ a .sample .second = omega arith in
+    rw e (sym (getD-set-same (a .speeds .now) (a .sample .second) (a .sample .speed) 0 (omega arith)))
+
+mul-result : tie.Need-mul-result
+mul-result c = search needs
+
+shared-slice-read-result : tie.Need-shared-slice-read-result
+shared-slice-read-result c = search needs
+
+returns-2 : tie.Need-returns-2
+returns-2 c =
+    let a = c .before .before .before .args in
+    sym (getD-set-other (a .speeds .now) (a .sample .second) (a .i) (a .sample .speed) 0 (λ z. omega arith))
+
+pub speed-at-spec : {M : Type 1} → statement M
+speed-at-spec = tie.close (tie.spec returns mul-result shared-slice-read-result returns-2)
