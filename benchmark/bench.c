@@ -398,6 +398,10 @@ static void build(const char *path) {
   c = fresh("work.class3.own", WORK); /* the job's own car */
   c->car = job.vehicle, c->count = n;
   memcpy(c->v, v, sizeof v);
+  c = fresh("work.class3.gap", WORK); /* with a gap between gears 1 and 2: V 158 has no gear after gear 1 */
+  c->car = job.vehicle, c->count = n;
+  c->car.ratio[0] = 39400, c->car.ratio[1] = 5450;
+  memcpy(c->v, v, sizeof v);
   work_cases("class3", v, n);
   static uint16_t one[ROOM], many[ROOM];
   one_trip(one, ROOM);

@@ -1,9 +1,11 @@
 /* The C twin of the gear card, written by hand for speed: document 01's rules and refusals and no check beyond them.
 
    What it does for speed:
-   - the vehicle by const pointer, and once a call per gear the lowest and highest V at which the gear fits (both rise with the gear, so the gears
-     that fit are a run, and a second needs no product to know it);
-   - the checks 4 to 10 as one pass without branches; only where it finds something is the exact refusal looked for, or the holds gone through;
+   - the vehicle by const pointer, and once a call per gear the lowest and highest V at which the gear fits (both rise with the gear, so a second
+     needs no product to know which do; only gear 2 after gear 1 may be passed over);
+   - the checks 4 to 10 as one pass without branches; only where it finds something is the exact refusal looked for, or the holds gone through; 10
+     then by a dry run of first choices;
+   - whether a second is in the closing run is asked only where the minimum of gear 2 decides, and no second is looked at twice for it;
    - first choice, passes A and B and the bytes in one loop over a trip, the gears of the seconds before in registers; pass C on the tail after it;
    - braking (E at most 0) asks for no power, so nothing is looked up; most power is kept along on the way down, so there is no second loop;
    - a job is parsed once, into buffers, copied when all of it has passed;
@@ -55,7 +57,8 @@ typedef struct {
   const car_t *c;
   uint32_t ng, cap, idle1000;
   int64_t a, b, e2, dm, mm;
-  uint32_t lo[12], hi[12]; /* the V at which a gear fits; gear 1 from 0 on */
+  uint32_t lo[12], hi[12]; /* the V at which a gear fits; gear 1 from 0 on, gear 2 where neither of the next two */
+  uint32_t lo_closing, lo_after;
 } prep_t;
 
 INLINE void prepare(prep_t *k, const car_t *c) {
@@ -68,10 +71,12 @@ INLINE void prepare(prep_t *k, const car_t *c) {
   k->e2 = 9ll * c->f2;
   k->dm = 2575000ll * c->tm;
   k->mm = (100 - (int64_t)c->margin) * 3240000;
-  uint32_t m2 = 1000u * ((9 * idle + 5) / 10), m3 = 1000u * (idle + (c->rated - idle + 4) / 8);
+  uint32_t m2 = 1000u * ((9 * idle + 5) / 10), m2a = 1000u * ((115 * idle + 50) / 100), m3 = 1000u * (idle + (c->rated - idle + 4) / 8);
   k->lo[1] = 0;
   k->hi[1] = top / c->ratio[0];
   k->lo[2] = (m2 + c->ratio[1] - 1) / c->ratio[1];
+  k->lo_closing = (1000u * idle + c->ratio[1] - 1) / c->ratio[1];
+  k->lo_after = (m2a + c->ratio[1] - 1) / c->ratio[1];
   k->hi[2] = top / c->ratio[1];
   for (uint32_t g = 3; g <= ng; g++) {
     uint32_t r = c->ratio[g - 1];
@@ -82,28 +87,35 @@ INLINE void prepare(prep_t *k, const car_t *c) {
   /* lo and hi are filled from 1 to ng, and ng is at least 2 */
   uint32_t cap = k->hi[ng] < 2000 ? k->hi[ng] : 2000;
   for (uint32_t g = 1; g < ng; g++)
-    if (k->hi[g] + 1 < k->lo[g + 1] && k->hi[g] < cap) cap = k->hi[g];
+    if (k->hi[g] + 1 < (g == 1 ? k->lo_after : k->lo[g + 1]) && k->hi[g] < cap) cap = k->hi[g];
   if (k->hi[1] < 159 && k->hi[1] < cap) cap = k->hi[1];
   k->cap = cap;
 }
 
-/* Whether no gear fits V at a moving second, the first of its trip or not. */
-INLINE int none_fits(const prep_t *k, int first, uint32_t x) {
-#ifdef PLAIN_CHECK
-  const car_t *c = k->c;
-  uint32_t idle = c->idle, top = 1000u * c->nmax;
-  uint32_t m2 = 1000u * ((9 * idle + 5) / 10), m3 = 1000u * (idle + (c->rated - idle + 4) / 8);
-  for (uint32_t g = 1; g <= k->ng; g++) {
-    uint32_t X = c->ratio[g - 1] * x;
-    if (X <= top && (g == 1 || (!first && X >= (g == 2 ? m2 : m3)))) return 0;
+/* The lowest V of gear 2 at second j, by the first choice before. From *open on nothing is known of the closing run. */
+INLINE uint32_t lowest_2(const prep_t *k, const uint16_t *v, size_t j, uint32_t last, size_t *open) {
+  if (j >= *open) {
+    size_t e = j;
+    while (v[e] >= 10 && v[e] > v[e + 1]) e++;
+    if (v[e] < 10) return k->lo_closing;
+    *open = e + 1;
   }
-  return 1;
-#else
-  if (first) return x > k->hi[1];
-  uint32_t f = 1;
-  while (f <= k->ng && k->hi[f] < x) f++;
-  return f > k->ng || x < k->lo[f];
-#endif
+  return last == 1 ? k->lo_after : k->lo[2];
+}
+
+/* The highest gear whose minimum V reaches at second j, not its trip's first, given that of the gears above 2. */
+INLINE uint32_t highest_reached(const prep_t *k, const uint16_t *v, size_t j, uint32_t last, size_t *open, uint32_t t) {
+  uint32_t x = v[j];
+  if (t > 2 || x >= k->lo_after) return t;
+  if (x < k->lo[2]) return 1;
+  return x >= lowest_2(k, v, j, last, open) ? 2 : 1;
+}
+
+/* Whether gear 2 fits at second j, not its trip's first, where a gear above it is looked at too. */
+INLINE int second_fits(const prep_t *k, const uint16_t *v, size_t j, uint32_t last, size_t *open) {
+  uint32_t x = v[j];
+  if (x > k->hi[2] || x < k->lo[2]) return 0;
+  return x >= k->lo_after || x >= lowest_2(k, v, j, last, open);
 }
 
 INLINE int past_nmax(const prep_t *k, uint32_t g, uint32_t x) {
@@ -114,13 +126,13 @@ INLINE int past_nmax(const prep_t *k, uint32_t g, uint32_t x) {
 #endif
 }
 
-/* The first refusal of 4 to 10 on [lo, hi), exactly, with the hold of one second in place of the one there. */
+/* The first refusal of 4 to 9 on [lo, hi), exactly, with the hold of one second in place of the one there. */
 static __attribute__((noinline)) verdict_t exact(const prep_t *k, const uint16_t *v, size_t n, const uint8_t *h, size_t second, uint8_t gear, size_t lo,
                                                  size_t hi) {
-  uint32_t best = 11;
+  uint32_t best = 10;
   size_t place = 0;
   for (size_t i = lo; i < hi; i++) {
-    uint32_t x = v[i], held = i == second ? gear : h[i], no = 11;
+    uint32_t x = v[i], held = i == second ? gear : h[i], no = 10;
     int step = i > lo ? (int)x - (int)v[i - 1] : 0;
     if (x > 2000) no = 4;
     else if (step > 150 || step < -150) no = 5;
@@ -129,10 +141,10 @@ static __attribute__((noinline)) verdict_t exact(const prep_t *k, const uint16_t
       if (held > k->ng) no = 7;
       else if (x < 10) no = 8;
       else if (past_nmax(k, held, x)) no = 9;
-    } else if (x >= 10 && none_fits(k, i == 0 || v[i - 1] < 10, x)) no = 10;
+    }
     if (no < best) best = no, place = i;
   }
-  return best == 11 ? say(0, 0) : say(best, place);
+  return best == 10 ? say(0, 0) : say(best, place);
 }
 
 /* Whether a speed of [lo, hi) is over cap or a step over 150. */
@@ -153,21 +165,6 @@ INLINE unsigned any(const uint8_t *h, size_t lo, size_t hi) {
 
 /* Whether a hold is wrong at its second. */
 INLINE unsigned hold_odd(const prep_t *k, uint32_t g, uint32_t x) { return g > k->ng || x < 10 || x > k->hi[g]; }
-
-/* The first refusal of 4 to 10 on [lo, hi): gone through second by second only where the quick look finds something odd. The hold of one second is taken
-   as gear, where that second is in the trace. */
-INLINE verdict_t judge(const prep_t *k, const uint16_t *v, size_t n, const uint8_t *h, size_t second, uint8_t gear, size_t lo, size_t hi) {
-#ifndef PLAIN_CHECK
-  unsigned odd = speeds_odd(v, lo, hi, k->cap) | (v[lo] >= 10) | (v[hi - 1] >= 10) | (gear && hold_odd(k, gear, v[second]));
-  if (LIKELY(!odd)) {
-    if (!any(h, lo, hi)) return say(0, 0);
-    size_t i = lo;
-    while (i < hi && (!h[i] || i == second || LIKELY(!hold_odd(k, h[i], v[i])))) i++;
-    if (i == hi) return say(0, 0);
-  }
-#endif
-  return exact(k, v, n, h, second, gear, lo, hi);
-}
 
 typedef struct {
   int64_t q, w;
@@ -191,17 +188,22 @@ INLINE power_t power(const prep_t *k, uint32_t x) {
   return r;
 }
 
-/* The first choice of a second without a hold, t the highest gear whose minimum is reached. A gear fits: the checks have passed. */
-INLINE uint32_t choose(const prep_t *k, uint32_t v, int32_t d, uint32_t t) {
-  int64_t y = v;
+/* The first choice at second j, which has no hold and is not its trip's first, `last` the first choice before and t the highest gear above 2 whose minimum
+   is reached, or 2; 0 where no gear fits. */
+INLINE uint32_t choose(const prep_t *k, const uint16_t *v, size_t j, uint32_t last, size_t *open, uint32_t above) {
+  uint32_t x = v[j], t = highest_reached(k, v, j, last, open, above);
+  int32_t d = (int32_t)v[j + 1] - (int32_t)x;
+  int64_t y = x;
   int64_t e = y * (k->a + y * (k->b + y * k->e2) + k->dm * d);
+  if (UNLIKELY(x > k->hi[t])) return 0; /* a higher gear turns slower: none below fits either */
   if (e <= 0) return t;
   const uint16_t *ratio = k->c->ratio;
-  power_t m = power(k, ratio[t - 1] * v);
+  power_t m = power(k, ratio[t - 1] * x);
   if (k->mm * m.q >= e * m.w) return t;
   uint32_t best = t;
-  for (uint32_t g = t - 1; g >= 1 && v <= k->hi[g]; g--) {
-    power_t r = power(k, ratio[g - 1] * v);
+  for (uint32_t g = t - 1; g >= 1 && x <= k->hi[g]; g--) {
+    if (UNLIKELY(g == 2 && x < k->lo_after && !second_fits(k, v, j, last, open))) continue;
+    power_t r = power(k, ratio[g - 1] * x);
     if (k->mm * r.q >= e * r.w) return g;
     if (r.q * m.w > m.q * r.w) m = r, best = g;
   }
@@ -209,12 +211,14 @@ INLINE uint32_t choose(const prep_t *k, uint32_t v, int32_t d, uint32_t t) {
 }
 
 #ifdef PLAIN_CHOOSE
-INLINE int plain_fits(const car_t *c, int first, uint32_t v, uint32_t g) {
-  uint32_t idle = c->idle, x = c->ratio[g - 1] * v;
+INLINE int plain_fits(const prep_t *k, const uint16_t *v, size_t j, int first, uint32_t last, size_t *open, uint32_t g) {
+  const car_t *c = k->c;
+  uint32_t idle = c->idle, x = c->ratio[g - 1] * v[j];
   if (x > 1000u * c->nmax) return 0;
   if (g == 1) return 1;
   if (first) return 0;
-  return x >= 1000u * (g == 2 ? (9 * idle + 5) / 10 : idle + (c->rated - idle + 4) / 8);
+  if (g == 2) return v[j] >= lowest_2(k, v, j, last, open);
+  return x >= 1000u * (idle + (c->rated - idle + 4) / 8);
 }
 INLINE power_t plain_power(const prep_t *k, uint32_t x) {
   const car_t *c = k->c;
@@ -229,24 +233,65 @@ INLINE power_t plain_power(const prep_t *k, uint32_t x) {
   power_t r = {1000 * p1 * w + (c->p[lo + 1] - p1) * ((int64_t)x - 1000 * n1), w};
   return r;
 }
-INLINE uint32_t plain_choose(const prep_t *k, int first, uint32_t v, int32_t d) {
+INLINE uint32_t plain_choose(const prep_t *k, const uint16_t *v, size_t j, int first, uint32_t last, size_t *open) {
   const car_t *c = k->c;
-  int64_t y = v, e = y * (k->a + y * (k->b + y * k->e2) + k->dm * d);
+  int32_t d = (int32_t)v[j + 1] - (int32_t)v[j];
+  int64_t y = v[j], e = y * (k->a + y * (k->b + y * k->e2) + k->dm * d);
   for (uint32_t g = k->ng; g >= 1; g--)
-    if (plain_fits(c, first, v, g)) {
-      power_t r = plain_power(k, c->ratio[g - 1] * v);
+    if (plain_fits(k, v, j, first, last, open, g)) {
+      power_t r = plain_power(k, c->ratio[g - 1] * v[j]);
       if (k->mm * r.q >= e * r.w) return g;
     }
   uint32_t best = 0;
   power_t m = {0, 1};
   for (uint32_t g = 1; g <= k->ng; g++)
-    if (plain_fits(c, first, v, g)) {
-      power_t r = plain_power(k, c->ratio[g - 1] * v);
+    if (plain_fits(k, v, j, first, last, open, g)) {
+      power_t r = plain_power(k, c->ratio[g - 1] * v[j]);
       if (!best || m.q * r.w <= r.q * m.w) best = g, m = r;
     }
   return best;
 }
 #endif
+
+/* 10 on [lo, hi), which begins and ends at rest: a dry run of first choices through each trip. */
+static __attribute__((noinline)) verdict_t want(const prep_t *k, const uint16_t *v, const uint8_t *h, size_t second, uint8_t gear, size_t lo, size_t hi) {
+  size_t open = 0;
+  uint32_t last = 0, t = 2, ng = k->ng;
+  for (size_t i = lo + 1; i < hi; i++) {
+    uint32_t x = v[i], held = i == second ? gear : h[i];
+    if (x < 10) last = 0;
+    else if (held) last = held;
+    else {
+#ifdef PLAIN_CHOOSE
+      (void)t, (void)ng;
+      last = plain_choose(k, v, i, last == 0, last, &open);
+#else
+      while (t < ng && x >= k->lo[t + 1]) t++;
+      while (t > 2 && x < k->lo[t]) t--;
+      if (last == 0) last = x <= k->hi[1];
+      else last = choose(k, v, i, last, &open, t);
+#endif
+      if (!last) return say(10, i);
+    }
+  }
+  return say(0, 0);
+}
+
+/* The first refusal of 4 to 10 on [lo, hi): gone through second by second only where the quick look finds something odd. The hold of one second is taken
+   as gear, where that second is in the trace. */
+INLINE verdict_t judge(const prep_t *k, const uint16_t *v, size_t n, const uint8_t *h, size_t second, uint8_t gear, size_t lo, size_t hi) {
+#ifndef PLAIN_CHECK
+  unsigned odd = speeds_odd(v, lo, hi, k->cap) | (v[lo] >= 10) | (v[hi - 1] >= 10) | (gear && hold_odd(k, gear, v[second]));
+  if (LIKELY(!odd)) {
+    if (!any(h, lo, hi)) return say(0, 0);
+    size_t i = lo;
+    while (i < hi && (!h[i] || i == second || LIKELY(!hold_odd(k, h[i], v[i])))) i++;
+    if (i == hi) return say(0, 0);
+  }
+#endif
+  verdict_t r = exact(k, v, n, h, second, gear, lo, hi);
+  return r.number ? r : want(k, v, h, second, gear, lo, hi);
+}
 
 INLINE uint8_t byte_of(const prep_t *k, uint32_t g, uint32_t v, int32_t d) {
   return (uint8_t)(g + (((d <= 0) & (k->c->ratio[g - 1] * v < k->idle1000)) << 4));
@@ -254,22 +299,22 @@ INLINE uint8_t byte_of(const prep_t *k, uint32_t g, uint32_t v, int32_t d) {
 
 #ifdef PLAIN_PASSES
 static __attribute__((noinline)) void passes(const prep_t *k, const uint16_t *v, const uint8_t *h, uint8_t *g, size_t n) {
-  uint32_t ng = k->ng, t = 1;
+  uint32_t ng = k->ng, t = 2;
+  size_t open = 0;
   const uint16_t *ratio = k->c->ratio;
   uint32_t top = 1000u * k->c->nmax;
   for (size_t j = 0; j < n; j++) {
     uint32_t x = v[j];
-    int32_t d = (int32_t)v[j + 1] - (int32_t)x;
 #ifdef PLAIN_CHOOSE
-    (void)t, (void)ng;
-    g[j] = h[j] ? h[j] : (uint8_t)plain_choose(k, j == 0, x, d);
+    (void)t, (void)ng, (void)x;
+    g[j] = h[j] ? h[j] : (uint8_t)plain_choose(k, v, j, j == 0, j ? g[j - 1] : 0, &open);
 #else
     if (h[j]) g[j] = h[j];
     else if (j == 0) g[j] = 1;
     else {
       while (t < ng && x >= k->lo[t + 1]) t++;
-      while (x < k->lo[t]) t--;
-      g[j] = (uint8_t)choose(k, x, d, t);
+      while (t > 2 && x < k->lo[t]) t--;
+      g[j] = (uint8_t)choose(k, v, j, g[j - 1], &open, t);
     }
 #endif
   }
@@ -304,8 +349,8 @@ INLINE size_t trip(const prep_t *k, const uint16_t *v, const uint8_t *h, uint8_t
 #else
 /* A trip from a on, its card and that of the second before; answers the standing second after it. */
 INLINE size_t trip(const prep_t *k, const uint16_t *v, const uint8_t *h, uint8_t *card, size_t a) {
-  size_t j = a, run = a;
-  uint32_t t = 1, ng = k->ng, x = v[a], next = v[a + 1];
+  size_t j = a, run = a, open = a;
+  uint32_t t = 2, ng = k->ng, x = v[a], next = v[a + 1];
   uint32_t g = h[a] ? h[a] : 1; /* the first choice here */
   uint32_t pa = 0, b1 = 0, b2 = 0, before = 0;
   card[a - 1] = (uint8_t)(16 + g);
@@ -318,12 +363,12 @@ INLINE size_t trip(const prep_t *k, const uint16_t *v, const uint8_t *h, uint8_t
       q = h[j + 1];
 #ifdef PLAIN_CHOOSE
       (void)t, (void)ng;
-      if (!q) q = plain_choose(k, 0, next, (int32_t)after - (int32_t)next);
+      if (!q) q = plain_choose(k, v, j + 1, 0, g, &open);
 #else
       if (!q) {
         while (t < ng && next >= k->lo[t + 1]) t++;
-        while (next < k->lo[t]) t--;
-        q = choose(k, next, (int32_t)after - (int32_t)next, t);
+        while (t > 2 && next < k->lo[t]) t--;
+        q = choose(k, v, j + 1, g, &open, t);
       }
 #endif
     }

@@ -55,7 +55,8 @@ struct gearcard_vehicle {
     7  hold above ng; in gearcard_hold, gear 0                        second
     8  hold at a standing second                                      second
     9  held gear turns the engine past nmax                           second
-   10  no gear fits, no hold                                          second
+   10  no gear fits, no hold; in gearcard_hold and gearcard_release   second
+       it may be a later second of the trip
    12  job ends early                                                 its length
    13  group not shortest, or over 65,535, or longer than 3 bytes     group's first byte
    14  version not 1                                                  place 0

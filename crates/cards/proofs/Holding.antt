@@ -21,13 +21,14 @@ use Rattle.rules.specs.Corrections.{card-at}
 use Rattle.rules.specs.Refusals.{Fault, said, refuse-at, _orelse_, when, span-fault, second-fault, edit-fault}
 use Rattle.rules.specs.Quick.{span-lo, span-hi, standing-fault, own-fault, quick-fault, reworked, quick-holds, quick-card}
 use Rattle.rules.proofs.Laws.Words.{clash, by-order}
-use Rattle.rules.proofs.Laws.Trips.{trip-of, stop-in}
+use Rattle.rules.proofs.Laws.Trips.{trip-of, start-before, stop-after, stop-in}
 use Rattle.gears.specs.declared.Numbers.{Numbers}
-use Rattle.gears.specs.Parts.{Counts, Has, Lent}
+use Rattle.gears.specs.Parts.{Counts, Lent}
 use Rattle.cards.specs.Rework.{Between, Fitting}
 use Rattle.checks.specs.declared.Span.{Span}
 use Rattle.checks.specs.Checks.{Spanned}
 use Rattle.checks.proofs.Rows.{opening, Opened, spanned, after-opening, opening-first, said-none, left-old, left-new}
+use Rattle.checks.specs.Want.{Resting}
 use Rattle.cards.proofs.Reworking.{between, fitting, ends-stand}
 use Rattle.cards.proofs.Working.{its-parts}
 
@@ -54,7 +55,7 @@ pub record MovingSecond (trip span : Span) (car : Vehicle) (vs hs old : List ℕ
 pub record Checked (x : Answer) (k : Numbers) (trip span : Span) (car : Vehicle) (vs hs old : List ℕ) (s g : ℕ) : Type 0 where
   pub second : MovingSecond trip span car vs hs old s g
   pub counts : Counts car k
-  pub says : (one : Vehicle) → Has one k (car .ratio) → said x ≡ span-fault one vs (set hs s g) (span .lo) (span .hi)
+  pub says : (one : Vehicle) → Lent one k (car .ratio) (car .n) (car .p) → said x ≡ span-fault one vs (set hs s g) (span .lo) (span .hi)
 
 module _ (car : Vehicle) (vs hs old : List ℕ) (s g : ℕ) where
   -- what it says, and leaves in the holds and in the card
@@ -119,26 +120,40 @@ module _ {trip span : Span} {car : Vehicle} {vs hs old : List ℕ} {s g : ℕ} (
       let c = stop-in vs s (M .moves) in
       spanned K (M .place .opened) (omega (arith, M .span-from, M .span-to, M .trip-from, M .trip-to)) (omega (arith, M .span-to))
 
+  -- the span begins and ends at rest, or with the trace
+  pub span-resting : Resting vs (span .lo) (span .hi)
+  span-resting =
+      let t = trip-of vs s (M .moves) in
+      let c = stop-in vs s (M .moves) in
+      let from : span .lo ≡ start vs s - 1 = omega (arith, M .span-from, M .trip-from) in
+      let to : span .hi ≡ min (stop vs s + 1) (length vs) = M .span-to ∙ rw (M .trip-to) in
+      record {
+        some = omega arith;
+        begins = λ z. by-order 0 (start vs s) (λ l. start-before vs s (span .lo) (omega arith)) (λ l. absurd (z (omega arith)));
+        ends = λ z. by-order (stop vs s) (length vs)
+            (λ l. let e : span .hi - 1 ≡ stop vs s = omega arith in rw e (stop-after vs s)) (λ l. absurd (z (omega arith)));
+      }
+
 module _ {x : Answer} {k : Numbers} {trip span : Span} {car : Vehicle} {vs hs old : List ℕ} {s g : ℕ} (C : Checked x k trip span car vs hs old s g) where
+  -- the parts that are lent
+  pub span-parts : Lent car k (car .ratio) (car .n) (car .p)
+  span-parts = its-parts (C .counts) (C .second .place .opened)
+
   -- what the checks of the span said is what the quick way says
   quick-says : said x ≡ quick-fault car vs hs old s g
   unfolding own-fault
   quick-says =
       let M = C .second in
-      C .says car (record { counts = C .counts; ratios = refl }) ∙ sym (quick-is (M .place) ∙ rw (M .moves, ← lo-is M, ← hi-is M))
+      C .says car span-parts ∙ sym (quick-is (M .place) ∙ rw (M .moves, ← lo-is M, ← hi-is M))
 
   pub span-refused : {q : Refusal} → x ≡ Refused q → Outcome car vs hs old s g (said x) hs old
   span-refused h = refuses car vs hs old s g quick-says h
 
-  -- the parts that are lent
-  pub span-parts : Lent car k (car .ratio) (car .n) (car .p)
-  span-parts = its-parts (C .counts) (C .second .place .opened)
-
   module _ (h : x ≡ Done) where
     -- the checks passed, of every vehicle of these parts
-    module _ {one : Vehicle} {n p : List ℕ} (L : Lent one k (car .ratio) n p) where
+    module _ {one : Vehicle} (L : Lent one k (car .ratio) (car .n) (car .p)) where
       span-passed : span-fault one vs (set hs s g) (span .lo) (span .hi) ≡ none
-      span-passed = said-none (C .says one (L .has)) h
+      span-passed = said-none (C .says one L) h
 
       -- a trip that passes reaches neither end of the trace
       no-end : (i : ℕ) → span .lo ≤ i → i < span .hi → moving (at vs i) ≡ true → (i ≡ 0) ⊎ (suc i ≡ length vs) → ⊥
@@ -175,4 +190,4 @@ module _ {x : Answer} {k : Numbers} {trip span : Span} {car : Vehicle} {vs hs ol
 
     pub span-done : {new : List ℕ} → new ≡ patch old (trip .lo - 1) (trip .hi) (card-at car vs (set hs s g)) → Outcome car vs hs old s g (said Done) (set hs s g) new
     unfolding reworked span-lo
-    span-done c = let M = C .second in accepts car vs hs old s g (sym quick-says ∙ C .says car (span-parts .has) ∙ span-passed span-parts) refl (c ∙ rw (M .moves, M .trip-from, M .trip-to))
+    span-done c = let M = C .second in accepts car vs hs old s g (sym quick-says ∙ C .says car span-parts ∙ span-passed span-parts) refl (c ∙ rw (M .moves, M .trip-from, M .trip-to))

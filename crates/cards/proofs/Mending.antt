@@ -24,14 +24,15 @@ use Rattle.rules.proofs.Laws.Words.{by-order}
 use Rattle.rules.proofs.Laws.Trips.{start-le, start-before, stop-le, stop-after, stop-to}
 use Rattle.rules.proofs.Laws.Mend.{lo-kept, hi-kept, end-kept, mend-spans}
 use Rattle.gears.specs.declared.Numbers.{Numbers}
-use Rattle.gears.specs.Parts.{Counts, Has, Lent}
+use Rattle.gears.specs.Parts.{Counts, Lent}
 use Rattle.cards.specs.Rework.{Range, Passes}
 use Rattle.checks.specs.declared.Span.{Span}
 use Rattle.checks.specs.Checks.{Spanned}
 use Rattle.checks.specs.Calm.{Around}
-use Rattle.checks.proofs.Rows.{opening, Opened, after-opening, opening-first, said-none, left-old, left-new}
+use Rattle.checks.specs.Want.{Resting}
+use Rattle.checks.proofs.Rows.{opening, Opened, spanned, after-opening, opening-first, said-none, left-old, left-new}
 use Rattle.cards.proofs.Reworking.{ends-stand}
-use Rattle.cards.proofs.Working.{spanned, its-parts}
+use Rattle.cards.proofs.Working.{its-parts}
 
 -- past the opening, at a second of the trace, with what may change and the span that is looked at, both of the old speeds
 pub record Placed (range span : Span) (car : Vehicle) (vs hs old : List ℕ) (s v : ℕ) : Type 0 where
@@ -46,7 +47,7 @@ pub record Placed (range span : Span) (car : Vehicle) (vs hs old : List ℕ) (s 
 pub record Checked (x : Answer) (k : Numbers) (range span : Span) (car : Vehicle) (vs hs old : List ℕ) (s v : ℕ) : Type 0 where
   pub placed : Placed range span car vs hs old s v
   pub counts : Counts car k
-  pub says : (one : Vehicle) → Has one k (car .ratio) → said x ≡ span-fault one (set vs s v) hs (span .lo) (span .hi)
+  pub says : (one : Vehicle) → Lent one k (car .ratio) (car .n) (car .p) → said x ≡ span-fault one (set vs s v) hs (span .lo) (span .hi)
 
 module _ (car : Vehicle) (vs hs old : List ℕ) (s v : ℕ) where
   -- what it says, and leaves in the speeds and in the card
@@ -98,24 +99,39 @@ module _ {range span : Span} {car : Vehicle} {vs hs old : List ℕ} {s v : ℕ} 
       let l = lies in
       (spanned K (P .opened) (omega (arith, l .0, l .1)) (l .2), record { since = l .0; until = l .1; inside = l .2 })
 
+  -- it begins and ends with a standing second, or with the trace, as the new speeds are
+  pub span-resting : Resting (set vs s v) (span .lo) (span .hi)
+  unfolding mend-lo mend-hi
+  span-resting =
+      let l = lies in
+      let ws = set vs s v in
+      let n : length ws ≡ length vs = length-set vs s v in
+      let a : span .lo ≡ start ws s - 1 = lo-is in
+      let b : range .hi ≡ stop ws (suc s) = P .range-to ∙ sym (hi-kept vs s v) in
+      record {
+        some = omega (arith, l .0, l .1);
+        begins = λ z. start-before ws s (span .lo) (omega arith);
+        ends = λ z. let e : span .hi - 1 ≡ stop ws (suc s) = omega (arith, P .span-to) in rw e (stop-after ws (suc s));
+      }
+
 module _ {x : Answer} {k : Numbers} {range span : Span} {car : Vehicle} {vs hs old : List ℕ} {s v : ℕ} (C : Checked x k range span car vs hs old s v) where
-  -- what the checks of the span said is what mending says
-  mend-says : said x ≡ mend-fault car vs hs old s v
-  unfolding mended-fault
-  mend-says = let P = C .placed in C .says car (record { counts = C .counts; ratios = refl }) ∙ sym (mend-is P ∙ rw (← lo-is P, ← hi-is P))
-
-  pub span-refused : {q : Refusal} → x ≡ Refused q → Outcome car vs hs old s v (said x) vs old
-  span-refused h = refuses car vs hs old s v mend-says h
-
   -- the parts that are lent
   pub span-parts : Lent car k (car .ratio) (car .n) (car .p)
   span-parts = its-parts (C .counts) (C .placed .opened)
 
+  -- what the checks of the span said is what mending says
+  mend-says : said x ≡ mend-fault car vs hs old s v
+  unfolding mended-fault
+  mend-says = let P = C .placed in C .says car span-parts ∙ sym (mend-is P ∙ rw (← lo-is P, ← hi-is P))
+
+  pub span-refused : {q : Refusal} → x ≡ Refused q → Outcome car vs hs old s v (said x) vs old
+  span-refused h = refuses car vs hs old s v mend-says h
+
   module _ (h : x ≡ Done) where
     -- the checks passed, of every vehicle of these parts
-    module _ {one : Vehicle} {n p : List ℕ} (L : Lent one k (car .ratio) n p) where
+    module _ {one : Vehicle} (L : Lent one k (car .ratio) (car .n) (car .p)) where
       span-passed : span-fault one (set vs s v) hs (span .lo) (span .hi) ≡ none
-      span-passed = said-none (C .says one (L .has)) h
+      span-passed = said-none (C .says one L) h
 
       pub span-passes : Passes one (set vs s v) hs (range .lo) (range .hi)
       span-passes =
@@ -153,4 +169,4 @@ module _ {x : Answer} {k : Numbers} {range span : Span} {car : Vehicle} {vs hs o
     unfolding mended-card
     span-done c =
         let P = C .placed in
-        accepts car vs hs old s v (sym mend-says ∙ C .says car (span-parts .has) ∙ span-passed span-parts) refl (c ∙ rw (P .range-from, P .range-to, lo-kept vs s v, hi-kept vs s v))
+        accepts car vs hs old s v (sym mend-says ∙ C .says car span-parts ∙ span-passed span-parts) refl (c ∙ rw (P .range-from, P .range-to, lo-kept vs s v, hi-kept vs s v))

@@ -28,6 +28,7 @@ use Rattle.gears.specs.declared.Numbers.{Numbers}
 use Rattle.gears.specs.Parts.{Counts}
 use Rattle.gears.proofs.Parts.{ng-of}
 use Rattle.trips.specs.Trip.{trip-bytes}
+use Rattle.checks.proofs.Dry.{step-small, end-second}
 use Rattle.trips.proofs.Bytes.{trip-is}
 use Rattle.cards.proofs.Patches.{length-patch, patch-none, patch-join, patch-join-back, patch-one, patch-part}
 use Rattle.cards.specs.Rework.{Between, Fitting, Range, Passes, At}
@@ -41,14 +42,6 @@ standing-card car vs hs i r m = rw (r, m)
 pub resting-card : (car : Vehicle) (vs hs : List ℕ) (i : ℕ) → moving (at vs i) ≡ false → moving (at vs (suc i)) ≡ false → card-at car vs hs i ≡ 0
 unfolding card-at
 resting-card car vs hs i r m = rw (r, m)
-
--- a step that passes is at most 150
-step-small : (car : Vehicle) (vs hs : List ℕ) (lo i : ℕ) → lo ≤ i → suc i < length vs → bad step car vs hs lo (suc i) ≡ false → natAbs (rise vs i) ≤ steepest
-unfolding bad rise _and_
-step-small car vs hs lo i a b e =
-    let x : suc i - 1 ≡ i = omega arith in
-    let f = rw (lt-ltb lo (suc i) (omega arith), x) at e in
-    rw (lt-ltb (suc i) (length vs) b) (natAbs-gap (at vs (suc i)) (at vs i) steepest (ltb-false _ _ (or-left _ _ f)) (ltb-false _ _ (or-right _ _ f)))
 
 -- a trip between two standing seconds of a span that passes
 module _ (car : Vehicle) (vs hs : List ℕ) (lo hi a b : ℕ) (e : span-fault car vs hs lo hi ≡ none) (x : lo < a) (y : b < hi) where
@@ -129,12 +122,7 @@ module _ {vs hs old : List ℕ} {a b : ℕ} (B : Between vs hs old a b) where
 
 -- ---- a standing second with the trip that follows it
 
--- the first or the last second
-end-second : (i n : ℕ) → (i ≡ 0) ⊎ (suc i ≡ n) → (eqb i 0 or eqb (suc i) n) ≡ true
-unfolding _or_
-end-second i n o = elim o [ inl x ↦ rw (eq-eqb i 0 x) | inr x ↦ by-test (eqb i 0) (λ t. rw t) (λ t. rw (t, eq-eqb (suc i) n x)) ]
-
--- where a span passes, such a second of it stands
+-- where a span passes, the trace's first or last second stands
 pub ends-stand : (car : Vehicle) (vs hs : List ℕ) (lo hi : ℕ) → span-fault car vs hs lo hi ≡ none → (i : ℕ) → lo ≤ i → i < hi → (i ≡ 0) ⊎ (suc i ≡ length vs) → moving (at vs i) ≡ false
 unfolding bad
 ends-stand car vs hs lo hi e i a b o =

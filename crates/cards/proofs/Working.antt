@@ -20,8 +20,10 @@ use Rattle.rules.specs.Refusals.{Fault, said, refuse-at, _orelse_, when, span-f
 use Rattle.rules.specs.Quick.{standing-fault}
 use Rattle.rules.proofs.Laws.Words.{by-order}
 use Rattle.rules.proofs.Laws.Trips.{standing-past}
+use Rattle.rules.proofs.Laws.Checks.{trace-in}
 use Rattle.gears.specs.declared.Numbers.{Numbers}
 use Rattle.gears.specs.Parts.{Counts, Lent}
+use Rattle.checks.specs.Want.{Resting}
 use Rattle.checks.proofs.Rows.{opening, Opened, after-opening, opening-first, said-none, left-old, left-new}
 use Rattle.cards.specs.Rework.{Range, Passes}
 use Rattle.cards.proofs.Patches.{patch-all}
@@ -37,6 +39,10 @@ module _ (car : Vehicle) (vs hs old : List ℕ) where
 -- the parts that are lent of a vehicle whose opening has passed
 pub its-parts : {k : Numbers} {car : Vehicle} {vs hs old : List ℕ} → Counts car k → Opened car vs hs old → Lent car k (car .ratio) (car .n) (car .p)
 its-parts K O = record { has = record { counts = K; ratios = refl }; speeds = refl; powers = refl; bounds = O .bounds }
+
+-- the whole trace begins and ends with itself
+pub whole-resting : {car : Vehicle} {vs hs old : List ℕ} → Opened car vs hs old → Resting vs 0 (length vs)
+whole-resting {vs = vs} O = record { some = trace-in vs (O .trace) .0; begins = λ z. absurd (z refl); ends = λ z. absurd (z refl) }
 
 -- past the opening; no hold is replaced
 module _ {car : Vehicle} {vs hs old : List ℕ} (O : Opened car vs hs old) where

@@ -67,6 +67,8 @@ pub fn edit(
     let span = check_span(
         k,
         &vehicle.ratio,
+        &vehicle.n,
+        &vehicle.p,
         speeds,
         holds,
         asked,

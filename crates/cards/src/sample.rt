@@ -61,7 +61,16 @@ pub fn mend(
     };
     let k = numbers_of(vehicle);
     let sample = Sample { second, speed };
-    let span = check_mended(k, &vehicle.ratio, speeds, holds, sample, looked_at);
+    let span = check_mended(
+        k,
+        &vehicle.ratio,
+        &vehicle.n,
+        &vehicle.p,
+        speeds,
+        holds,
+        sample,
+        looked_at,
+    );
     let Answer::Done = span else {
         return span;
     };

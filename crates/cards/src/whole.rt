@@ -27,7 +27,16 @@ pub fn work<'a>(vehicle: Vehicle, speeds: &'a [u16], holds: &'a [u8], card: &mut
         second: seconds,
         gear: 0,
     };
-    let span = check_span(k, &vehicle.ratio, speeds, holds, none, all);
+    let span = check_span(
+        k,
+        &vehicle.ratio,
+        &vehicle.n,
+        &vehicle.p,
+        speeds,
+        holds,
+        none,
+        all,
+    );
     let Answer::Done = span else {
         return span;
     };

@@ -38,7 +38,7 @@ pub check-seconds : Determined check-seconds-kinds.ps check-seconds-kinds.r chec
 check-seconds κs a asked z z′ ws ws′ p q = let H = built-has (a .0) (now (a .1 .0)) in (said-once z z′ (p _ H ∙ sym (q _ H)), refl)
 
 pub check-span : Determined check-span-kinds.ps check-span-kinds.r check-span-reads.Asked check-span-reads.Learnt
-check-span κs a asked z z′ ws ws′ p q = let H = built-has (a .0) (now (a .1 .0)) in (said-once z z′ (p _ H ∙ sym (q _ H)), refl)
+check-span κs a asked z z′ ws ws′ p q = let car = asked .0 .car in let L = asked .0 .lent in (said-once z z′ (p car L ∙ sym (q car L)), refl)
 
 pub check-mended : Determined check-mended-kinds.ps check-mended-kinds.r check-mended-reads.Asked check-mended-reads.Learnt
-check-mended κs a asked z z′ ws ws′ p q = let H = built-has (a .0) (now (a .1 .0)) in (said-once z z′ (p _ H ∙ sym (q _ H)), refl)
+check-mended κs a asked z z′ ws ws′ p q = let car = asked .0 .car in let L = asked .0 .lent in (said-once z z′ (p car L ∙ sym (q car L)), refl)

@@ -6,4 +6,5 @@ pub mod Tests
 pub mod Calmness
 pub mod Pieces
 pub mod Wanting
+pub mod Dry
 pub mod Determined

@@ -7,14 +7,11 @@ use native.Mathlib.Omega.{arith}
 use mathlib.Core.Path.{_≡_, sym, ap, _∙_}
 use mathlib.Core.Bool.{Bool, true, false, not}
 use mathlib.Core.List.{List}
-use lib.Dec.{eqb}
 use lib.ListN.{length, drop, drop-of-length-le}
 use lib.Seq.{drop-cons}
-use borrow.Author.Tests.{eq-eqb, ne-eqb, not-true, not-false}
+use borrow.Author.Tests.{not-true, not-false}
 use Rattle.rules.specs.Words.{at}
 use Rattle.rules.specs.Units.{moving, start, run, stop}
-use Rattle.rules.proofs.Laws.Words.{by-test}
-use Rattle.rules.proofs.Laws.Trips.{start-le}
 
 -- what the code found not to be so is not, and what it did not find not to be so is
 pub not-so : {r t : Bool} → r ≡ t → not r ≡ true → t ≡ false
@@ -57,22 +54,3 @@ module _ (vs : List ℕ) (k : ℕ) where
   pub stop-end : length vs ≤ k → k ≡ stop vs k
   unfolding stop run
   stop-end h = sym (rw (drop-of-length-le vs h) (add-zero k))
-
-  -- ---- whether second k is the first of its trip
-
-  -- the scan to the left went nowhere
-  pub begins-here : k ≡ start vs k → true ≡ eqb (k - start vs k) 0
-  begins-here e = sym (eq-eqb (k - start vs k) 0 (omega arith))
-
-  -- the second before lies in the same trip
-  pub begins-before : 0 < k → moving (at vs (k - 1)) ≡ true → false ≡ eqb (k - start vs k) 0
-  begins-before h l =
-      let s : start vs k ≤ k - 1 = rw (start-more h l) (start-le vs (k - 1)) in
-      sym (ne-eqb (k - start vs k) 0 (λ z. omega arith))
-
-  -- so it begins exactly where the second before is standing
-  pub begins-not : 0 < k → not (moving (at vs (k - 1))) ≡ eqb (k - start vs k) 0
-  begins-not h =
-      by-test (moving (at vs (k - 1)))
-      (λ t. rw t (begins-before h t))
-      (λ t. rw t (begins-here (start-here h t)))

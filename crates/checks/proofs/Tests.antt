@@ -10,21 +10,17 @@ use lib.ListN.{length}
 use borrow.Author.Tests.{lt-ltb, le-ltb, le-leb, lt-leb, eq-eqb, ne-eqb}
 use Rattle.rules.specs.declared.Vehicle.{Vehicle}
 use Rattle.rules.specs.Words.{if_then_else_, _and_, _or_, at, highest}
-use Rattle.rules.specs.Units.{fastest, steepest, moving, start}
+use Rattle.rules.specs.Units.{fastest, steepest, moving}
 use Rattle.rules.specs.Gears.{engine, under-nmax, fits}
-use Rattle.rules.specs.Corrections.{here}
+use Rattle.rules.specs.Corrections.{place-at}
 use Rattle.rules.specs.Refusals.{speed, step, ends, over-ng, at-rest, over-rev, no-gear, check-number, checks, bad}
 use Rattle.rules.proofs.Laws.Words.{by-order, and-no}
-use Rattle.rules.proofs.Laws.Cards.{at-trip, first-at-is}
+use Rattle.rules.proofs.Laws.Cards.{first-at-is}
 use Rattle.rules.proofs.Laws.Choice.{choice-none-fits}
 use Rattle.gears.specs.declared.Numbers.{Numbers}
 use Rattle.gears.specs.Parts.{Has}
 use Rattle.gears.proofs.Parts.{ng-of, nmax-of, engine-of}
 use Rattle.checks.specs.Checks.{fault-no, hold-checks}
-
-not-not : (t : Bool) → not (not t) ≡ t
-not-not true = refl
-not-not false = refl
 
 -- a number that is not below k, nor k, as the last arm of a match knows it of each arm before
 pub past : {b k : ℕ} → k ≤ b → (b ≡ k → ⊥) → k < b
@@ -130,16 +126,11 @@ module _ (car : Vehicle) (vs hs : List ℕ) (lo i : ℕ) where
   unfolding bad _and_
   gear-held s m n = rw (m, first-at-is car vs hs s i m, ne-eqb (at hs i) 0 n) (sym (ne-eqb (at hs i) 0 n))
 
-  -- a second without one wants a gear exactly where no gear fits: power does not come into it
-  pub gear-free : length hs ≡ length vs → moving (at vs i) ≡ true → at hs i ≡ 0 → {t : Bool} → t ≡ eqb (i - start vs i) 0
-      → bad no-gear car vs hs lo i ≡ eqb (highest (fits car (record { first-second = t }) (at vs i)) (car .ng)) 0
-  unfolding bad _and_ here
-  gear-free s m e f = rw (m, first-at-is car vs hs s i m, eq-eqb (at hs i) 0 e, f) (choice-none-fits car (at-trip car vs hs s i m) (at vs i) _)
-
-  -- the code asks whether some gear fits
-  pub gear-want : length hs ≡ length vs → moving (at vs i) ≡ true → at hs i ≡ 0 → {t some : Bool} → t ≡ eqb (i - start vs i) 0
-      → some ≡ not (eqb (highest (fits car (record { first-second = t }) (at vs i)) (car .ng)) 0) → not some ≡ bad no-gear car vs hs lo i
-  gear-want s m e f h = ap not h ∙ not-not _ ∙ sym (gear-free s m e f)
+  -- a second without one wants a gear exactly where no gear fits
+  pub gear-free : length hs ≡ length vs → moving (at vs i) ≡ true → at hs i ≡ 0
+      → bad no-gear car vs hs lo i ≡ eqb (highest (fits car (place-at car vs hs i) (at vs i)) (car .ng)) 0
+  unfolding bad _and_
+  gear-free s m e = rw (m, first-at-is car vs hs s i m, eq-eqb (at hs i) 0 e) (choice-none-fits car (place-at car vs hs i) (at vs i) _)
 
 -- ---- the first check that fails, of those that look at a hold
 

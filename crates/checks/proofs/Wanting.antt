@@ -8,17 +8,21 @@ use mathlib.Core.Bool.{Bool, true, false, not}
 use mathlib.Core.List.{List}
 use mathlib.Core.Option.{Option, none, some}
 use lib.Dec.{eqb}
-use lib.ListN.{length}
+use lib.ListN.{length, drop}
 use borrow.Author.Tests.{le-leb, leb-false, eqb-true, eqb-false, ne-eqb, not-true}
 use Rattle.rules.specs.declared.Vehicle.{Vehicle}
+use Rattle.rules.specs.declared.Place.{Place}
+use Rattle.rules.specs.declared.Place.the-variants.{AfterLow}
 use Rattle.rules.specs.Words.{if_then_else_, _and_, _or_, at, first, highest}
-use Rattle.rules.specs.Units.{fastest, steepest, moving, start}
-use Rattle.rules.specs.Gears.{minimum, engine, under-nmax, over-minimum, allowed, fits}
+use Rattle.rules.specs.Units.{low, fastest, steepest, moving, start}
+use Rattle.rules.specs.Gears.{is-first, minimum, engine, under-nmax, over-minimum, allowed, fits}
+use Rattle.rules.specs.Corrections.{closing, place-of, first-at, place-at}
 use Rattle.rules.specs.Refusals.{Fault, refuse-at, _orelse_, step, no-gear, check-number, last-check, bad, fault-of, seconds-fault, gear-fault}
 use Rattle.rules.proofs.Laws.Words.{clash, by-test, by-order, by-eq, first-none}
 use Rattle.rules.proofs.Laws.Walk.{one-holds}
 use Rattle.rules.proofs.Laws.Trips.{start-le}
 use Rattle.rules.proofs.Laws.Checks.{step-passed}
+use Rattle.rules.proofs.Theorems.{fits-at-any}
 use Rattle.gears.specs.declared.Numbers.{Numbers}
 use Rattle.gears.specs.Parts.{Has}
 use Rattle.gears.proofs.Parts.{low-is, ng-of, nmax-of, engine-of}
@@ -41,45 +45,50 @@ reached a b v m most over on =
     h)
     (λ h. let e : a ≡ 0 = omega arith in let z : 1000 * most < 0 * v = rw e at over in absurd (omega (arith, zero-mul v)))
 
-module _ {car : Vehicle} {k : Numbers} {ratio : List ℕ} (H : Has car k ratio) (v : ℕ) where
-  -- gear 1 has no minimum, and may fit at any second
-  low-fits : (t : Bool) → at ratio 0 * v ≤ 1000 * k .nmax → fits car (record { first-second = t }) v 1 ≡ true
-  unfolding fits allowed over-minimum under-nmax _and_ _or_
-  low-fits t h = let l : engine car 1 v ≤ 1000 * car .nmax = omega (arith, engine-of H 1 v, nmax-of (H .counts)) in rw (low-is car, le-leb _ _ l)
+-- a second is its trip's first where its trip begins
+first-place : (car : Vehicle) (begins closes : Bool) (before : ℕ) → is-first (place-of car begins closes before) ≡ begins
+unfolding place-of is-first
+first-place car true closes before = refl
+first-place car false true before = refl
+first-place car false false before = by-test (eqb before (low car)) (λ t. rw t) (λ t. rw t)
 
-  -- a gear above it, past a trip's first second
-  high-fits : (g : ℕ) → 1 ≤ g → 1000 * minimum car (g + 1) ≤ at ratio g * v → at ratio g * v ≤ 1000 * k .nmax
-      → fits car (record { first-second = false }) v (g + 1) ≡ true
+module _ {car : Vehicle} {k : Numbers} {ratio : List ℕ} (H : Has car k ratio) (v : ℕ) where
+  -- the lowest gear has no minimum, and may fit at any second
+  low-fits : (here : Place) → at ratio 0 * v ≤ 1000 * k .nmax → fits car here v 1 ≡ true
   unfolding fits allowed over-minimum under-nmax _and_ _or_
+  low-fits here h = let l : engine car 1 v ≤ 1000 * car .nmax = omega (arith, engine-of H 1 v, nmax-of (H .counts)) in rw (low-is car, le-leb _ _ l)
+
+  -- a gear above it, after the lowest gear, where its minimum is highest
+  high-fits : (g : ℕ) → 1 ≤ g → 1000 * minimum car AfterLow (g + 1) ≤ at ratio g * v → at ratio g * v ≤ 1000 * k .nmax → fits car AfterLow v (g + 1) ≡ true
+  unfolding fits allowed over-minimum under-nmax is-first _and_ _or_
   high-fits g a l h =
       let e : g + 1 - 1 ≡ g = omega arith in
       let x : engine car (g + 1) v ≡ at ratio g * v = engine-of H (g + 1) v ∙ rw e in
-      let up : 1000 * minimum car (g + 1) ≤ engine car (g + 1) v = omega arith in
+      let up : 1000 * minimum car AfterLow (g + 1) ≤ engine car (g + 1) v = omega arith in
       let to : engine car (g + 1) v ≤ 1000 * car .nmax = omega (arith, nmax-of (H .counts)) in
       rw (low-is car, le-leb 1 (g + 1) (omega arith), ne-eqb (g + 1) 1 (λ z. omega arith), le-leb _ _ up, le-leb _ _ to)
 
-  module _ (on : Each (Follows k ratio) 1 (k .ng)) where
-    -- from a gear that turns no faster than nmax down to the floor, which fits: it is gear 1, or the gear below it turns past nmax
-    floor-fits : (j : ℕ) → j < k .ng → at ratio j * v ≤ 1000 * k .nmax
-        → true ≡ not (eqb (highest (fits car (record { first-second = false }) v) (k .ng)) 0)
-    floor-fits zero a h = one-holds _ (k .ng) 1 (omega arith) (omega arith) (low-fits false h)
+  module _ (on : Each (Follows k ratio) 1 (k .ng)) (here : Place) (later : is-first here ≡ false) where
+    -- from a gear that turns no faster than nmax down to the floor, which fits: it is the lowest, or the gear below it turns past nmax
+    floor-fits : (j : ℕ) → j < k .ng → at ratio j * v ≤ 1000 * k .nmax → true ≡ not (eqb (highest (fits car here v) (k .ng)) 0)
+    floor-fits zero a h = one-holds _ (k .ng) 1 (omega arith) (omega arith) (low-fits here h)
     floor-fits (suc j) a h =
         by-order (1000 * k .nmax) (at ratio j * v)
         (λ over.
         let e : suc j - 1 ≡ j = omega arith in
-        let m = minimum car (suc j + 1) in
+        let m = minimum car AfterLow (suc j + 1) in
         let o : m * at ratio j ≤ k .nmax * at ratio (suc j) = rw e at (on (suc j) (omega arith) a car (H .counts)) in
         one-holds _ (k .ng) (suc j + 1) (omega arith) (omega arith)
-        (high-fits (suc j) (omega arith) (reached (at ratio j) (at ratio (suc j)) v m (k .nmax) over o) h))
+        (fits-at-any car here v (suc j + 1) later (high-fits (suc j) (omega arith) (reached (at ratio j) (at ratio (suc j)) v m (k .nmax) over o) h)))
         (λ under. floor-fits j (omega arith) under)
 
   -- so that some gear fits at every speed up to `most`, and at the first second of a trip at every speed up to 159
-  some-gear : {most : ℕ} → NoGap k ratio most → v ≤ most → (t : Bool) → (t ≡ true → v ≤ 159)
-      → true ≡ not (eqb (highest (fits car (record { first-second = t }) v) (k .ng)) 0)
-  some-gear d a true b =
-      one-holds _ (k .ng) 1 (omega arith) (d .some) (low-fits true (le-trans (mul-le-mul-left (at ratio 0) (b refl)) (d .at-first)))
-  some-gear d a false b =
-      floor-fits (d .covered) (k .ng - 1) (omega (arith, d .some)) (le-trans (mul-le-mul-left (at ratio (k .ng - 1)) a) (d .at-most))
+  some-gear : {most : ℕ} → NoGap k ratio most → v ≤ most → (here : Place) → (is-first here ≡ true → v ≤ 159)
+      → true ≡ not (eqb (highest (fits car here v) (k .ng)) 0)
+  some-gear d a here b =
+      by-test (is-first here)
+      (λ t. one-holds _ (k .ng) 1 (omega arith) (d .some) (low-fits here (le-trans (mul-le-mul-left (at ratio 0) (b t)) (d .at-first))))
+      (λ t. floor-fits (d .covered) here t (k .ng - 1) (omega (arith, d .some)) (le-trans (mul-le-mul-left (at ratio (k .ng - 1)) a) (d .at-most)))
 
 -- ---- so no second wants one
 
@@ -98,12 +107,12 @@ module _ {car : Vehicle} {k : Numbers} {ratio : List ℕ} (H : Has car k ratio) 
         (λ h. clash (sym (step-large car vs hs lo i l h)) (step-passed car vs hs lo hi (sym before) i since until)) (λ h. h)
 
     -- a trip's first second is one step above a standing one
-    first-slow : moving (at vs i) ≡ true → eqb (i - start vs i) 0 ≡ true → at vs i ≤ 159
+    first-slow : moving (at vs i) ≡ true → eqb i (start vs i) ≡ true → at vs i ≤ 159
     unfolding moving
     first-slow m t =
         let l : lo < i = inner m in
         let g : gap-at vs i ≤ steepest = step-in l in
-        let z : i - start vs i ≡ 0 = eqb-true _ _ t in
+        let z : i ≡ start vs i = eqb-true _ _ t in
         by-test (moving (at vs (i - 1)))
         (λ s.
         let e : start vs i ≡ start vs (i - 1) = start-more vs i (omega arith) s in
@@ -112,14 +121,16 @@ module _ {car : Vehicle} {k : Numbers} {ratio : List ℕ} (H : Has car k ratio) 
         (λ s. let u : at vs (i - 1) < 10 = leb-false 10 (at vs (i - 1)) s in omega arith)
 
     gear-good : bad no-gear car vs hs lo i ≡ false
+    unfolding place-at
     gear-good =
         by-test (moving (at vs i))
         (λ m. by-test (eqb (at hs i) 0)
         (λ t.
         let free : at hs i ≡ 0 = eqb-true _ _ t in
-        gear-free car vs hs lo i rooms m free refl
-        ∙ ap (λ (g : ℕ). eqb (highest (fits car (record { first-second = eqb (i - start vs i) 0 }) (at vs i)) g) 0) (ng-of (H .counts))
-        ∙ not-true _ (sym (some-gear H (at vs i) gears (speeds i since until) (eqb (i - start vs i) 0) (first-slow m))))
+        let here = place-at car vs hs i in
+        gear-free car vs hs lo i rooms m free
+        ∙ ap (λ (g : ℕ). eqb (highest (fits car here (at vs i)) g) 0) (ng-of (H .counts))
+        ∙ not-true _ (sym (some-gear H (at vs i) gears (speeds i since until) here (λ f. first-slow m (sym (first-place car (eqb i (start vs i)) (closing (drop i vs)) (first-at car vs hs (i - 1))) ∙ f)))))
         (λ t. sym (gear-held car vs hs lo i rooms m (eqb-false _ _ t))))
         (λ m. sym (gear-standing car vs hs lo i m))
 

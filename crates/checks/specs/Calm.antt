@@ -7,6 +7,7 @@ use mathlib.Core.Bool.{false}
 use mathlib.Core.List.{List}
 use lib.ListN.{length}
 use Rattle.rules.specs.declared.Vehicle.{Vehicle}
+use Rattle.rules.specs.declared.Place.the-variants.{AfterLow}
 use Rattle.rules.specs.Words.{at}
 use Rattle.rules.specs.Units.{moving}
 use Rattle.rules.specs.Gears.{minimum}
@@ -43,9 +44,9 @@ pub record Stands (vs : List ℕ) (lo hi : ℕ) : Type 0 where
   pub first : moving (at vs lo) ≡ false
   pub last : moving (at vs (hi - 1)) ≡ false
 
--- gear g, of ratio `this`, has reached its minimum wherever the gear below it turns past nmax, by the ratios alone
+-- gear g, of ratio `this`, has reached the highest of its minima wherever the gear below it turns past nmax, by the ratios alone
 abbrev pub HandsOn : Numbers → ℕ → ℕ → ℕ → Type 0
-HandsOn k g below this = (car : Vehicle) → Counts car k → minimum car g * below ≤ k .nmax * this
+HandsOn k g below this = (car : Vehicle) → Counts car k → minimum car AfterLow g * below ≤ k .nmax * this
 
 -- so gear j + 1, whose ratio stands at place j
 abbrev pub Follows : Numbers → List ℕ → ℕ → Type 0

@@ -42,8 +42,3 @@ pub record Spanned (k : Numbers) (vs hs : List ℕ) (lo hi : ℕ) : Type 0 where
   pub order : lo ≤ hi
   pub inside : hi ≤ length vs
   pub rooms : length hs ≡ length vs
-
--- holds, one for each second of the trace, that have `held` at second i
-pub record HeldAt (vs hs : List ℕ) (i held : ℕ) : Type 0 where
-  pub size : length hs ≡ length vs
-  pub shows : at hs i ≡ held

@@ -1,3 +1,4 @@
 -- What the checks promise and ask, in the words of their contracts.
 pub mod Checks
 pub mod Calm
+pub mod Want

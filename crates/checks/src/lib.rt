@@ -3,6 +3,7 @@
 mod calm;
 mod mended;
 mod mended_calm;
+mod mended_trips;
 mod mended_want;
 mod opening;
 mod row;

@@ -3,9 +3,10 @@ ghost use mathlib.Core.Path.{_≡_};
 ghost use lib.ListN.{set};
 ghost use Rattle.rules.specs.declared.Vehicle.{Vehicle};
 ghost use Rattle.rules.specs.Refusals.{said, seconds-fault, span-fault};
-ghost use Rattle.gears.specs.Parts.{Has};
+ghost use Rattle.gears.specs.Parts.{Has, Lent, Parts};
 ghost use Rattle.checks.specs.Checks.{Spanned};
 ghost use Rattle.checks.specs.Calm.{Around};
+ghost use Rattle.checks.specs.Want.{Resting};
 use crate::Hold;
 use crate::Sample;
 use crate::Span;
@@ -42,17 +43,19 @@ fn check_mended_seconds<'a>(
 pub fn check_mended<'a>(
     k: Numbers,
     ratio: &'a [u16; 10],
+    n: &'a [u16; 64],
+    p: &'a [u16; 64],
     speeds: &'a [u16],
     holds: &'a [u8],
     sample: Sample,
     span: Span,
 ) -> Answer
-    requires { ⌜ Spanned k (now speeds) (now holds) (span .lo) (span .hi) × Around (now speeds) (span .lo) (span .hi) (sample .second) ⌝ }
-    ensures { λ r. ⌜ ((car : Vehicle) → Has car k (now (ratio .entry)) → said r ≡ span-fault car (set (now (speeds .entry)) (sample .second) (sample .speed)) (now (holds .entry)) (span .lo) (span .hi)) ⌝ }
+    requires { ⌜ Parts k (now ratio) (now n) (now p) × Spanned k (now speeds) (now holds) (span .lo) (span .hi) × Around (now speeds) (span .lo) (span .hi) (sample .second) × Resting (set (now speeds) (sample .second) (sample .speed)) (span .lo) (span .hi) ⌝ }
+    ensures { λ r. ⌜ ((car : Vehicle) → Lent car k (now (ratio .entry)) (now (n .entry)) (now (p .entry)) → said r ≡ span-fault car (set (now (speeds .entry)) (sample .second) (sample .speed)) (now (holds .entry)) (span .lo) (span .hi)) ⌝ }
 {
     let seconds = check_mended_seconds(k, ratio, speeds, holds, sample, span);
     let Answer::Done = seconds else {
         return seconds;
     };
-    check_mended_gears(k, ratio, speeds, holds, sample, span)
+    check_mended_gears(k, ratio, n, p, speeds, holds, sample, span)
 }

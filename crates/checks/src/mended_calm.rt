@@ -88,7 +88,7 @@ fn steepest_with(speeds: &[u16], sample: Sample, span: Span) -> u16
 }
 
 // Whether the span begins and ends with a standing second.
-pub fn stands_with(speeds: &[u16], sample: Sample, span: Span) -> bool
+fn stands_with(speeds: &[u16], sample: Sample, span: Span) -> bool
     requires { ⌜ Around (now speeds) (span .lo) (span .hi) (sample .second) ⌝ }
     ensures { λ r. ⌜ (r ≡ true → Stands (set (now (speeds .entry)) (sample .second) (sample .speed)) (span .lo) (span .hi)) ⌝ }
 {

@@ -1,43 +1,47 @@
-// Check 10, for want of a gear, of the seconds of a span that passes the checks before it. By engine speed alone: no power is worked out.
+// Check 10, for want of a gear, of the seconds of a span that passes the checks before it. Where the vehicle's gears leave no speed between them, by
+// engine speed alone; elsewhere by a dry run of the first choices. A hold or a sample may be asked for and not yet written.
 ghost use mathlib.Core.Path.{_≡_};
 ghost use mathlib.Core.Bool.{true};
-ghost use mathlib.Core.List.{List};
 ghost use mathlib.Core.Option.{none};
 ghost use Prim.Native.Nat.{ℕ, _-_, _<_};
-ghost use lib.Dec.{eqb};
 ghost use lib.ListN.{length, set};
 ghost use Rattle.rules.specs.declared.Vehicle.{Vehicle};
-ghost use Rattle.rules.specs.Units.{start};
+ghost use Rattle.rules.specs.Corrections.{first-at};
 ghost use Rattle.rules.specs.Refusals.{no-gear, bad, said, seconds-fault, gear-fault};
-ghost use Rattle.gears.specs.Parts.{Has};
+ghost use Rattle.gears.specs.Parts.{Has, Lent, Parts};
 ghost use Rattle.gears.specs.Second.{Lowest, Geared};
-ghost use Rattle.checks.specs.Checks.{TraceSecond, Spanned, HeldAt};
+ghost use Rattle.checks.specs.Checks.{Spanned};
 ghost use Rattle.checks.specs.Calm.{Each, HandsOn, Follows, NoGap};
+ghost use Rattle.checks.specs.Want.{Resting, Level, Ahead, OnWay, LowestAt};
 use crate::Hold;
+use crate::Sample;
 use crate::Span;
 use crate::calm::fastest;
-use crate::calm::stands;
+use crate::mended_trips::closing_with;
+use crate::mended_trips::stop_with;
 use crate::seconds::hold_at;
+use crate::seconds::speed_at;
 use gears::Numbers;
+use gears::choice_after;
 use gears::engine;
 use gears::minimum;
-use gears::some_fits;
 use gears::top;
 use rules::Answer;
 use rules::MOVING;
+use rules::Place;
 use rules::Refusal;
 use rules::STEEPEST;
-use rules::moving;
 
 // A trip's first second is one step above a standing one, so its speed is at most this.
 const FIRST_FASTEST: u16 = MOVING + STEEPEST - 1;
 
-// Whether gear g, of ratio `this`, has reached its minimum wherever the gear below it, of ratio `below`, turns past nmax.
+// Whether gear g, of ratio `this`, has reached the highest of its minima, the one after the lowest gear, wherever the gear below it, of ratio `below`,
+// turns past nmax.
 fn hands_on(k: Numbers, g: usize, below: u16, this: u16) -> bool
     requires { ⌜ Lowest k g ⌝ }
     ensures { λ r. ⌜ (r ≡ true → HandsOn k g below this) ⌝ }
 {
-    minimum(k, g) * (below as u64) <= (k.nmax as u64) * (this as u64)
+    minimum(k, Place::AfterLow, g) * (below as u64) <= (k.nmax as u64) * (this as u64)
 }
 
 // So every gear above gear 1: then no speed lies between two gears.
@@ -56,7 +60,7 @@ fn covered(k: Numbers, ratio: &[u16; 10]) -> bool
     true
 }
 
-// Whether some gear fits at every moving second up to the speed `most`.
+// Whether some gear fits at every moving second up to the speed `most`, whatever is chosen before it.
 pub fn no_gap(k: Numbers, ratio: &[u16; 10], most: u16) -> bool
     requires { ⌜ Geared k ⌝ }
     ensures { λ r. ⌜ (r ≡ true → NoGap k (now (ratio .entry)) most) ⌝ }
@@ -75,52 +79,99 @@ pub fn no_gap(k: Numbers, ratio: &[u16; 10], most: u16) -> bool
     covered(k, ratio)
 }
 
-// Whether a trip that i lies in begins there: then only gear 1 may fit.
-fn begins(speeds: &[u16], i: usize) -> bool
-    requires { ⌜ i < length (now speeds) ⌝ }
-    ensures { λ r. ⌜ r ≡ eqb (i - start (now (speeds .entry)) i) 0 ⌝ }
-{
-    if i == 0 {
-        return true;
-    }
-    !moving(speeds[i - 1])
-}
-
-// Whether second i is moving, without a hold, and no gear fits.
-fn wanting<'a>(k: Numbers, ratio: &'a [u16; 10], speeds: &'a [u16], held: u8, i: usize) -> bool
-    requires { ⌜ TraceSecond k (now speeds) i ⌝ }
-    ensures { λ r. ⌜ ((car : Vehicle) → Has car k (now (ratio .entry)) → (hs : List ℕ) (lo : ℕ) → HeldAt (now (speeds .entry)) hs i held → r ≡ bad no-gear car (now (speeds .entry)) hs lo i) ⌝ }
-{
-    let v = speeds[i];
-    if !moving(v) {
-        return false;
-    }
-    if held != 0 {
-        return false;
-    }
-    let first = begins(speeds, i);
-    !some_fits(k, ratio, first, v)
-}
-
-// Check 10 of each second, one after the other.
-fn judge_gears<'a>(
+// The first choice of second i of a trip, given where its closing run begins and the first choice before. Nothing is stored.
+fn choice_in<'a>(
     k: Numbers,
     ratio: &'a [u16; 10],
+    n: &'a [u16; 64],
+    p: &'a [u16; 64],
     speeds: &'a [u16],
     holds: &'a [u8],
+    sample: Sample,
+    hold: Hold,
+    trip: Span,
+    run: usize,
+    before: u8,
+    i: usize,
+) -> u8
+    requires { ⌜ Parts k (now ratio) (now n) (now p) × OnWay (set (now speeds) (sample .second) (sample .speed)) (now holds) (trip .lo) (trip .hi) run i ⌝ }
+    ensures { λ r. ⌜ ((car : Vehicle) → Lent car k (now (ratio .entry)) (now (n .entry)) (now (p .entry)) → ((i ≡ trip .lo → ⊥) → before ≡ first-at car (set (now (speeds .entry)) (sample .second) (sample .speed)) (set (now (holds .entry)) (hold .second) (hold .gear)) (i - 1)) → r ≡ first-at car (set (now (speeds .entry)) (sample .second) (sample .speed)) (set (now (holds .entry)) (hold .second) (hold .gear)) i) ⌝ }
+{
+    let a = trip.lo;
+    let v = speed_at(speeds, sample, i);
+    let next = speed_at(speeds, sample, i + 1);
+    let held = hold_at(holds, hold, i);
+    choice_after(k, ratio, n, p, i == a, run <= i - a, before, v, next, held)
+}
+
+// The first second of a trip at which no gear fits and none is held, by a dry run of its first choices; the trip's end where there is none.
+fn wanting<'a>(
+    k: Numbers,
+    ratio: &'a [u16; 10],
+    n: &'a [u16; 64],
+    p: &'a [u16; 64],
+    speeds: &'a [u16],
+    holds: &'a [u8],
+    sample: Sample,
+    hold: Hold,
+    trip: Span,
+) -> usize
+    requires { ⌜ Parts k (now ratio) (now n) (now p) × Ahead (set (now speeds) (sample .second) (sample .speed)) (trip .lo) (trip .hi) × (length (now holds) ≡ length (now speeds)) ⌝ }
+    ensures { λ r. ⌜ ((car : Vehicle) → Lent car k (now (ratio .entry)) (now (n .entry)) (now (p .entry)) → (lo : ℕ) → LowestAt (bad no-gear car (set (now (speeds .entry)) (sample .second) (sample .speed)) (set (now (holds .entry)) (hold .second) (hold .gear)) lo) (trip .lo) (trip .hi) r) ⌝ }
+{
+    let a = trip.lo;
+    let b = trip.hi;
+    let run = closing_with(speeds, sample, trip);
+    let mut before: u8 = 0;
+    let mut i = a;
+    while i < b {
+        let g = choice_in(
+            k,
+            ratio,
+            n,
+            p,
+            speeds,
+            holds,
+            sample,
+            hold,
+            trip,
+            run,
+            before,
+            i,
+        );
+        if g == 0 {
+            return i;
+        }
+        before = g;
+        i += 1;
+    }
+    b
+}
+
+// Check 10 of each trip, one after the other.
+pub fn judge_gears<'a>(
+    k: Numbers,
+    ratio: &'a [u16; 10],
+    n: &'a [u16; 64],
+    p: &'a [u16; 64],
+    speeds: &'a [u16],
+    holds: &'a [u8],
+    sample: Sample,
     hold: Hold,
     span: Span,
 ) -> Answer
-    requires { ⌜ Spanned k (now speeds) (now holds) (span .lo) (span .hi) ⌝ }
-    ensures { λ r. ⌜ ((car : Vehicle) → Has car k (now (ratio .entry)) → said r ≡ gear-fault car (now (speeds .entry)) (set (now (holds .entry)) (hold .second) (hold .gear)) (span .lo) (span .hi)) ⌝ }
+    requires { ⌜ Parts k (now ratio) (now n) (now p) × Level (set (now speeds) (sample .second) (sample .speed)) (now holds) (span .lo) (span .hi) ⌝ }
+    ensures { λ r. ⌜ ((car : Vehicle) → Lent car k (now (ratio .entry)) (now (n .entry)) (now (p .entry)) → said r ≡ gear-fault car (set (now (speeds .entry)) (sample .second) (sample .speed)) (set (now (holds .entry)) (hold .second) (hold .gear)) (span .lo) (span .hi)) ⌝ }
 {
-    let mut i = span.lo;
-    while i < span.hi {
-        let held = hold_at(holds, hold, i);
-        if wanting(k, ratio, speeds, held, i) {
+    let mut a = span.lo + 1;
+    while a < span.hi {
+        let b = stop_with(speeds, sample, a);
+        let trip = Span { lo: a, hi: b };
+        let i = wanting(k, ratio, n, p, speeds, holds, sample, hold, trip);
+        if i < b {
             return Answer::Refused(Refusal::NoGear(i));
         }
-        i += 1;
+        a = b + 1;
     }
     Answer::Done
 }
@@ -129,18 +180,23 @@ fn judge_gears<'a>(
 pub fn check_gears<'a>(
     k: Numbers,
     ratio: &'a [u16; 10],
+    n: &'a [u16; 64],
+    p: &'a [u16; 64],
     speeds: &'a [u16],
     holds: &'a [u8],
     hold: Hold,
     span: Span,
 ) -> Answer
-    requires { ⌜ Spanned k (now speeds) (now holds) (span .lo) (span .hi) × ((car : Vehicle) → Has car k (now ratio) → none ≡ seconds-fault car (now speeds) (set (now holds) (hold .second) (hold .gear)) (span .lo) (span .hi)) ⌝ }
-    ensures { λ r. ⌜ ((car : Vehicle) → Has car k (now (ratio .entry)) → said r ≡ gear-fault car (now (speeds .entry)) (set (now (holds .entry)) (hold .second) (hold .gear)) (span .lo) (span .hi)) ⌝ }
+    requires { ⌜ Parts k (now ratio) (now n) (now p) × Spanned k (now speeds) (now holds) (span .lo) (span .hi) × Resting (now speeds) (span .lo) (span .hi) × ((car : Vehicle) → Has car k (now ratio) → none ≡ seconds-fault car (now speeds) (set (now holds) (hold .second) (hold .gear)) (span .lo) (span .hi)) ⌝ }
+    ensures { λ r. ⌜ ((car : Vehicle) → Lent car k (now (ratio .entry)) (now (n .entry)) (now (p .entry)) → said r ≡ gear-fault car (now (speeds .entry)) (set (now (holds .entry)) (hold .second) (hold .gear)) (span .lo) (span .hi)) ⌝ }
 {
-    if stands(speeds, span) {
-        if no_gap(k, ratio, fastest(speeds, span)) {
-            return Answer::Done;
-        }
+    if no_gap(k, ratio, fastest(speeds, span)) {
+        return Answer::Done;
     }
-    judge_gears(k, ratio, speeds, holds, hold, span)
+    // no sample is asked for
+    let none = Sample {
+        second: speeds.len(),
+        speed: 0,
+    };
+    judge_gears(k, ratio, n, p, speeds, holds, none, hold, span)
 }

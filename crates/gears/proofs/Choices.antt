@@ -12,9 +12,11 @@ use lib.IntN.{ℤ, pos}
 use lib.Signed.{leZ}
 use borrow.Author.Tests.{eqb-true, eqb-false, eq-eqb, ne-eqb, le-leb, lt-leb}
 use Rattle.rules.specs.declared.Vehicle.{Vehicle}
+use Rattle.rules.specs.declared.Place.{Place}
+use Rattle.rules.specs.declared.Place.the-variants.{First}
 use Rattle.rules.specs.Words.{if_then_else_, _and_, _or_, at, highest}
 use Rattle.rules.specs.Units.{low, ratio-of}
-use Rattle.rules.specs.Gears.{Place, minimum, engine, over-minimum, required, fits, power, enough, more, suits, beats, strongest, choose}
+use Rattle.rules.specs.Gears.{is-first, minimum, engine, over-minimum, required, fits, power, enough, more, suits, beats, strongest, choose}
 use Rattle.rules.specs.Vocabulary.{InBounds, NoGear}
 use Rattle.rules.proofs.Laws.Words.{clash, by-test, by-order, and-left, and-right, or-skip, highest-holds}
 use Rattle.rules.proofs.Laws.Strongest.{fits-from, strongest-fits}
@@ -101,18 +103,18 @@ none-yet car here v a = record { is = refl; its-power = λ n. absurd (n refl) }
 -- ---- the gears out of reach
 
 -- where third gear's X is below the shared minimum, no gear from there on fits: ratios fall
-module _ {car : Vehicle} {k : Numbers} {ratio n p : List ℕ} (L : Lent car k ratio n p) (v : ℕ) {least : ℕ} (e : least ≡ 1000 * minimum car 3) (h : at ratio 2 * v < least) where
+module _ {car : Vehicle} {k : Numbers} {ratio n p : List ℕ} (L : Lent car k ratio n p) (here : Place) (later : is-first here ≡ false) (v : ℕ) {least : ℕ} (e : least ≡ 1000 * minimum car here 3) (h : at ratio 2 * v < least) where
   out-of-reach : (g : ℕ) → 2 < g → g ≤ car .ng → at ratio (g - 1) * v < least
   out-of-reach g a b =
       let d : 3 + (g - 3) ≡ g = omega arith in
       let x : engine car g v ≤ engine car 3 v = rw d at (higher car (L .bounds) v 3 (g - 3) (omega (arith, low-is car)) (omega arith)) in
       omega (arith, engine-of (L .has) g v, engine-of (L .has) 3 v)
 
-  unsuited : (x : ℤ) (g : ℕ) → 2 < g → g ≤ car .ng → suits-for car (record { first-second = false }) v x g ≡ false
-  unsuited x g a b = sym (unfit L (record { first-second = false }) v g x (sym (fits-under (L .has) (record { first-second = false }) v g e a refl (out-of-reach g a b))))
+  unsuited : (x : ℤ) (g : ℕ) → 2 < g → g ≤ car .ng → suits-for car here v x g ≡ false
+  unsuited x g a b = sym (unfit L here v g x (sym (fits-under (L .has) here v g e a later (out-of-reach g a b))))
 
   -- so the search may go on at second gear
-  pub skips : (x : ℤ) {g : ℕ} → g ≤ car .ng → 2 < g → Down (suits-for car (record { first-second = false }) v x) (car .ng) g → Down (suits-for car (record { first-second = false }) v x) (car .ng) 2
+  pub skips : (x : ℤ) {g : ℕ} → g ≤ car .ng → 2 < g → Down (suits-for car here v x) (car .ng) g → Down (suits-for car here v x) (car .ng) 2
   skips x b a inv = drops inv 2 (omega arith) (λ i c d. unsuited x i c (omega arith))
 
 -- the next gear down is below
@@ -125,14 +127,14 @@ pub down-of : (t : Bool) {g r : ℕ} → r ≡ next-down t g → 1 ≤ g → r <
 down-of t {g} e h = rw e (down-less t g h)
 
 -- from a gear that does not suit the search goes on at the next one down
-module _ {car : Vehicle} {k : Numbers} {ratio n p : List ℕ} (L : Lent car k ratio n p) (v : ℕ) {least : ℕ} (e : least ≡ 1000 * minimum car 3) where
-  pub goes-down : (y : ℤ) {g r : ℕ} → r ≡ next-down (leb least (at ratio 2 * v)) g → 1 ≤ g → g ≤ car .ng → suits-for car (record { first-second = false }) v y g ≡ false
-      → Down (suits-for car (record { first-second = false }) v y) (car .ng) g → Down (suits-for car (record { first-second = false }) v y) (car .ng) r
+module _ {car : Vehicle} {k : Numbers} {ratio n p : List ℕ} (L : Lent car k ratio n p) (here : Place) (later : is-first here ≡ false) (v : ℕ) {least : ℕ} (e : least ≡ 1000 * minimum car here 3) where
+  pub goes-down : (y : ℤ) {g r : ℕ} → r ≡ next-down (leb least (at ratio 2 * v)) g → 1 ≤ g → g ≤ car .ng → suits-for car here v y g ≡ false
+      → Down (suits-for car here v y) (car .ng) g → Down (suits-for car here v y) (car .ng) r
   unfolding next-down _or_
   goes-down y {g} {r} d a b fails inv =
       by-order (at ratio 2 * v) least
       (λ l. by-order 3 g
-      (λ c. let z : r ≡ 2 = d ∙ rw (lt-leb least (at ratio 2 * v) l, lt-leb g 3 c) in rw z (skips L v e l y b (omega arith) inv))
+      (λ c. let z : r ≡ 2 = d ∙ rw (lt-leb least (at ratio 2 * v) l, lt-leb g 3 c) in rw z (skips L here later v e l y b (omega arith) inv))
       (λ c. let z : r ≡ g - 1 = d ∙ rw (lt-leb least (at ratio 2 * v) l, le-leb g 3 c) in rw z (again inv a fails)))
       (λ l. let z : r ≡ g - 1 = d ∙ rw (le-leb least (at ratio 2 * v) l) in rw z (again inv a fails))
 
@@ -163,21 +165,18 @@ choice-fits car here v d n =
     (λ t. let o = eqb-false _ _ t in rw (choose-highest car here v d o) (and-left _ _ (highest-holds (suits car here v d) (car .ng) o .0)))
 
 module _ (car : Vehicle) (b : InBounds car) (v : ℕ) where
-  -- a trip's first second
-  abbrev begun : Place
-  begun = record { first-second = true }
-
   -- a gear that fits there is first gear
-  fits-first : (g : ℕ) → fits car begun v g ≡ true → g ≡ 1
-  fits-first g t = by-test (eqb g 1) (λ e. eqb-true _ _ e) (λ e. clash t (sym (fits-not car begun v g (eqb-false _ _ e) refl)))
+  fits-first : (g : ℕ) → fits car First v g ≡ true → g ≡ 1
+  unfolding is-first
+  fits-first g t = by-test (eqb g 1) (λ e. eqb-true _ _ e) (λ e. clash t (sym (fits-not car First v g (eqb-false _ _ e) refl)))
 
   -- the choice is first gear if it fits, otherwise 0
-  pub choice-first : (d : ℤ) → only-first car v ≡ choose car begun v d
+  pub choice-first : (d : ℤ) → only-first car v ≡ choose car First v d
   unfolding only-first
   choice-first d =
-      let plain = first-choice-plainly car begun v d b in
-      by-test (fits car begun v 1)
-      (λ t. let n : choose car begun v d ≢ 0 = λ z. clash t (plain .none-fits z 1 (omega (arith, b .low-ng, low-is car))) in
-      rw t (sym (fits-first (choose car begun v d) (choice-fits car begun v d n))))
-      (λ t. let no : NoGear car (fits car begun v) = λ g l. by-test (fits car begun v g) (λ u. clash (rw (fits-first g u) at u) t) (λ u. u) in
+      let plain = first-choice-plainly car First v d b in
+      by-test (fits car First v 1)
+      (λ t. let n : choose car First v d ≢ 0 = λ z. clash t (plain .none-fits z 1 (omega (arith, b .low-ng, low-is car))) in
+      rw t (sym (fits-first (choose car First v d) (choice-fits car First v d n))))
+      (λ t. let no : NoGear car (fits car First v) = λ g l. by-test (fits car First v g) (λ u. clash (rw (fits-first g u) at u) t) (λ u. u) in
       rw t (sym (plain .choice-none no)))

@@ -14,8 +14,6 @@ use Rattle.gears.proofs.second.minimum.Kinds as minimum-kinds
 use Rattle.gears.proofs.second.minimum.Reads as minimum-reads
 use Rattle.gears.proofs.second.fits.Kinds as fits-kinds
 use Rattle.gears.proofs.second.fits.Reads as fits-reads
-use Rattle.gears.proofs.second.some_fits.Kinds as some-fits-kinds
-use Rattle.gears.proofs.second.some_fits.Reads as some-fits-reads
 use Rattle.gears.proofs.second.floor.Kinds as floor-kinds
 use Rattle.gears.proofs.second.floor.Reads as floor-reads
 use Rattle.gears.proofs.second.step_of.Kinds as step-of-kinds
@@ -40,6 +38,8 @@ use Rattle.gears.proofs.choice.choose.Kinds as choose-kinds
 use Rattle.gears.proofs.choice.choose.Reads as choose-reads
 use Rattle.gears.proofs.choice.first_choice.Kinds as first-choice-kinds
 use Rattle.gears.proofs.choice.first_choice.Reads as first-choice-reads
+use Rattle.gears.proofs.choice.choice_after.Kinds as choice-after-kinds
+use Rattle.gears.proofs.choice.choice_after.Reads as choice-after-reads
 
 pub top : Determined top-kinds.ps top-kinds.r top-reads.Asked top-reads.Learnt
 top κs a asked z z′ ws ws′ p q = (p ∙ sym q, refl)
@@ -52,9 +52,6 @@ minimum κs a asked z z′ ws ws′ p q = let C = built-has (a .0) [] .counts in
 
 pub fits : Determined fits-kinds.ps fits-kinds.r fits-reads.Asked fits-reads.Learnt
 fits κs a asked z z′ ws ws′ p q = let H = built-has (a .0) (now (a .1 .0)) in (p _ H ∙ sym (q _ H), refl)
-
-pub some-fits : Determined some-fits-kinds.ps some-fits-kinds.r some-fits-reads.Asked some-fits-reads.Learnt
-some-fits κs a asked z z′ ws ws′ p q = let H = built-has (a .0) (now (a .1 .0)) in (p _ H ∙ sym (q _ H), refl)
 
 pub floor : Determined floor-kinds.ps floor-kinds.r floor-reads.Asked floor-reads.Learnt
 floor κs a asked z z′ ws ws′ p q = let H = built-has (a .0) (now (a .1 .0)) in (p _ H ∙ sym (q _ H), refl)
@@ -90,6 +87,9 @@ strongest κs a asked z z′ ws ws′ p q = let car = asked .car in let L = aske
 
 pub choose : Determined choose-kinds.ps choose-kinds.r choose-reads.Asked choose-reads.Learnt
 choose κs a asked z z′ ws ws′ p q = let car = asked .0 .car in let L = asked .0 .lent in (p car L ∙ sym (q car L), refl)
+
+pub choice-after : Determined choice-after-kinds.ps choice-after-kinds.r choice-after-reads.Asked choice-after-reads.Learnt
+choice-after κs a asked z z′ ws ws′ p q = let car = asked .0 .car in let L = asked .0 .lent in (p car L ∙ sym (q car L), refl)
 
 pub first-choice : Determined first-choice-kinds.ps first-choice-kinds.r first-choice-reads.Asked first-choice-reads.Learnt
 first-choice κs a asked z z′ ws ws′ p q = let car = asked .0 .car in let L = asked .0 .lent in (p car L ∙ sym (q car L), refl)

@@ -10,8 +10,9 @@ use lib.IntN.{ℤ, pos, negℤ, natAbs, _+ℤ_, _-ℤ_, _*ℤ_, +ℤ-assoc}
 use lib.Signed.{leZ}
 use borrow.Author.Tests.{leb-true, le-leb}
 use Rattle.rules.specs.declared.Vehicle.{Vehicle}
+use Rattle.rules.specs.declared.Place.{Place}
 use Rattle.rules.specs.Words.{at}
-use Rattle.rules.specs.Gears.{Place, Power, engine, under-nmax, fits, between, on-segment, segment, power-speed, power}
+use Rattle.rules.specs.Gears.{Power, engine, under-nmax, fits, between, on-segment, segment, power-speed, power}
 use Rattle.rules.specs.Vocabulary.{OnSegment}
 use Rattle.rules.proofs.Laws.Words.{and-right}
 use Rattle.rules.proofs.Laws.Integers.{+ℤ-*ℤ, neg-*ℤ, pos-sub, leZ-trans, leZ-scale}

@@ -9,9 +9,11 @@ use mathlib.Core.List.{List}
 use lib.Dec.{leb}
 use borrow.Author.Tests.{le-leb, lt-leb, ne-eqb}
 use Rattle.rules.specs.declared.Vehicle.{Vehicle}
+use Rattle.rules.specs.declared.Place.{Place}
+use Rattle.rules.specs.declared.Place.the-variants.{First, Closing, AfterLow, Inner}
 use Rattle.rules.specs.Words.{_and_, _or_, at, first}
 use Rattle.rules.specs.Units.{low, ratio-of}
-use Rattle.rules.specs.Gears.{Place, minimum, minimum-of, engine, under-nmax, over-minimum, allowed, fits}
+use Rattle.rules.specs.Gears.{is-first, next-minimum, minimum, minimum-of, engine, under-nmax, over-minimum, allowed, fits}
 use Rattle.rules.specs.Corrections.{floor}
 use Rattle.rules.proofs.Laws.Words.{and-no}
 use Rattle.rules.proofs.Laws.Walk.{Left, stops, ends}
@@ -22,25 +24,33 @@ use Rattle.gears.proofs.Parts.{low-is, ng-of, nmax-of, engine-of}
 -- ---- minimum speed
 
 -- of first gear, of second, and of those above
-pub minimum-one : (car : Vehicle) → minimum car 1 ≡ car .idle
+pub minimum-one : (car : Vehicle) (here : Place) → minimum car here 1 ≡ car .idle
 unfolding minimum minimum-of
-minimum-one car = rw (low-is car)
+minimum-one car here = rw (low-is car)
 
-pub minimum-two : (car : Vehicle) → minimum car 2 ≡ (9 * car .idle + 5) / 10
+pub minimum-two : (car : Vehicle) (here : Place) → minimum car here 2 ≡ next-minimum car here
 unfolding minimum minimum-of
-minimum-two car = rw (low-is car)
+minimum-two car here = rw (low-is car)
 
-pub minimum-above : (car : Vehicle) (g : ℕ) → 1 ≤ g → (g ≡ 1 → ⊥) → (g ≡ 2 → ⊥) → minimum car g ≡ car .idle + (car .rated - car .idle + 4) / 8
+pub minimum-above : (car : Vehicle) (here : Place) (g : ℕ) → 1 ≤ g → (g ≡ 1 → ⊥) → (g ≡ 2 → ⊥) → minimum car here g ≡ car .idle + (car .rated - car .idle + 4) / 8
 unfolding minimum minimum-of
-minimum-above car g h a b = let e : g - 1 ≡ suc (suc (g - 3)) = omega arith in rw (low-is car, e)
+minimum-above car here g h a b = let e : g - 1 ≡ suc (suc (g - 3)) = omega arith in rw (low-is car, e)
 
 -- third gear and those above share one minimum
-pub same-minimum : (car : Vehicle) (g : ℕ) → 2 < g → minimum car 3 ≡ minimum car g
-same-minimum car g h =
-    minimum-above car 3 (omega arith) (λ z. omega arith) (λ z. omega arith)
-    ∙ sym (minimum-above car g (omega arith) (λ z. omega arith) (λ z. omega arith))
+pub same-minimum : (car : Vehicle) (here : Place) (g : ℕ) → 2 < g → minimum car here 3 ≡ minimum car here g
+same-minimum car here g h =
+    minimum-above car here 3 (omega arith) (λ z. omega arith) (λ z. omega arith)
+    ∙ sym (minimum-above car here g (omega arith) (λ z. omega arith) (λ z. omega arith))
 
 -- ---- fitting
+
+-- a trip's first second is the only one that is
+pub only-first-is : (here : Place) → is-first here ≡ true → here ≡ First
+unfolding is-first
+only-first-is First e = refl
+only-first-is Closing e = let z : _≡_ {A = ℕ} 0 1 = cc in absurd (omega arith)
+only-first-is AfterLow e = let z : _≡_ {A = ℕ} 0 1 = cc in absurd (omega arith)
+only-first-is Inner e = let z : _≡_ {A = ℕ} 0 1 = cc in absurd (omega arith)
 
 no-and : (a b : Bool) → a ≡ false → a and b ≡ false
 unfolding _and_
@@ -53,7 +63,7 @@ and-yes true = refl
 and-yes false = refl
 
 -- at a trip's first second another gear than the lowest does not fit
-pub fits-not : (car : Vehicle) (here : Place) (v g : ℕ) → (g ≡ 1 → ⊥) → here .first-second ≡ true → false ≡ fits car here v g
+pub fits-not : (car : Vehicle) (here : Place) (v g : ℕ) → (g ≡ 1 → ⊥) → is-first here ≡ true → false ≡ fits car here v g
 unfolding fits allowed _or_
 fits-not car here v g n t = sym (no-and _ _ (and-no _ _ (rw (low-is car, ne-eqb g 1 n, t))))
 
@@ -69,23 +79,23 @@ module _ {car : Vehicle} {k : Numbers} {ratio : List ℕ} (H : Has car k ratio) 
   fits-one e h = rw (low-is car, nmax-of (H .counts), H .ratios, le-leb _ _ h, e)
 
   -- a later second
-  pub fits-later : 1 ≤ g → (g ≡ 1 → ⊥) → here .first-second ≡ false → at ratio (g - 1) * v ≤ 1000 * k .nmax → leb (1000 * minimum car g) (at ratio (g - 1) * v) ≡ fits car here v g
+  pub fits-later : 1 ≤ g → (g ≡ 1 → ⊥) → is-first here ≡ false → at ratio (g - 1) * v ≤ 1000 * k .nmax → leb (1000 * minimum car here g) (at ratio (g - 1) * v) ≡ fits car here v g
   unfolding fits allowed over-minimum under-nmax engine ratio-of _and_ _or_
   fits-later a n t h = rw (low-is car, nmax-of (H .counts), H .ratios, ne-eqb g 1 n, t, le-leb 1 g a, le-leb _ _ h) (sym (and-yes _))
 
   -- a later second and a gear above second, by its shared minimum: below it ..
-  module _ {least : ℕ} (e : least ≡ 1000 * minimum car 3) (a : 2 < g) (t : here .first-second ≡ false) where
+  module _ {least : ℕ} (e : least ≡ 1000 * minimum car here 3) (a : 2 < g) (t : is-first here ≡ false) where
     pub fits-under : at ratio (g - 1) * v < least → false ≡ fits car here v g
     unfolding fits over-minimum _or_
     fits-under h =
-        let l : at ratio (g - 1) * v < 1000 * minimum car g = omega (arith, same-minimum car g a) in
+        let l : at ratio (g - 1) * v < 1000 * minimum car here g = omega (arith, same-minimum car here g a) in
         sym (and-no _ _ (no-and _ _ (rw (low-is car, engine-of H g v, ne-eqb g 1 (λ z. omega arith)) (lt-leb _ _ l))))
 
     -- .. or not: then nmax decides
     pub fits-upper : least ≤ at ratio (g - 1) * v → leb (at ratio (g - 1) * v) (1000 * k .nmax) ≡ fits car here v g
     unfolding fits allowed over-minimum under-nmax _and_ _or_
     fits-upper h =
-        let l : 1000 * minimum car g ≤ at ratio (g - 1) * v = omega (arith, same-minimum car g a) in
+        let l : 1000 * minimum car here g ≤ at ratio (g - 1) * v = omega (arith, same-minimum car here g a) in
         rw (low-is car, engine-of H g v, ne-eqb g 1 (λ z. omega arith), t, le-leb 1 g (omega arith), le-leb _ _ l, nmax-of (H .counts))
 
 -- ---- the floor

@@ -10,8 +10,10 @@ use lib.Dec.{leb, eqb}
 use lib.IntN.{ℤ, pos, natAbs, _-ℤ_, _*ℤ_}
 use lib.Signed.{leZ}
 use Rattle.rules.specs.declared.Vehicle.{Vehicle}
+use Rattle.rules.specs.declared.Place.{Place}
+use Rattle.rules.specs.declared.Place.the-variants.{First}
 use Rattle.rules.specs.Words.{if_then_else_, _and_, _or_, at, first}
-use Rattle.rules.specs.Gears.{Place, Power, fits, power, strongest, choose, reaches, segment}
+use Rattle.rules.specs.Gears.{Power, fits, power, strongest, choose, reaches, segment}
 use Rattle.rules.specs.Units.{fastest, steepest, rise}
 use Rattle.rules.specs.Corrections.{here, first-choice}
 use Rattle.gears.specs.declared.Numbers.{Numbers}
@@ -98,7 +100,7 @@ pub record Pace (v : ℕ) (d : ℤ) : Type 0 where
 
 -- the choice at a trip's first second: first gear if it fits, otherwise 0
 unfoldable pub only-first : Vehicle → ℕ → ℕ
-only-first car v = if fits car (record { first-second = true }) v 1 then 1 else 0
+only-first car v = if fits car First v 1 then 1 else 0
 
 -- the gear to look at after gear g: second gear, where no gear above it is in reach, else the one below g
 unfoldable pub next-down : Bool → ℕ → ℕ

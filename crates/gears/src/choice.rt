@@ -3,10 +3,11 @@ ghost use mathlib.Core.Path.{_≡_};
 ghost use mathlib.Core.Bool.{false};
 ghost use Prim.Native.Nat.{_-_, _*_, _≤_};
 ghost use lib.Dec.{leb};
-ghost use lib.IntN.{natAbs};
+ghost use lib.IntN.{pos, natAbs, _-ℤ_};
 ghost use Rattle.rules.specs.Words.{at};
 ghost use Rattle.rules.specs.declared.Vehicle.{Vehicle};
-ghost use Rattle.rules.specs.Gears.{minimum, fits, more, strongest, choose};
+ghost use Rattle.rules.specs.Gears.{is-first, minimum, fits, more, strongest, choose};
+ghost use Rattle.rules.specs.Corrections.{place-of};
 ghost use Rattle.gears.specs.Parts.{Counts, Has, Lent, Parts};
 ghost use Rattle.gears.specs.Second.{GearOf};
 ghost use Rattle.gears.specs.Choosing.{power-of, PowerSized, most-E, Weighed, enough-for, suits-for, InGear, Strongest, Pace, only-first, next-down, first-of};
@@ -16,9 +17,12 @@ use crate::Power;
 use crate::curve::power_at;
 use crate::second::engine;
 use crate::second::fits;
+use crate::second::is_first;
 use crate::second::minimum;
 use crate::second::required;
+use crate::second::step_of;
 use crate::second::top;
+use rules::Place;
 
 // Whether a power is enough for E. E keeps its sign: negative while braking.
 pub fn enough(margin: u16, a: Power, e: i64) -> bool
@@ -37,12 +41,12 @@ pub fn more(a: Power, b: Power) -> bool
 }
 
 // Whether a gear fits at a later second of a trip. Third gear and those above share one minimum, of engine speed `least`.
-fn fits_later(k: Numbers, ratio: &[u16; 10], v: u16, least: u64, g: usize) -> bool
-    requires { ⌜ GearOf k g × ((car : Vehicle) → Counts car k → least ≡ 1000 * minimum car 3) ⌝ }
-    ensures { λ r. ⌜ ((car : Vehicle) → Has car k (now (ratio .entry)) → r ≡ fits car (record { first-second = false }) v g) ⌝ }
+fn fits_later(k: Numbers, ratio: &[u16; 10], here: Place, v: u16, least: u64, g: usize) -> bool
+    requires { ⌜ GearOf k g × (is-first here ≡ false) × ((car : Vehicle) → Counts car k → least ≡ 1000 * minimum car here 3) ⌝ }
+    ensures { λ r. ⌜ ((car : Vehicle) → Has car k (now (ratio .entry)) → r ≡ fits car here v g) ⌝ }
 {
     if g <= 2 {
-        return fits(k, ratio, false, v, g);
+        return fits(k, ratio, here, v, g);
     }
     let x = engine(ratio, g, v);
     if x < least {
@@ -57,15 +61,16 @@ fn suits<'a>(
     ratio: &'a [u16; 10],
     n: &'a [u16; 64],
     p: &'a [u16; 64],
+    here: Place,
     v: u16,
     e: i64,
     least: u64,
     g: usize,
 ) -> bool
-    requires { ⌜ Parts k (now ratio) (now n) (now p) × InGear k g × (natAbs e ≤ most-E) × ((car : Vehicle) → Counts car k → least ≡ 1000 * minimum car 3) ⌝ }
-    ensures { λ r. ⌜ ((car : Vehicle) → Lent car k (now (ratio .entry)) (now (n .entry)) (now (p .entry)) → r ≡ suits-for car (record { first-second = false }) v e g) ⌝ }
+    requires { ⌜ Parts k (now ratio) (now n) (now p) × InGear k g × (natAbs e ≤ most-E) × (is-first here ≡ false) × ((car : Vehicle) → Counts car k → least ≡ 1000 * minimum car here 3) ⌝ }
+    ensures { λ r. ⌜ ((car : Vehicle) → Lent car k (now (ratio .entry)) (now (n .entry)) (now (p .entry)) → r ≡ suits-for car here v e g) ⌝ }
 {
-    if fits_later(k, ratio, v, least, g) {
+    if fits_later(k, ratio, here, v, least, g) {
         // every power is enough while coasting or braking
         if e <= 0 {
             return true;
@@ -83,14 +88,14 @@ fn stronger<'a>(
     ratio: &'a [u16; 10],
     n: &'a [u16; 64],
     p: &'a [u16; 64],
-    first_second: bool,
+    here: Place,
     v: u16,
     g: usize,
 ) -> Best
-    requires { ⌜ Parts k (now ratio) (now n) (now p) × InGear k g × ((car : Vehicle) → Lent car k (now ratio) (now n) (now p) → Strongest car (record { first-second = «first_second» }) v (g - 1) best) ⌝ }
-    ensures { λ r. ⌜ ((car : Vehicle) → Lent car k (now (ratio .entry)) (now (n .entry)) (now (p .entry)) → Strongest car (record { first-second = «first_second» }) v g r) ⌝ }
+    requires { ⌜ Parts k (now ratio) (now n) (now p) × InGear k g × ((car : Vehicle) → Lent car k (now ratio) (now n) (now p) → Strongest car here v (g - 1) best) ⌝ }
+    ensures { λ r. ⌜ ((car : Vehicle) → Lent car k (now (ratio .entry)) (now (n .entry)) (now (p .entry)) → Strongest car here v g r) ⌝ }
 {
-    if fits(k, ratio, first_second, v, g) {
+    if fits(k, ratio, here, v, g) {
         let a = power_at(k, ratio, n, p, v, g);
         if best.gear == 0 {
             return Best { gear: g, power: a };
@@ -110,11 +115,11 @@ pub fn strongest<'a>(
     ratio: &'a [u16; 10],
     n: &'a [u16; 64],
     p: &'a [u16; 64],
-    first_second: bool,
+    here: Place,
     v: u16,
 ) -> usize
     requires { ⌜ Parts k (now ratio) (now n) (now p) ⌝ }
-    ensures { λ r. ⌜ ((car : Vehicle) → Lent car k (now (ratio .entry)) (now (n .entry)) (now (p .entry)) → r ≡ strongest car (record { first-second = «first_second» }) v (k .ng)) ⌝ }
+    ensures { λ r. ⌜ ((car : Vehicle) → Lent car k (now (ratio .entry)) (now (n .entry)) (now (p .entry)) → r ≡ strongest car here v (k .ng)) ⌝ }
 {
     let mut best = Best {
         gear: 0,
@@ -123,7 +128,7 @@ pub fn strongest<'a>(
     let mut g: usize = 0;
     while g < k.ng as usize {
         g += 1;
-        best = stronger(best, k, ratio, n, p, first_second, v, g);
+        best = stronger(best, k, ratio, n, p, here, v, g);
     }
     best.gear
 }
@@ -133,7 +138,7 @@ fn only_first(k: Numbers, ratio: &[u16; 10], v: u16) -> usize
     requires { ⌜ k .idle ≤ k .rated ⌝ }
     ensures { λ r. ⌜ ((car : Vehicle) → Has car k (now (ratio .entry)) → r ≡ only-first car v) ⌝ }
 {
-    if fits(k, ratio, true, v, 1) {
+    if fits(k, ratio, Place::First, v, 1) {
         return 1;
     }
     0
@@ -159,25 +164,25 @@ pub fn choose<'a>(
     ratio: &'a [u16; 10],
     n: &'a [u16; 64],
     p: &'a [u16; 64],
-    first_second: bool,
+    here: Place,
     v: u16,
     d: i64,
 ) -> usize
     requires { ⌜ Parts k (now ratio) (now n) (now p) × Pace v d ⌝ }
-    ensures { λ r. ⌜ ((car : Vehicle) → Lent car k (now (ratio .entry)) (now (n .entry)) (now (p .entry)) → r ≡ choose car (record { first-second = «first_second» }) v d) ⌝ }
+    ensures { λ r. ⌜ ((car : Vehicle) → Lent car k (now (ratio .entry)) (now (n .entry)) (now (p .entry)) → r ≡ choose car here v d) ⌝ }
 {
     // a trip begins in first gear, whatever power it has
-    if first_second {
+    if is_first(here) {
         return only_first(k, ratio, v);
     }
     let e = required(k, v, d);
-    let least = 1000 * minimum(k, 3);
+    let least = 1000 * minimum(k, here, 3);
     let mut g = k.ng as usize;
     loop {
         if g == 0 {
-            break strongest(k, ratio, n, p, first_second, v);
+            break strongest(k, ratio, n, p, here, v);
         }
-        if suits(k, ratio, n, p, v, e, least, g) {
+        if suits(k, ratio, n, p, here, v, e, least, g) {
             break g;
         }
         g = below(ratio, v, least, g);
@@ -190,16 +195,53 @@ pub fn first_choice<'a>(
     ratio: &'a [u16; 10],
     n: &'a [u16; 64],
     p: &'a [u16; 64],
-    first_second: bool,
+    here: Place,
     v: u16,
     d: i64,
     hold: u8,
 ) -> u8
     requires { ⌜ Parts k (now ratio) (now n) (now p) × Pace v d ⌝ }
-    ensures { λ r. ⌜ ((car : Vehicle) → Lent car k (now (ratio .entry)) (now (n .entry)) (now (p .entry)) → r ≡ first-of car (record { first-second = «first_second» }) v d hold) ⌝ }
+    ensures { λ r. ⌜ ((car : Vehicle) → Lent car k (now (ratio .entry)) (now (n .entry)) (now (p .entry)) → r ≡ first-of car here v d hold) ⌝ }
 {
     if hold == 0 {
-        return choose(k, ratio, n, p, first_second, v, d) as u8;
+        return choose(k, ratio, n, p, here, v, d) as u8;
     }
     hold
+}
+
+// What a second is in its trip: the first of these that it is. `before` is the first choice of the second before.
+fn place_of(begins: bool, closes: bool, before: u8) -> Place
+    ensures { λ r. ⌜ ((car : Vehicle) → r ≡ place-of car begins closes before) ⌝ }
+{
+    if begins {
+        return Place::First;
+    }
+    if closes {
+        return Place::Closing;
+    }
+    if before == 1 {
+        return Place::AfterLow;
+    }
+    Place::Inner
+}
+
+// The first choice of a second on the way through its trip, from whether the trip begins there, whether its closing run has begun, and the first
+// choice before: the one step that the working and the check for want of a gear share.
+pub fn choice_after<'a>(
+    k: Numbers,
+    ratio: &'a [u16; 10],
+    n: &'a [u16; 64],
+    p: &'a [u16; 64],
+    begins: bool,
+    closes: bool,
+    before: u8,
+    v: u16,
+    next: u16,
+    hold: u8,
+) -> u8
+    requires { ⌜ Parts k (now ratio) (now n) (now p) × Pace v (pos next -ℤ pos v) ⌝ }
+    ensures { λ r. ⌜ ((car : Vehicle) → Lent car k (now (ratio .entry)) (now (n .entry)) (now (p .entry)) → r ≡ first-of car (place-of car begins closes before) v (pos next -ℤ pos v) hold) ⌝ }
+{
+    let here = place_of(begins, closes, before);
+    first_choice(k, ratio, n, p, here, v, step_of(v, next), hold)
 }

@@ -9,12 +9,11 @@ mod curve;
 mod second;
 
 pub use bounds::check_vehicle;
-pub use choice::first_choice;
+pub use choice::choice_after;
 use rules::Vehicle;
 pub use second::engine;
 pub use second::floor;
 pub use second::minimum;
-pub use second::some_fits;
 pub use second::step_of;
 pub use second::top;
 

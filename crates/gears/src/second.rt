@@ -1,16 +1,15 @@
 // One second of a trip: engine speed, minimum speed, which gears fit, the floor, the step D and the required power E.
 ghost use mathlib.Core.Path.{_≡_};
-ghost use mathlib.Core.Bool.{not};
 ghost use Prim.Native.Nat.{_+_, _-_, _*_, _≤_};
-ghost use lib.Dec.{eqb};
 ghost use lib.IntN.{pos, _-ℤ_};
-ghost use Rattle.rules.specs.Words.{at, highest};
-ghost use Rattle.rules.specs.Gears.{minimum, fits, required};
+ghost use Rattle.rules.specs.Words.{at};
+ghost use Rattle.rules.specs.Gears.{is-first, next-minimum, minimum, fits, required};
 ghost use Rattle.rules.specs.Corrections.{floor};
 ghost use Rattle.rules.specs.declared.Vehicle.{Vehicle};
 ghost use Rattle.gears.specs.Parts.{Counts, Has};
-ghost use Rattle.gears.specs.Second.{Gear, Lowest, GearOf, Geared, Load};
+ghost use Rattle.gears.specs.Second.{Gear, Lowest, GearOf, Load};
 use crate::Numbers;
+use rules::Place;
 
 // A number of the record, wide enough for a product with another.
 fn wide(x: u16) -> u64
@@ -27,17 +26,43 @@ pub fn engine(ratio: &[u16; 10], g: usize, v: u16) -> u64
     wide(ratio[g - 1]) * wide(v)
 }
 
-// The minimum speed of a gear, rounded to the nearest whole, halves up.
-pub fn minimum(k: Numbers, g: usize) -> u64
+// Whether a second is its trip's first.
+pub fn is_first(here: Place) -> bool
+    ensures { λ r. ⌜ r ≡ is-first here ⌝ }
+{
+    match here {
+        Place::First => true,
+        Place::Closing => false,
+        Place::AfterLow => false,
+        Place::Inner => false,
+    }
+}
+
+// The minimum speed of the gear above the lowest, by what the second is in its trip, rounded to the nearest whole, halves up.
+fn next_minimum(k: Numbers, here: Place) -> u64
+    ensures speed { λ r. ⌜ ((car : Vehicle) → Counts car k → r ≡ next-minimum car here) ⌝ }
+    ensures small { λ r. ⌜ r ≤ 131070 ⌝ }
+{
+    let idle = wide(k.idle);
+    match here {
+        Place::First => (9 * idle + 5) / 10,
+        Place::Closing => idle,
+        Place::AfterLow => (115 * idle + 50) / 100,
+        Place::Inner => (9 * idle + 5) / 10,
+    }
+}
+
+// The minimum speed of a gear.
+pub fn minimum(k: Numbers, here: Place, g: usize) -> u64
     requires { ⌜ Lowest k g ⌝ }
-    ensures speed { λ r. ⌜ ((car : Vehicle) → Counts car k → r ≡ minimum car g) ⌝ }
+    ensures speed { λ r. ⌜ ((car : Vehicle) → Counts car k → r ≡ minimum car here g) ⌝ }
     ensures small { λ r. ⌜ r ≤ 131070 ⌝ }
 {
     let idle = wide(k.idle);
     let rated = wide(k.rated);
     match g {
         1 => idle,
-        2 => (9 * idle + 5) / 10,
+        2 => next_minimum(k, here),
         _ => idle + (rated - idle + 4) / 8,
     }
 }
@@ -50,9 +75,9 @@ pub fn top(k: Numbers) -> u64
 }
 
 // Whether a gear fits.
-pub fn fits(k: Numbers, ratio: &[u16; 10], first: bool, v: u16, g: usize) -> bool
+pub fn fits(k: Numbers, ratio: &[u16; 10], here: Place, v: u16, g: usize) -> bool
     requires { ⌜ GearOf k g ⌝ }
-    ensures { λ r. ⌜ ((car : Vehicle) → Has car k (now (ratio .entry)) → r ≡ fits car (record { first-second = first }) v g) ⌝ }
+    ensures { λ r. ⌜ ((car : Vehicle) → Has car k (now (ratio .entry)) → r ≡ fits car here v g) ⌝ }
 {
     let x = engine(ratio, g, v);
     if top(k) < x {
@@ -61,26 +86,10 @@ pub fn fits(k: Numbers, ratio: &[u16; 10], first: bool, v: u16, g: usize) -> boo
     if g == 1 {
         return true;
     }
-    if first {
+    if is_first(here) {
         return false;
     }
-    1000 * minimum(k, g) <= x
-}
-
-// Whether some gear fits, by engine speed alone.
-pub fn some_fits(k: Numbers, ratio: &[u16; 10], first: bool, v: u16) -> bool
-    requires { ⌜ Geared k ⌝ }
-    ensures { λ r. ⌜ ((car : Vehicle) → Has car k (now (ratio .entry)) → r ≡ not (eqb (highest (fits car (record { first-second = first }) v) (k .ng)) 0)) ⌝ }
-{
-    let ng = k.ng as usize;
-    let mut g: usize = 1;
-    while g <= ng {
-        if fits(k, ratio, first, v, g) {
-            return true;
-        }
-        g += 1;
-    }
-    false
+    1000 * minimum(k, here, g) <= x
 }
 
 // The floor: the lowest gear whose X is at most 1000 x nmax; ng + 1 where there is none.

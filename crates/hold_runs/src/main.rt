@@ -208,6 +208,22 @@ fn refusals() {
         [18, 2, 18, 18, 0],
         1,
     );
+    five_released(
+        b"no gear left for a later second:",
+        crawler,
+        [0, 100, 125, 125, 0],
+        [0, 2, 0, 0, 0],
+        [18, 2, 2, 2, 0],
+        1,
+    );
+    five_released(
+        b"one left in the closing run:",
+        crawler,
+        [0, 100, 125, 110, 0],
+        [0, 2, 0, 0, 0],
+        [18, 2, 2, 18, 0],
+        1,
+    );
     five_released(b"released outside the trace:", z, trace, none, right, 5);
     nine(
         b"a fault in another trip is not looked at:",

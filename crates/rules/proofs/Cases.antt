@@ -6,12 +6,14 @@ use mathlib.Core.Bool.{Bool, true, false}
 use mathlib.Core.Option.{Option, none, some}
 use mathlib.Core.List.{List, [], _∷_}
 use lib.IntN.{ℤ, pos, negℤ}
-use lib.ListN.{replicate, drop}
+use lib.ListN.{replicate, drop, set}
 use Rattle.rules.specs.declared.Vehicle.{Vehicle}
+use Rattle.rules.specs.declared.Place.{Place}
+use Rattle.rules.specs.declared.Place.the-variants.{First, Closing, AfterLow, Inner}
 use Rattle.rules.specs.Words.{if_then_else_, _and_, _or_, within, every, first, highest, pass, table, patch}
 use Rattle.rules.specs.Units.{ratio-of, ratio-good, point-good, bounds, first-failed, bad-field, low, longest, moving, rise, start, run, stop}
-use Rattle.rules.specs.Gears.{Place, engine, minimum-of, minimum, under-nmax, over-minimum, allowed, fits, required, between, on-segment, reaches, segment, power-speed, power, enough, more, suits, beats, strongest, choose}
-use Rattle.rules.specs.Corrections.{floor, closing, ceiling, here, first-choice, free, is-peak, peak, too-high, rising, too-low, slowing, firsts, after-A, after-B, gears, trip-speeds, trip-holds, first-at, gear-at, clutch, byte, card-at, card}
+use Rattle.rules.specs.Gears.{is-first, engine, next-minimum, minimum-of, minimum, under-nmax, over-minimum, allowed, fits, required, between, on-segment, reaches, segment, power-speed, power, enough, more, suits, beats, strongest, choose}
+use Rattle.rules.specs.Corrections.{floor, closing, ceiling, here, first-choice, free, is-peak, peak, too-high, rising, too-low, slowing, firsts, after-A, after-B, gears, trip-speeds, trip-holds, first-at, gear-at, clutch, byte, card-at, card, place-at, place-of}
 use Rattle.rules.specs.Refusals.{Fault, refuse-at, _orelse_, when, trace-fault, room-fault, vehicle-fault, check-number, checks, last-check, bad, fault-of, seconds-fault, gear-fault, span-fault, work-fault, left, second-fault, edit-fault}
 use Rattle.rules.specs.Quick.{span-lo, span-hi, standing-fault, own-fault, quick-fault, reworked, quick-holds, quick-card}
 use Rattle.rules.specs.Holds.{asked, hold-fault, hold-holds, hold-card, release-holds, release-card}
@@ -22,11 +24,11 @@ use Rattle.rules.specs.Write.{job-from, job-bytes}
 use Rattle.rules.specs.Mend.{mend-lo, mend-hi, mend-end, mended-fault, mended-card, mend-fault, mend-speeds, mend-card}
 use Rattle.rules.specs.Text.{digits, decimal, heading, pedal, line, lines, card-text, refusal-text, worked-text, read-text, printed}
 
--- car Z, with its idle and rated speeds and its F0
-car-of : ℕ → ℕ → ℕ → Vehicle
-car-of idle rated f0 = record {
+-- car Z, with its first ratio, its idle and rated speeds and its F0
+car-with : ℕ → ℕ → ℕ → ℕ → Vehicle
+car-with ratio idle rated f0 = record {
   ng = 5;
-  ratio = 12000 ∷ 7000 ∷ 4500 ∷ 3500 ∷ 2800 ∷ 0 ∷ 0 ∷ 0 ∷ 0 ∷ 0 ∷ [];
+  ratio = ratio ∷ 7000 ∷ 4500 ∷ 3500 ∷ 2800 ∷ 0 ∷ 0 ∷ 0 ∷ 0 ∷ 0 ∷ [];
   idle = idle;
   rated = rated;
   nmax = 6000;
@@ -40,6 +42,9 @@ car-of idle rated f0 = record {
   p = 100 ∷ 300 ∷ 500 ∷ 700 ∷ 850 ∷ 900 ∷ 880 ∷ [];
 }
 
+car-of : ℕ → ℕ → ℕ → Vehicle
+car-of = car-with 12000
+
 car-Z : ℕ → Vehicle
 car-Z = car-of 800 5600
 
@@ -50,9 +55,17 @@ Z = car-Z 1000
 halves : Vehicle
 halves = car-of 825 5429 1000
 
--- a second that is not its trip's first
+-- 1.15 times its idle speed are 931.5
+halves-after : Vehicle
+halves-after = car-of 810 5600 1000
+
+-- from V 121 on gear 1 turns past nmax, and up to V 131 gear 2 turns below 1.15 times idle
+gap : Vehicle
+gap = car-with 50000 800 5600 1000
+
+-- a second that is not its trip's first, not in the closing run and not after gear 1
 inside : Place
-inside = record { first-second = false }
+inside = Inner
 
 -- no holds
 free-trip : List ℕ
@@ -76,6 +89,17 @@ split = 0 ∷ 50 ∷ 0 ∷ 100 ∷ 0 ∷ []
 -- a short trip, then a longer one whose first choices are corrected
 two-trips : List ℕ
 two-trips = 0 ∷ 50 ∷ 0 ∷ 150 ∷ 300 ∷ 450 ∷ 600 ∷ 450 ∷ 300 ∷ 150 ∷ 0 ∷ []
+
+-- steady after a dip at second 3; and the same with the end of the dip in the closing run
+dip : List ℕ
+dip = 0 ∷ 100 ∷ 140 ∷ 115 ∷ 125 ∷ 125 ∷ 0 ∷ []
+
+dip-closing : List ℕ
+dip-closing = 0 ∷ 100 ∷ 140 ∷ 115 ∷ 125 ∷ 0 ∷ []
+
+-- steady after a slow start
+slow-start : List ℕ
+slow-start = 0 ∷ 100 ∷ 118 ∷ 125 ∷ 125 ∷ 0 ∷ []
 
 -- car Z and these speeds, without holds, as a job
 job-Z : List ℕ
@@ -104,10 +128,23 @@ row w p = record { worked = w; paper = p }
 choice : ℕ → ℤ → Value
 choice v d = numbers (choose Z inside v d ∷ [])
 
+-- the gear above the lowest at the three places
+next-minimums : Vehicle → Value
+next-minimums car = numbers (minimum car Inner 2 ∷ minimum car Closing 2 ∷ minimum car AfterLow 2 ∷ [])
+
+-- the first choices of the moving seconds 1 to n
+firsts-of : Vehicle → List ℕ → List ℕ → ℕ → Value
+firsts-of car vs hs n = numbers (table (first-at car vs hs) 1 n)
+
+-- refused for want of a gear
+no-gear-at : ℕ → Value
+no-gear-at i = refusal (some (record { no = 10; spot = i }))
+
 rows : List Row
 rows =
     -- car Z minimum speeds
-    row (numbers (minimum Z 1 ∷ minimum Z 2 ∷ minimum Z 3 ∷ [])) (numbers (800 ∷ 720 ∷ 1400 ∷ []))
+    row (numbers (minimum Z Inner 1 ∷ minimum Z Inner 2 ∷ minimum Z Inner 3 ∷ [])) (numbers (800 ∷ 720 ∷ 1400 ∷ []))
+    ∷ row (next-minimums Z) (numbers (720 ∷ 800 ∷ 920 ∷ []))
     -- V 500, D 0
     ∷ row (scaled (required Z 500 (pos 0))) (scaled (pos 9000000000000))
     ∷ row (numbers (engine Z 5 500 ∷ [])) (numbers (1400000 ∷ []))
@@ -143,9 +180,26 @@ rows =
     ∷ row (numbers (choose (car-Z 927) inside 1139 (pos 34) ∷ [])) (numbers (4 ∷ []))
     ∷ row (numbers (choose (car-Z 928) inside 1309 (pos 29) ∷ [])) (numbers (3 ∷ []))
     -- minimum speeds round halves up: X 742,000 is too low for gear 2, X 1,400,000 for gear 5
-    ∷ row (numbers (minimum halves 1 ∷ minimum halves 2 ∷ minimum halves 3 ∷ [])) (numbers (825 ∷ 743 ∷ 1401 ∷ []))
+    ∷ row (numbers (minimum halves Inner 1 ∷ minimum halves Inner 2 ∷ minimum halves Inner 3 ∷ [])) (numbers (825 ∷ 743 ∷ 1401 ∷ []))
     ∷ row (numbers (choose halves inside 106 (pos 0) ∷ [])) (numbers (1 ∷ []))
     ∷ row (numbers (choose halves inside 500 (pos 0) ∷ [])) (numbers (4 ∷ []))
+    ∷ row (next-minimums halves-after) (numbers (729 ∷ 810 ∷ 932 ∷ []))
+    ∷ row (numbers (choose halves-after AfterLow 133 (pos 0) ∷ choose halves-after AfterLow 134 (pos 0) ∷ [])) (numbers (1 ∷ 2 ∷ []))
+    -- request Two: after gear 1, 1.15 times idle decides; in the closing run it does not
+    ∷ row (numbers (card Z (0 ∷ 50 ∷ 120 ∷ 120 ∷ 0 ∷ []) (replicate 5 0))) (numbers (17 ∷ 1 ∷ 1 ∷ 2 ∷ 0 ∷ []))
+    ∷ row (firsts-of Z (0 ∷ 120 ∷ 120 ∷ 0 ∷ []) (replicate 4 0) 2) (numbers (1 ∷ 2 ∷ []))
+    -- car Z, speeds 0, 110, 110, 110, 0: before this rule the card was 17, 1, 18, 18, 0
+    ∷ row (numbers (card Z (0 ∷ 110 ∷ 110 ∷ 110 ∷ 0 ∷ []) (replicate 5 0))) (numbers (17 ∷ 1 ∷ 1 ∷ 18 ∷ 0 ∷ []))
+    -- a held 1 counts
+    ∷ row (firsts-of Z (0 ∷ 50 ∷ 150 ∷ 130 ∷ 130 ∷ 0 ∷ []) (replicate 6 0) 4) (numbers (1 ∷ 2 ∷ 2 ∷ 2 ∷ []))
+    ∷ row (firsts-of Z (0 ∷ 50 ∷ 150 ∷ 130 ∷ 130 ∷ 0 ∷ []) (0 ∷ 0 ∷ 1 ∷ 0 ∷ 0 ∷ 0 ∷ []) 4) (numbers (1 ∷ 1 ∷ 1 ∷ 2 ∷ []))
+    -- a hold leaves the next second without a gear, but not in the closing run; so does a release
+    ∷ row (refusal (work-fault gap dip (replicate 7 0) dip)) (refusal none)
+    ∷ row (refusal (quick-fault gap dip (replicate 7 0) dip 3 1)) (no-gear-at 4)
+    ∷ row (refusal (work-fault gap dip (set (replicate 7 0) 3 1) dip)) (no-gear-at 4)
+    ∷ row (refusal (quick-fault gap dip-closing (replicate 6 0) dip-closing 3 1)) (refusal none)
+    ∷ row (refusal (work-fault gap slow-start (0 ∷ 0 ∷ 2 ∷ 0 ∷ 0 ∷ 0 ∷ []) slow-start)) (refusal none)
+    ∷ row (refusal (quick-fault gap slow-start (0 ∷ 0 ∷ 2 ∷ 0 ∷ 0 ∷ 0 ∷ []) slow-start 2 0)) (no-gear-at 3)
     -- a second is moving from V 10 on; a trace of one standing second
     ∷ row (numbers (card Z (0 ∷ 10 ∷ 0 ∷ []) (replicate 3 0))) (numbers (17 ∷ 17 ∷ 0 ∷ []))
     ∷ row (numbers (card Z (0 ∷ 9 ∷ 0 ∷ []) (replicate 3 0))) (numbers (0 ∷ 0 ∷ 0 ∷ []))
@@ -205,5 +259,5 @@ papers [] = []
 papers (r ∷ rs) = r .paper ∷ papers rs
 
 sums-done-on-paper : sums rows ≡ papers rows
-unfolding sums papers rows row choice car-of car-Z Z halves inside free-trip steady up trace two-trips job-Z _and_ _or_ within every first highest pass table patch ratio-of ratio-good point-good bounds first-failed bad-field low longest moving rise start run stop engine minimum-of minimum under-nmax over-minimum allowed fits required between on-segment reaches segment power-speed power enough more suits beats strongest choose floor closing ceiling here first-choice free is-peak peak too-high rising too-low slowing firsts after-A after-B gears trip-speeds trip-holds first-at gear-at clutch byte card-at card refuse-at _orelse_ when trace-fault room-fault vehicle-fault check-number checks last-check bad fault-of seconds-fault gear-fault span-fault work-fault left second-fault edit-fault span-lo span-hi standing-fault own-fault quick-fault reworked quick-holds quick-card asked hold-fault hold-holds hold-card release-holds release-card hand-on demand early group-if group value checked bounded _then_ seen row-read in-a-row many counted whole version gearbox eight-numbers point curve seconds speeds hold rising-holds padded vehicle-of vehicle put holds packed stages job job-read digits decimal heading pedal line lines card-text refusal-text worked-text read-text printed form row-write points-of parts-of gather fields job-from job-bytes split mend-lo mend-hi mend-end mended-fault mended-card mend-fault mend-speeds mend-card
+unfolding sums papers rows row choice car-of car-Z Z halves inside free-trip steady up trace two-trips job-Z _and_ _or_ within every first highest pass table patch ratio-of ratio-good point-good bounds first-failed bad-field low longest moving rise start run stop engine minimum-of minimum under-nmax over-minimum allowed fits required between on-segment reaches segment power-speed power enough more suits beats strongest choose floor closing ceiling here first-choice free is-peak peak too-high rising too-low slowing firsts after-A after-B gears trip-speeds trip-holds first-at gear-at clutch byte card-at card refuse-at _orelse_ when trace-fault room-fault vehicle-fault check-number checks last-check bad fault-of seconds-fault gear-fault span-fault work-fault left second-fault edit-fault span-lo span-hi standing-fault own-fault quick-fault reworked quick-holds quick-card asked hold-fault hold-holds hold-card release-holds release-card hand-on demand early group-if group value checked bounded _then_ seen row-read in-a-row many counted whole version gearbox eight-numbers point curve seconds speeds hold rising-holds padded vehicle-of vehicle put holds packed stages job job-read digits decimal heading pedal line lines card-text refusal-text worked-text read-text printed form row-write points-of parts-of gather fields job-from job-bytes split mend-lo mend-hi mend-end mended-fault mended-card mend-fault mend-speeds mend-card next-minimums firsts-of no-gear-at car-with halves-after gap dip dip-closing slow-start is-first next-minimum place-at place-of
 sums-done-on-paper = refl

@@ -9,7 +9,9 @@ pub mod Power
 pub mod Sizes
 pub mod Nested
 pub mod Strongest
+pub mod Minimum
 pub mod Choice
+pub mod Closing
 pub mod Held
 pub mod Limits
 pub mod Checks

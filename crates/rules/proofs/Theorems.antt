@@ -12,16 +12,18 @@ use lib.ListN.{length, set, take}
 use lib.IntN.{ℤ, pos, natAbs, _-ℤ_, _*ℤ_}
 use Rattle.rules.specs.declared.Vehicle.{Vehicle}
 use Rattle.rules.specs.declared.Answer.{Answer}
+use Rattle.rules.specs.declared.Place.{Place}
+use Rattle.rules.specs.declared.Place.the-variants.{AfterLow}
 use Rattle.rules.specs.Words.{if_then_else_, _or_, at, first, pass, patch}
-use Rattle.rules.specs.Units.{bad-field, longest, fastest, steepest, moving, start, stop}
-use Rattle.rules.specs.Gears.{Place, engine, under-nmax, fits, required, Power, on-segment, segment, power-speed, choose}
-use Rattle.rules.specs.Corrections.{peak, rising, slowing, gear-at, card-at, card}
+use Rattle.rules.specs.Units.{bad-field, longest, fastest, steepest, moving, start, stop, rise}
+use Rattle.rules.specs.Gears.{engine, under-nmax, fits, required, Power, on-segment, segment, power-speed, choose, is-first, minimum}
+use Rattle.rules.specs.Corrections.{peak, rising, slowing, gear-at, card-at, card, first-at, place-at}
 use Rattle.rules.specs.Refusals.{said, refuse-at, _orelse_, speed, step, ends, fault-of, span-fault, work-fault, left, work-card, edit-fault}
 use Rattle.rules.specs.Job.{most-groups, longest-job, Job, job-read}
 use Rattle.rules.specs.Text.{printed}
 use Rattle.rules.specs.Quick.{span-lo, span-hi, own-fault, quick-fault, reworked, quick-holds, quick-card}
 use Rattle.rules.specs.Holds.{asked, hold-fault, hold-holds, hold-card, release-fault, release-holds, release-card}
-use Rattle.rules.specs.Vocabulary.{IsTrip, FirstChoice, OnSegment, Wanting, PassesOthers, Out, Edit, SameSpan, OneForm, _times_, In64, nested, nested-sum, engine-sum, idle-sum, required-sum, w-sum, Q-sum, margin-sum, Bytes, MayChange, Right, Run, Spares}
+use Rattle.rules.specs.Vocabulary.{IsTrip, FirstChoice, OnSegment, Wanting, PassesOthers, Out, Edit, SameSpan, OneForm, _times_, In64, nested, nested-sum, engine-sum, idle-sum, required-sum, w-sum, Q-sum, margin-sum, Bytes, MayChange, Right, Run, Spares, Turns, Allowed}
 use Rattle.rules.specs.Groups.{got}
 use Rattle.rules.specs.Write.{job-from, job-fault, write-fault, written, cleared}
 use Rattle.rules.specs.Mend.{mend-lo, mend-hi, mend-end, mended-fault, mended-card, mend-fault, mend-speeds, mend-card}
@@ -34,9 +36,9 @@ use Rattle.rules.proofs.Laws.Nested.{required-nested, nested-inside}
 use Rattle.rules.proofs.Laws.Choice.{first-choice-plainly}
 use Rattle.rules.proofs.Laws.Held.{not-free, peak-fixed, rising-fixed, slowing-fixed}
 use Rattle.rules.proofs.Laws.Checks.{vehicle-in, rooms-in, Accepted, accepted}
-use Rattle.rules.proofs.Laws.Cards.{fit-of, held-shows, byte-gear, no-over-rev}
+use Rattle.rules.proofs.Laws.Cards.{fit-of, held-shows, byte-gear, no-over-rev, first-at-is}
 use Rattle.rules.proofs.Laws.Rising.{right-spares, reworked-spares}
-use Rattle.rules.proofs.Laws.Want.{refused-for-want, lowest-wanting}
+use Rattle.rules.proofs.Laws.Want.{refused-for-want, lowest-wanting, never-wanting}
 use Rattle.rules.proofs.Laws.Edits.{reaches, edit-as-whole}
 use Rattle.rules.proofs.Laws.Quick.{quick-whole}
 use Rattle.rules.proofs.Laws.Span.{looks-at-span, reworks-span, card-frame, card-standing, holds-frame, quick-shows}
@@ -47,6 +49,7 @@ use Rattle.rules.proofs.Laws.Groups.{one-form}
 use Rattle.rules.proofs.Laws.Writes.{writable, reads-written, writes-read, write-none, none-write}
 use Rattle.rules.proofs.Laws.Long.{long-job}
 use Rattle.rules.proofs.Laws.Refusals.{said-once}
+use Rattle.rules.proofs.Laws.Minimum.{minimum-most, fits-anywhere}
 
 -- ---- 1. Trips
 
@@ -75,6 +78,18 @@ neighbours vs i m =
 
 pub first-choice : (car : Vehicle) (here : Place) (v : ℕ) (d : ℤ) → bad-field car ≡ none → FirstChoice car here v d (choose car here v d)
 first-choice car here v d e = first-choice-plainly car here v d (in-bounds car e)
+
+-- first choices run from left to right through a trip: the held gear, else the rules' choice for what the second is, which may ask for the first choice before
+pub first-choice-at : (car : Vehicle) (vs hs : List ℕ) → length hs ≡ length vs → (i : ℕ) → moving (at vs i) ≡ true
+    → first-at car vs hs i ≡ (if eqb (at hs i) 0 then choose car (place-at car vs hs i) (at vs i) (rise vs i) else at hs i)
+first-choice-at = first-at-is
+
+-- of the minimum speeds of a gear the one after the lowest gear is the highest: a gear that fits there fits at every second but a trip's first
+pub highest-minimum : (car : Vehicle) (here : Place) (g : ℕ) → minimum car here g ≤ minimum car AfterLow g
+highest-minimum = minimum-most
+
+pub fits-at-any : (car : Vehicle) (here : Place) (v g : ℕ) → is-first here ≡ false → fits car AfterLow v g ≡ true → fits car here v g ≡ true
+fits-at-any = fits-anywhere
 
 -- ---- 3. Power
 
@@ -120,6 +135,10 @@ want-of-a-gear = refused-for-want
 pub lowest-want : (car : Vehicle) (vs hs old : List ℕ) → PassesOthers car vs hs old
     → (i j : ℕ) → work-fault car vs hs old ≡ some (record { no = 10; spot = i }) → Wanting car vs hs j → i ≤ j
 lowest-want = lowest-wanting
+
+-- no second is wanting at which an allowed gear is fast enough even after the lowest gear, whatever was chosen before
+pub not-wanting : (car : Vehicle) (vs hs : List ℕ) (i g : ℕ) → Allowed car vs i g → Turns car AfterLow (at vs i) g → Wanting car vs hs i → ⊥
+not-wanting = never-wanting
 
 -- ---- 6. Passes never change a held second, and its byte shows the held gear
 

@@ -10,14 +10,16 @@ use mathlib.Core.List.{List, _++_}
 use lib.ListN.{length}
 use lib.IntN.{ℤ, pos, natAbs, _+ℤ_, _-ℤ_, _*ℤ_}
 use Rattle.rules.specs.declared.Vehicle.{Vehicle}
+use Rattle.rules.specs.declared.Place.{Place}
 use Rattle.rules.specs.Words.{at}
 use Rattle.rules.specs.Units.{ratio-of, low, moving, start}
-use Rattle.rules.specs.Gears.{Place, engine, minimum, fits, power, enough, more, suits}
+use Rattle.rules.specs.Gears.{engine, minimum, fits, power, enough, more, suits}
 use Rattle.rules.specs.Refusals.{trace-fault, room-fault, vehicle-fault, over-ng, over-rev, no-gear, bad, seconds-fault, work-fault}
 use Rattle.rules.specs.Corrections.{floor, card}
 use Rattle.rules.specs.Holds.{hold-holds, hold-card, release-holds, release-card}
 use Rattle.rules.specs.Mend.{mend-speeds, mend-card}
 use Rattle.rules.specs.Groups.{got, group, form}
+use Rattle.rules.specs.Corrections.{place-at}
 
 -- ---- the vehicle
 
@@ -169,9 +171,9 @@ margin-sum car x k = (num (pos 100) less num (pos (car .margin))) times Q-sum ca
 
 -- ---- refused for want of a gear
 
--- gear g turns the engine inside its limits at road speed v: from its minimum, which the lowest gear has not, to nmax
-pub record Turns (car : Vehicle) (v g : ℕ) : Type 0 where
-  pub from : g ≢ low car → 1000 * minimum car g ≤ engine car g v
+-- gear g turns the engine inside its limits at road speed v: from its minimum there, which the lowest gear has not, to nmax
+pub record Turns (car : Vehicle) (here : Place) (v g : ℕ) : Type 0 where
+  pub from : g ≢ low car → 1000 * minimum car here g ≤ engine car g v
   pub to : engine car g v ≤ 1000 * car .nmax
 
 -- a gear that is allowed at second i: one of the vehicle's; at the first second of a trip the lowest
@@ -184,7 +186,7 @@ pub record Allowed (car : Vehicle) (vs : List ℕ) (i g : ℕ) : Type 0 where
 pub record Wanting (car : Vehicle) (vs hs : List ℕ) (i : ℕ) : Type 0 where
   pub moves : moving (at vs i) ≡ true
   pub no-hold : at hs i ≡ 0
-  pub no-gear-there : (g : ℕ) → Allowed car vs i g → Turns car (at vs i) g → ⊥
+  pub no-gear-there : (g : ℕ) → Allowed car vs i g → Turns car (place-at car vs hs i) (at vs i) g → ⊥
 
 -- the trace passes checks 1 to 9
 pub record PassesOthers (car : Vehicle) (vs hs old : List ℕ) : Type 0 where

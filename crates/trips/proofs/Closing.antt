@@ -12,6 +12,7 @@ use borrow.Author.Tests.{le-leb, lt-leb, le-ltb, lt-ltb}
 use Rattle.rules.specs.Words.{_and_, _or_, at}
 use Rattle.rules.specs.Units.{moving}
 use Rattle.rules.specs.Corrections.{closing}
+use Rattle.rules.proofs.Laws.Closing.{closing-here, closing-end}
 use Rattle.rules.proofs.Laws.Words.{clash, by-eq, by-order, and-no}
 use Rattle.trips.specs.Trip.{RunFrom, AllMoving}
 
@@ -22,26 +23,15 @@ or-true true e = refl
 or-true false e = e
 
 module _ (us : List ℕ) where
-  -- one second: V is above the next, and that is standing or in the closing run
-  closing-here : (i : ℕ) → suc i < length us
-      → closing (drop i us) ≡ ltb (at us (suc i)) (at us i) and (not (moving (at us (suc i))) or closing (drop (suc i) us))
-  unfolding closing
-  closing-here i h = rw (drop-cons us i 0 (omega arith), drop-cons us (suc i) 0 h)
-
-  -- after the trip's last second
-  closing-end : (i : ℕ) → suc i ≡ length us → closing (drop i us) ≡ false
-  unfolding closing
-  closing-end i h = rw (drop-cons us i 0 (omega arith), drop-of-length-le us {i = suc i} (omega arith))
-
   -- a second at which V does not fall is not in the run
   closing-flat : (i : ℕ) → suc i < length us → at us i ≤ at us (suc i) → closing (drop i us) ≡ false
   unfolding _and_
-  closing-flat i h l = closing-here i h ∙ rw (le-ltb (at us (suc i)) (at us i) l)
+  closing-flat i h l = closing-here us i h ∙ rw (le-ltb (at us (suc i)) (at us i) l)
 
   -- a second at which V falls to one that is standing or in the run is in the run
   closing-falls : (i : ℕ) → suc i < length us → at us (suc i) < at us i → (not (moving (at us (suc i))) or closing (drop (suc i) us)) ≡ true → closing (drop i us) ≡ true
   unfolding _and_
-  closing-falls i h l e = closing-here i h ∙ rw (lt-ltb (at us (suc i)) (at us i) l, e)
+  closing-falls i h l e = closing-here us i h ∙ rw (lt-ltb (at us (suc i)) (at us i) l, e)
 
   -- a moving second that is not in the run: none before it is
   open-before : (j : ℕ) → j < length us → ((i : ℕ) → i ≤ j → moving (at us i) ≡ true) → closing (drop j us) ≡ false → (i : ℕ) → i ≤ j → closing (drop i us) ≡ false
@@ -49,7 +39,7 @@ module _ (us : List ℕ) where
   open-before zero l m e i h = let z : i ≡ 0 = omega arith in rw z e
   open-before (suc j) l m e i h =
       by-eq h (λ x. rw x e)
-      (λ x. open-before j (omega arith) (λ k y. m k (omega arith)) (closing-here j l ∙ rw (m (suc j) (omega arith), e) (and-no _ _ refl)) i (omega arith))
+      (λ x. open-before j (omega arith) (λ k y. m k (omega arith)) (closing-here us j l ∙ rw (m (suc j) (omega arith), e) (and-no _ _ refl)) i (omega arith))
 
   -- ---- the scan
 
@@ -70,7 +60,7 @@ module _ (us : List ℕ) where
       let m : (i : ℕ) → i ≤ j → moving (at us i) ≡ true = λ i a. by-eq a (λ e. rw e h) (λ b. M .second i (omega arith)) in
       record {
         within = omega arith;
-        run = λ i a. open-before j (omega arith) m (closing-end j l) i (omega arith) ∙ sym (lt-leb j i (omega arith));
+        run = λ i a. open-before j (omega arith) m (closing-end us j l) i (omega arith) ∙ sym (lt-leb j i (omega arith));
       }
 
   module _ {j : ℕ} (inv : Closing j) where

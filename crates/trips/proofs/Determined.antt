@@ -53,13 +53,13 @@ pass-b κs a asked z z′ ws ws′ p q = let H = built-has (a .0) (now (a .1 .0)
 pub closing-from : Determined closing-from-kinds.ps closing-from-kinds.r closing-from-reads.Asked closing-from-reads.Learnt
 closing-from κs a asked z z′ ws ws′ p q = (run-once (now (a .0)) z z′ p q, refl)
 
--- pass C, which does not look at the vehicle: any will do
+-- pass C, which looks neither at the vehicle nor at the speeds: any vehicle will do, and the speeds that are asked for
 pub pass-c : Determined pass-c-kinds.ps pass-c-kinds.r pass-c-reads.Asked pass-c-reads.Learnt
-pass-c κs a asked z z′ ws ws′ p q = (refl, ap (λ (x : List ℕ). (tt, (tt, (x, tt)))) (p blank ∙ sym (q blank)))
+pass-c κs a asked z z′ ws ws′ p q = let s = asked .speeds in let r = asked .run in (refl, ap (λ (x : List ℕ). (tt, (tt, (x, tt)))) (p blank _ s r ∙ sym (q blank _ s r)))
 
 -- the first choices of a trip
 pub first-choices : Determined first-choices-kinds.ps first-choices-kinds.r first-choices-reads.Asked first-choices-reads.Learnt
-first-choices κs a asked z z′ ws ws′ p q = let car = asked .0 .car in let L = asked .0 .lent in (refl, ap (λ (x : List ℕ). (tt, (tt, (tt, (tt, (tt, (tt, (x, tt)))))))) (p car L ∙ sym (q car L)))
+first-choices κs a asked z z′ ws ws′ p q = let car = asked .0 .car in let L = asked .0 .lent in (refl, ap (λ (x : List ℕ). (tt, (tt, (tt, (tt, (tt, (tt, (tt, (x, tt))))))))) (p car L ∙ sym (q car L)))
 
 -- the work on a trip
 pub work-trip : Determined work-trip-kinds.ps work-trip-kinds.r work-trip-reads.Asked work-trip-reads.Learnt

@@ -1,16 +1,18 @@
 -- What the calls of one trip's work come to, one after the other.
 -- Assumes nothing.
-use Prim.Native.Nat.{ℕ, suc, _≤_, _<_}
+use Prim.Native.Nat.{ℕ, suc, _-_, _≤_, _<_}
 use native.Mathlib.Omega.{arith}
 use mathlib.Core.Path.{_≡_, sym, ap, _∙_}
 use mathlib.Core.List.{List}
-use lib.Dec.{eqb}
+use lib.Dec.{leb, eqb}
 use lib.IntN.{ℤ}
-use lib.ListN.{length}
+use lib.ListN.{length, drop}
+use borrow.Author.Tests.{eq-eqb}
 use Rattle.rules.specs.declared.Vehicle.{Vehicle}
 use Rattle.rules.specs.Words.{at, pass, table}
 use Rattle.rules.specs.Units.{rise}
-use Rattle.rules.specs.Corrections.{here, first-choice, peak, rising, slowing, firsts, after-A, after-B, gears, byte}
+use Rattle.rules.specs.Corrections.{closing, place-of, here, first-choice, peak, rising, slowing, firsts, after-A, after-B, gears, byte}
+use Rattle.rules.proofs.Laws.Words.{by-order}
 use Rattle.rules.proofs.Laws.Held.{length-gears}
 use Rattle.trips.proofs.Passes.{gears-to}
 use Rattle.gears.specs.declared.Numbers.{Numbers}
@@ -18,14 +20,23 @@ use Rattle.gears.specs.Parts.{Lent, Parts}
 use Rattle.gears.proofs.Parts.{ng-of}
 use Rattle.gears.specs.Choosing.{first-of, first-parts}
 use Rattle.trips.specs.Ready.{HasRoom, Ready}
-use Rattle.trips.specs.Trip.{AllMoving, trip-bytes}
+use Rattle.trips.specs.Trip.{AllMoving, RunFrom, trip-bytes}
 
 module _ (car : Vehicle) (us hs : List ℕ) where
-  -- the choice for D is the first choice of second j, whatever gears stand in the trip
-  pub chosen : (j v : ℕ) (d : ℤ) → d ≡ rise us j → v ≡ first-of car (record { first-second = eqb j 0 }) (at us j) d (at hs j)
-      → (gs : List ℕ) → v ≡ first-choice car us hs j gs
-  unfolding here
-  chosen j v d e h gs = rw (h, e) (sym (first-parts car us hs j gs))
+  -- what second j is, from where the closing run begins and from the first choice before, which is not asked for at the trip's first second
+  known : (run before j : ℕ) (gs : List ℕ) → closing (drop j us) ≡ leb run j → ((j ≡ 0 → ⊥) → before ≡ at gs (j - 1))
+      → place-of car (eqb j 0) (leb run j) before ≡ here car us hs j gs
+  unfolding here place-of
+  known run before j gs c b =
+      by-order 0 j
+      (λ l. rw (c, ← b (λ z. omega arith)))
+      (λ l. rw (eq-eqb j 0 (omega arith)))
+
+  -- the choice for it and for D is the first choice of second j
+  pub chosen : (run before j v : ℕ) {d : ℤ} → d ≡ rise us j → RunFrom us run → suc j < length us
+      → v ≡ first-of car (place-of car (eqb j 0) (leb run j) before) (at us j) d (at hs j)
+      → (gs : List ℕ) → ((j ≡ 0 → ⊥) → before ≡ at gs (j - 1)) → v ≡ first-choice car us hs j gs
+  chosen run before j v e R l h gs b = rw (h, e, known run before j gs (R .run j l) b) (sym (first-parts car us hs j gs))
 
   -- first choices, then the three passes: the trip's gears
   pub gears-is : {f a b g : List ℕ} → f ≡ firsts car us hs → a ≡ pass (peak car us hs) (length hs) f → b ≡ pass (rising car us hs) (length hs) a

@@ -20,6 +20,13 @@ pub record RunFrom (us : List ℕ) (r : ℕ) : Type 0 where
   pub within : r < length us
   pub run : (i : ℕ) → suc i < length us → closing (drop i us) ≡ leb r i
 
+-- a trip with these holds and gears whose closing run begins at second r
+pub record Closes (r : ℕ) (hs gs : List ℕ) : Type 0 where
+  pub us : List ℕ
+  pub speeds : length us ≡ suc (length hs)
+  pub gears : length gs ≡ length hs
+  pub run : RunFrom us r
+
 -- g is one above the larger of p and q, and one or two above the smaller
 unfoldable pub one-above : ℕ → ℕ → ℕ → Bool
 one-above p g q = eqb g (max p q + 1) and (eqb g (min p q + 1) or eqb g (min p q + 2))

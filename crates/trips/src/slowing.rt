@@ -2,14 +2,13 @@
 ghost use mathlib.Core.Path.{_≡_};
 ghost use mathlib.Core.Bool.{true};
 ghost use mathlib.Core.List.{List};
-ghost use Prim.Native.Nat.{ℕ, _≤_, _<_};
+ghost use Prim.Native.Nat.{ℕ, suc, _≤_, _<_};
 ghost use lib.ListN.{length, drop};
 ghost use Rattle.rules.specs.declared.Vehicle.{Vehicle};
 ghost use Rattle.rules.specs.Words.{pass};
 ghost use Rattle.rules.specs.Corrections.{closing, slowing};
-ghost use Rattle.trips.specs.Ready.{Aligned};
 use rules::moving;
-ghost use Rattle.trips.specs.Trip.{RunFrom, AllMoving};
+ghost use Rattle.trips.specs.Trip.{RunFrom, AllMoving, Closes};
 
 // The first second of the closing run, found by one scan back from the trip's end; the trip's length where there is none.
 pub fn closing_from(us: &[u16]) -> usize
@@ -48,12 +47,12 @@ fn slowing_at(hs: &[u8], gs: &[u8], j: usize) -> u8
     g
 }
 
-// Pass C, closing run. Seconds before the run stay as they are, so the pass begins where the run does.
-pub fn pass_c(us: &[u16], hs: &[u8], gs: &mut [u8])
-    requires { ⌜ Aligned (now us) (now hs) (now gs) × AllMoving (now us) ⌝ }
-    ensures { λ r. ⌜ ((car : Vehicle) → now (gs .exit) ≡ pass (slowing car (now (us .entry)) (now (hs .entry))) (length (now (hs .entry))) (now (gs .entry))) ⌝ }
+// Pass C, of a trip whose closing run begins at `run`. Seconds before the run stay as they are, so the pass begins where the run does.
+pub fn pass_c(run: usize, hs: &[u8], gs: &mut [u8])
+    requires { ⌜ Closes run (now hs) (now gs) ⌝ }
+    ensures { λ r. ⌜ ((car : Vehicle) (us : List ℕ) → length us ≡ suc (length (now (hs .entry))) → RunFrom us run → now (gs .exit) ≡ pass (slowing car us (now (hs .entry))) (length (now (hs .entry))) (now (gs .entry))) ⌝ }
 {
-    let mut j = closing_from(us);
+    let mut j = run;
     while j < gs.len() {
         let g = slowing_at(hs, gs, j);
         gs[j] = g;

@@ -31,6 +31,12 @@ fn paper() {
         [0, 50, 150, 100, 0],
         [0, 0, 3, 0, 0],
     );
+    five(
+        b"car Z, 1.15 times idle after first gear:",
+        z,
+        [0, 110, 110, 110, 0],
+        none,
+    );
     five(b"step 150:", z, [0, 150, 150, 150, 0], none);
     five(b"step 151:", z, [0, 151, 150, 100, 0], none);
     five(b"step back 151:", z, [0, 60, 151, 0, 0], none);
@@ -144,6 +150,24 @@ fn seconds() {
         [0, 2, 0, 0, 0],
     );
     five(b"at nmax:", crawler, [0, 120, 100, 50, 0], none);
+    five(
+        b"no gear fits after first gear:",
+        crawler,
+        [0, 100, 125, 125, 0],
+        none,
+    );
+    five(
+        b"after second gear, held:",
+        crawler,
+        [0, 100, 125, 125, 0],
+        [0, 2, 0, 0, 0],
+    );
+    five(
+        b"after first gear, in the closing run:",
+        crawler,
+        [0, 100, 125, 110, 0],
+        none,
+    );
     let free = [0u8; 9];
     let hill = [0u16, 150, 300, 450, 600, 450, 300, 150, 0];
     nine(b"up and down:", z, hill, free);

@@ -409,13 +409,16 @@ fn mend_once(library: &mut Library, r: &mut Rng, c: &Setting, right: bool, secon
     Ok(expected)
 }
 
-/// The paper against itself: from a right card the very card, or the very refusal, of the whole working on the new trace.
+/// The paper against itself: from a right card the very card, or the very refusal, of the whole working on the new trace, and it spares the engine.
 fn mended_as_whole(c: &Setting, second: usize, speed: u16, expected: &Mended) -> Result<(), String> {
     if second >= c.speeds.len() {
         return Ok(());
     }
     let mut speeds = c.speeds.clone();
     speeds[second] = speed;
+    if let Ok((_, card)) = expected {
+        Finished { vehicle: &c.vehicle, speeds: &speeds, holds: &c.holds, card }.check()?;
+    }
     let whole = paper::work(&c.vehicle, &speeds, &c.holds, c.card.len());
     if expected.as_ref().map(|(_, card)| card).map_err(|refusal| *refusal) == whole.as_ref().map_err(|refusal| *refusal) {
         return Ok(());

@@ -1,4 +1,4 @@
-//! The regulation's cycles, each driven whole by several cars: the working, the job read back, holds set and released the quick way, and
+//! The regulation's cycles, each driven whole by several cars: the working, the job read back and written, holds set and released the quick way, and
 //! samples mended and mended back.
 
 use crate::cycles;
@@ -108,6 +108,9 @@ impl Drive<'_> {
         let loan = Loan::new(self.r, speeds, holds, card);
         let told = |why| format!("{why}\nsecond {second} mended to {speed}\nspeeds {speeds:?}\ncard {card:?}\nreference (speeds, card): {expected:?}");
         self.library.mend(self.vehicle, &loan, second, speed, &expected).map_err(told)?;
+        if let Ok((speeds, card)) = &expected {
+            Finished { vehicle: self.vehicle, speeds, holds, card }.check()?;
+        }
         Ok(expected)
     }
 

@@ -25,9 +25,13 @@ pub enum Event {
     TripBegun,
     TripEnded,
     HoldWon,
+    ElsewhereDecides,
+    ClosingDecides,
+    AfterFirstDecides,
+    LaterWithout,
 }
 
-const NAMES: [&str; 21] = [
+const NAMES: [&str; 25] = [
     "pass A lowered a gear",
     "pass A stopped by the floor",
     "pass B lowered a gear to the ceiling",
@@ -49,6 +53,10 @@ const NAMES: [&str; 21] = [
     "trip begun by a mended sample",
     "trip ended by a mended sample",
     "held second not mended to rest",
+    "nine tenths of idle decides for gear 2",
+    "idle decides for gear 2, in the closing run",
+    "1.15 times idle decides for gear 2, after first choice 1",
+    "hold or release refused, a later second of its trip without a gear",
 ];
 
 static COUNTS: [AtomicU64; NAMES.len()] = [const { AtomicU64::new(0) }; NAMES.len()];
@@ -60,6 +68,11 @@ pub fn note(event: Event) {
 /// How often, so far.
 pub fn met(event: Event) -> u64 {
     COUNTS[event as usize].load(Relaxed)
+}
+
+/// A turn that has to be met, by name, and was not.
+pub fn missed(event: Event) -> Option<&'static str> {
+    (COUNTS[event as usize].load(Relaxed) == 0).then_some(NAMES[event as usize])
 }
 
 pub fn print() {

@@ -144,7 +144,18 @@ fn run(mut library: Library, options: &Options) -> Result<(), String> {
     library.end()?;
     events::print();
     print_counts(&met);
+    minima_met()?;
     all_met(&met)
+}
+
+/// A minimum of gear 2 that never decided was not tested, nor was a later second that an edit leaves without a gear.
+fn minima_met() -> Result<(), String> {
+    let wanted = [Event::ElsewhereDecides, Event::ClosingDecides, Event::AfterFirstDecides, Event::LaterWithout];
+    let missed: Vec<&str> = wanted.into_iter().filter_map(events::missed).collect();
+    if missed.is_empty() {
+        return Ok(());
+    }
+    Err(format!("FAILED: never met: {}", missed.join("; ")))
 }
 
 fn print_counts(met: &Counts) {

@@ -1,4 +1,4 @@
-//! The paper's rules, written out one by one from docs/01-scope.md with i128 throughout.
+//! The paper's rules, written out one by one from docs/01-scope.md and docs/02-change-requests.md with i128 throughout.
 //! Nothing here is meant to be quick: a rule reads as the paper words it.
 
 use crate::events::{note, Event};
@@ -61,11 +61,25 @@ fn nearest(top: i128, bottom: i128) -> i128 {
     (2 * top + bottom).div_euclid(2 * bottom)
 }
 
-pub fn minimum(v: &Vehicle, gear: u8) -> i128 {
+/// Where a second lies, as far as the minimum speed of gear 2 asks (request Two).
+#[derive(Clone, Copy, PartialEq, Debug)]
+pub enum Lies {
+    /// In the closing run of its trip.
+    Closing,
+    /// Not there, and the second before lies in the trip with first choice 1.
+    AfterFirst,
+    Elsewhere,
+}
+
+pub const LIES: [Lies; 3] = [Lies::Closing, Lies::AfterFirst, Lies::Elsewhere];
+
+pub fn minimum(v: &Vehicle, gear: u8, lies: Lies) -> i128 {
     let (idle, rated) = (v.idle as i128, v.rated as i128);
-    match gear {
-        1 => idle,
-        2 => nearest(9 * idle, 10),
+    match (gear, lies) {
+        (1, _) => idle,
+        (2, Lies::Closing) => idle,
+        (2, Lies::AfterFirst) => nearest(115 * idle, 100),
+        (2, Lies::Elsewhere) => nearest(9 * idle, 10),
         _ => nearest(8 * idle + (rated - idle), 8),
     }
 }
@@ -74,9 +88,9 @@ fn within_nmax(v: &Vehicle, gear: u8, speed: u16) -> bool {
     engine(v, gear, speed) <= 1000 * v.nmax as i128
 }
 
-pub fn fits(v: &Vehicle, gear: u8, speed: u16, opens_trip: bool) -> bool {
+pub fn fits(v: &Vehicle, gear: u8, speed: u16, opens_trip: bool, lies: Lies) -> bool {
     let x = engine(v, gear, speed);
-    let least = 1000 * minimum(v, gear);
+    let least = 1000 * minimum(v, gear, lies);
     let between = x >= least && within_nmax(v, gear, speed);
     let slow_first = gear == 1 && x < least;
     (between || slow_first) && (gear == 1 || !opens_trip)
@@ -133,26 +147,75 @@ fn opens_trip(speeds: &[u16], s: usize) -> bool {
     moving(speeds[s]) && (s == 0 || !moving(speeds[s - 1]))
 }
 
-fn fitting_gears(v: &Vehicle, speeds: &[u16], s: usize) -> Vec<u8> {
-    let opens = opens_trip(speeds, s);
-    (1..=v.ng as u8).filter(|&gear| fits(v, gear, speeds[s], opens)).collect()
+/// From this second to the end of its trip every V is above the V that follows.
+fn in_closing_run(speeds: &[u16], s: usize) -> bool {
+    let last = trip_of(speeds, s).last;
+    last + 1 < speeds.len() && (s..=last).all(|k| speeds[k] > speeds[k + 1])
 }
 
-/// The first choice at a moving second that has a hold or a gear that fits.
-pub fn first_choice(v: &Vehicle, speeds: &[u16], holds: &[u8], s: usize) -> u8 {
-    if holds[s] != 0 {
-        return holds[s];
+fn lies(speeds: &[u16], s: usize, before: Option<u8>) -> Lies {
+    if in_closing_run(speeds, s) {
+        Lies::Closing
+    } else if before == Some(1) {
+        Lies::AfterFirst
+    } else {
+        Lies::Elsewhere
     }
+}
+
+fn fitting_gears(v: &Vehicle, speeds: &[u16], s: usize, lies: Lies) -> Vec<u8> {
+    let opens = opens_trip(speeds, s);
+    (1..=v.ng as u8).filter(|&gear| fits(v, gear, speeds[s], opens, lies)).collect()
+}
+
+/// The choice at a moving second without a hold; none where no gear fits.
+fn choice(v: &Vehicle, speeds: &[u16], s: usize, lies: Lies) -> Option<u8> {
     let e = required(v, speeds[s], change(speeds, s));
-    let fitting = fitting_gears(v, speeds, s);
+    let fitting = fitting_gears(v, speeds, s, lies);
     let strong = fitting.iter().copied().filter(|&gear| enough(v, power(v, gear, speeds[s]), e)).max();
-    strong.unwrap_or_else(|| strongest(v, &fitting, speeds[s]))
+    strong.or_else(|| strongest(v, &fitting, speeds[s]))
+}
+
+/// The first choice at a moving second, given that of the second before where that lies in the trip; none where no gear fits.
+pub fn first_choice(v: &Vehicle, speeds: &[u16], holds: &[u8], s: usize, before: Option<u8>) -> Option<u8> {
+    if holds[s] != 0 {
+        return Some(holds[s]);
+    }
+    let lies = lies(speeds, s, before);
+    let chosen = choice(v, speeds, s, lies);
+    if before.is_some() {
+        note_minimum(v, speeds, s, lies, chosen);
+    }
+    chosen
+}
+
+/// Counts a second at which the minimum of gear 2 decides: with another of the three the choice would be another.
+fn note_minimum(v: &Vehicle, speeds: &[u16], s: usize, lies: Lies, chosen: Option<u8>) {
+    let fits_2 = |lies: Lies| fits(v, 2, speeds[s], false, lies);
+    let other = |another: Lies| fits_2(another) != fits_2(lies) && choice(v, speeds, s, another) != chosen;
+    if LIES.into_iter().any(other) {
+        note(match lies {
+            Lies::Closing => Event::ClosingDecides,
+            Lies::AfterFirst => Event::AfterFirstDecides,
+            Lies::Elsewhere => Event::ElsewhereDecides,
+        });
+    }
+}
+
+/// The first choices of a trip from left to right; or its first second without one.
+fn first_choices(v: &Vehicle, speeds: &[u16], holds: &[u8], trip: Trip) -> Result<Vec<u8>, usize> {
+    let mut chosen: Vec<u8> = Vec::new();
+    for s in trip.first..=trip.last {
+        let before = chosen.last().copied();
+        chosen.push(first_choice(v, speeds, holds, s, before).ok_or(s)?);
+    }
+    Ok(chosen)
 }
 
 /// Going up the gears, "at least as strong" leaves the higher gear on a tie.
-fn strongest(v: &Vehicle, fitting: &[u8], speed: u16) -> u8 {
+fn strongest(v: &Vehicle, fitting: &[u8], speed: u16) -> Option<u8> {
+    let mut best = *fitting.first()?;
     note(Event::NoneEnough);
-    let mut best = fitting[0];
     for &gear in &fitting[1..] {
         let (new, old) = (power(v, gear, speed), power(v, best, speed));
         if at_least(new, old) {
@@ -162,7 +225,7 @@ fn strongest(v: &Vehicle, fitting: &[u8], speed: u16) -> u8 {
             best = gear;
         }
     }
-    best
+    Some(best)
 }
 
 // ---------------------------------------------------------------- corrections
@@ -255,9 +318,8 @@ fn pass_c(speeds: &[u16], holds: &[u8], trip: Trip, gears: &mut [u8]) {
 /// The card bytes of one trip and of the standing second before it, written into `card`.
 fn work_trip(v: &Vehicle, speeds: &[u16], holds: &[u8], trip: Trip, card: &mut [u8]) {
     let mut gears = vec![0u8; speeds.len()];
-    for s in trip.first..=trip.last {
-        gears[s] = first_choice(v, speeds, holds, s);
-    }
+    let chosen = first_choices(v, speeds, holds, trip).expect("a second without a gear");
+    gears[trip.first..=trip.last].copy_from_slice(&chosen);
     pass_a(v, speeds, holds, trip, &mut gears);
     pass_b(v, speeds, holds, trip, &mut gears);
     pass_c(speeds, holds, trip, &mut gears);
@@ -291,7 +353,11 @@ fn vehicle_good(v: &Vehicle) -> Result<(), Refusal> {
 /// Refusals 4 to 10 on the seconds from `from` to `to`, both included. For the whole working these are all seconds.
 fn seconds_good(v: &Vehicle, speeds: &[u16], holds: &[u8], from: usize, to: usize) -> Result<(), Refusal> {
     seconds_sound(v, speeds, holds, from, to)?;
-    refuse_first(10, from, to, |s| moving(speeds[s]) && holds[s] == 0 && fitting_gears(v, speeds, s).is_empty())
+    // These seconds begin and end at rest, so each trip that they meet lies among them.
+    for first in (from..=to).filter(|&s| opens_trip(speeds, s)) {
+        first_choices(v, speeds, holds, trip_of(speeds, first)).map_err(|s| (10, s))?;
+    }
+    Ok(())
 }
 
 /// Refusals 4 to 9.
@@ -362,7 +428,11 @@ fn edit(v: &Vehicle, speeds: &[u16], holds: &[u8], card: &[u8], second: usize, a
     if asked == Some(0) {
         return Err(no_gear_held(second, seconds_good(v, speeds, &holds, from, to)));
     }
-    seconds_good(v, speeds, &holds, from, to)?;
+    let good = seconds_good(v, speeds, &holds, from, to);
+    if matches!(good, Err((10, place)) if place > second) {
+        note(Event::LaterWithout);
+    }
+    good?;
     work_trip(v, speeds, &holds, trip, &mut card);
     Ok((holds, card))
 }

@@ -1,7 +1,7 @@
 //! The paper's sums, held against the reference before any case is run: a reference that misreads the paper is of no use.
 
 use crate::jobs;
-use crate::paper::{self, Trip};
+use crate::paper::{self, Lies, Trip, LIES};
 use crate::vehicle::car_z;
 
 pub fn check() {
@@ -15,14 +15,15 @@ pub fn check() {
 
 fn one_second() {
     let z = car_z();
-    assert_eq!([1, 2, 3, 5].map(|gear| paper::minimum(&z, gear)), [800, 720, 1400, 1400]);
+    assert_eq!([1, 2, 3, 5].map(|gear| paper::minimum(&z, gear, Lies::Elsewhere)), [800, 720, 1400, 1400]);
+    assert_eq!(LIES.map(|lies| paper::minimum(&z, 2, lies)), [800, 920, 720]);
     assert_eq!(paper::required(&z, 500, 0), 9_000_000_000_000);
     assert_eq!(paper::required(&z, 500, 36), 78_525_000_000_000);
     assert_eq!((paper::power(&z, 5, 500).q, paper::power(&z, 4, 500).q), (220_000_000, 290_000_000));
-    let choice = |speeds: &[u16]| paper::first_choice(&z, speeds, &vec![0; speeds.len()], 2);
-    assert_eq!(choice(&[0, 400, 500, 500]), 5);
-    assert_eq!(choice(&[0, 400, 499, 499]), 4);
-    assert_eq!(choice(&[0, 400, 500, 536]), 4);
+    let choice = |speeds: &[u16]| paper::first_choice(&z, speeds, &vec![0; speeds.len()], 2, Some(4));
+    assert_eq!(choice(&[0, 400, 500, 500]), Some(5));
+    assert_eq!(choice(&[0, 400, 499, 499]), Some(4));
+    assert_eq!(choice(&[0, 400, 500, 536]), Some(4));
 }
 
 fn passes() {
@@ -57,6 +58,7 @@ fn cards() {
     assert_eq!(mend(&speeds, &[0; 5], &right, 3, 151), Err((5, 4)));
     assert_eq!(mend(&speeds, &[0; 5], &right, 4, 10), Err((6, 4)));
     assert_eq!(mend(&speeds, &[0; 5], &right, 5, 10), Err((11, 5)));
+    assert_eq!(paper::work(&z, &[0, 110, 110, 110, 0], &[0; 5], 5), Ok(vec![17, 1, 1, 18, 0]));
     assert_eq!(paper::work(&z, &[0], &[0], 1), Ok(vec![0]));
     assert!(paper::work(&z, &[0, 150, 0], &[0; 3], 3).is_ok());
     assert_eq!(paper::work(&z, &[0, 151, 0], &[0; 3], 3), Err((5, 1)));

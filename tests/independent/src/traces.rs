@@ -1,6 +1,6 @@
 //! Traces, holds and the faults put into them.
 
-use crate::paper;
+use crate::paper::{self, Lies};
 use crate::rng::Rng;
 use crate::vehicle::Vehicle;
 
@@ -116,7 +116,7 @@ impl Walk<'_> {
     }
 
     fn some_gear_fits(&self, speed: i64) -> bool {
-        !self.careful || (1..=self.v.ng as u8).any(|gear| paper::fits(self.v, gear, speed as u16, false))
+        !self.careful || (1..=self.v.ng as u8).any(|gear| paper::fits(self.v, gear, speed as u16, false, Lies::Elsewhere))
     }
 
     fn step(&mut self, r: &mut Rng, before: i64) -> i64 {
@@ -211,7 +211,7 @@ fn all_moving(speeds: &mut [u16]) {
 fn unfit_near(v: &Vehicle, speeds: &[u16], s: usize) -> Vec<u16> {
     let opens = s > 0 && !paper::moving(speeds[s - 1]);
     let here = speeds[s] as i64;
-    let unfit = |speed: &i64| (1..=v.ng as u8).all(|gear| !paper::fits(v, gear, *speed as u16, opens));
+    let unfit = |speed: &i64| (1..=v.ng as u8).all(|gear| !paper::fits(v, gear, *speed as u16, opens, Lies::Elsewhere));
     ((here - 120).max(10)..=(here + 120).min(2000)).filter(unfit).map(|speed| speed as u16).collect()
 }
 

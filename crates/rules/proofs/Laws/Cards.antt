@@ -9,21 +9,24 @@ use mathlib.Core.Logic.{_≢_}
 use mathlib.Core.Bool.{Bool, true, false, not}
 use mathlib.Core.Option.{Option, none}
 use mathlib.Core.List.{List}
-use lib.Dec.{eqb}
-use lib.ListN.{length, replicate}
-use borrow.Author.Tests.{ltb-false, eqb-false, not-false, ne-eqb, eqb-true}
+use lib.Dec.{eqb, ltb}
+use lib.ListN.{length, replicate, drop, length-take, length-drop, length-replicate}
+use borrow.Author.Tests.{ltb-false, eqb-false, not-false, ne-eqb, eqb-true, eq-eqb, lt-ltb, le-ltb}
 use Rattle.rules.specs.declared.Vehicle.{Vehicle}
+use Rattle.rules.specs.declared.Place.{Place}
 use Rattle.rules.specs.Words.{if_then_else_, _and_, at, part, pass}
 use Rattle.rules.specs.Units.{low, moving, rise, start, stop}
-use Rattle.rules.specs.Gears.{Place, under-nmax, choose}
-use Rattle.rules.specs.Corrections.{here, first-choice, firsts, gears, trip-speeds, trip-holds, first-at, gear-at, clutch, byte, card-at, card}
+use Rattle.rules.specs.Gears.{under-nmax, choose, is-first}
+use Rattle.rules.specs.Corrections.{here, first-choice, firsts, gears, trip-speeds, trip-holds, first-at, gear-at, clutch, byte, card-at, card, closing, place-at, place-of}
 use Rattle.rules.specs.Refusals.{over-ng, over-rev, no-gear, bad, span-fault}
 use Rattle.rules.specs.Vocabulary.{InBounds, Fit}
-use Rattle.rules.proofs.Laws.Words.{if-ind, and-fails, at-part, length-part, at-table}
-use Rattle.rules.proofs.Laws.Trips.{trip-of, stop-in}
+use Rattle.rules.proofs.Laws.Words.{if-ind, and-fails, at-part, length-part, at-table, by-test, by-order, pass-done}
+use Rattle.rules.proofs.Laws.Trips.{trip-of, stop-in, trip-start, trip-stop}
 use Rattle.rules.proofs.Laws.Held.{first-is, held-gear}
 use Rattle.rules.proofs.Laws.Limits.{InRange, of-under, under-of, first-in, gears-in}
 use Rattle.rules.proofs.Laws.Checks.{passed}
+use Rattle.rules.proofs.Laws.Closing.{closing-part}
+use Rattle.rules.specs.declared.Place.the-variants.{First, Closing, AfterLow, Inner}
 
 -- a moving second's byte, modulo 16, is its gear, clutch down or not
 pub card-mod : (car : Vehicle) (vs hs : List ℕ) (i : ℕ) → moving (at vs i) ≡ true → gear-at car vs hs i < 16 → card-at car vs hs i % 16 ≡ gear-at car vs hs i
@@ -62,15 +65,59 @@ module _ (vs hs : List ℕ) (n : length hs ≡ length vs) (i : ℕ) (m : moving 
       at-part vs (start vs i) (suc (stop vs i)) (i - start vs i) (omega arith) ∙ rw x
 
 module _ (car : Vehicle) (vs hs : List ℕ) (n : length hs ≡ length vs) (i : ℕ) (m : moving (at vs i) ≡ true) where
-  -- its first choice: the hold, else the rules' choice
-  abbrev pub at-trip : Place
-  at-trip = here car (trip-speeds vs i) (trip-holds vs hs i) (i - start vs i) (pass (first-choice car (trip-speeds vs i) (trip-holds vs hs i)) (i - start vs i) (replicate (length (trip-holds vs hs i)) 0))
+  -- the trip's first choices up to it
+  abbrev before : List ℕ
+  before = pass (first-choice car (trip-speeds vs i) (trip-holds vs hs i)) (i - start vs i) (replicate (length (trip-holds vs hs i)) 0)
 
-  pub first-at-is : first-at car vs hs i ≡ (if eqb (at hs i) 0 then choose car at-trip (at vs i) (rise (trip-speeds vs i) (i - start vs i)) else at hs i)
+  -- what it is, seen from its trip and from the whole trace
+  place-is : here car (trip-speeds vs i) (trip-holds vs hs i) (i - start vs i) before ≡ place-at car vs hs i
+  unfolding here place-at place-of trip-speeds trip-holds first-at firsts
+  place-is =
+      let t = trip-of vs i m in
+      let a = start vs i in
+      let b = stop vs i in
+      by-order a i
+      (λ h.
+      let f = first-choice car (part vs a (suc b)) (part hs a b) in
+      let zs : List ℕ = replicate (length (part hs a b)) 0 in
+      let z : length zs ≡ length (part hs a b) = length-replicate (length (part hs a b)) 0 in
+      let k : length (part hs a b) ≡ b - a = length-part hs a b (rw n (stop-in vs i m)) in
+      let y : i - 1 - a ≡ i - a - 1 = omega arith in
+      rw (
+        ne-eqb (i - a) 0 (λ e. omega arith),
+        ne-eqb i a (λ e. omega arith),
+        closing-part vs (t .0) (stop-in vs i m) i (t .1) (t .2),
+        trip-start vs (t .0) (i - 1) (omega arith) (omega arith),
+        trip-stop vs (t .0) (i - 1) (omega arith) (omega arith),
+        y,
+        pass-done f zs (i - a) (length (part hs a b)) (i - a - 1) (omega arith) (omega (arith, k)) (omega (arith, z, k)),
+      ))
+      (λ h. rw (eq-eqb (i - a) 0 (omega arith), eq-eqb i a (omega arith)))
+
+  -- D, too
+  rise-is : rise (trip-speeds vs i) (i - start vs i) ≡ rise vs i
+  unfolding rise trip-speeds
+  rise-is =
+      let t = trip-of vs i m in
+      let a = start vs i in
+      let b = stop vs i in
+      let x : a + (i - a) ≡ i = omega arith in
+      let y : a + suc (i - a) ≡ suc i = omega arith in
+      let c = stop-in vs i m in
+      by-order (suc i) (length vs)
+      (λ h.
+      let l : suc (i - a) < length (part vs a (suc b)) = simp (length-take, length-drop) (omega arith) in
+      rw (lt-ltb _ _ l, lt-ltb _ _ h, at-part vs a (suc b) (i - a) (omega arith), at-part vs a (suc b) (suc (i - a)) (omega arith), x, y))
+      (λ h.
+      let l : length (part vs a (suc b)) ≤ suc (i - a) = simp (length-take, length-drop) (omega arith) in
+      rw (le-ltb _ _ l, le-ltb _ _ h))
+
+  -- its first choice: the hold, else the rules' choice
+  pub first-at-is : first-at car vs hs i ≡ (if eqb (at hs i) 0 then choose car (place-at car vs hs i) (at vs i) (rise vs i) else at hs i)
   unfolding first-at first-choice
   first-at-is =
       first-is car (trip-speeds vs i) (trip-holds vs hs i) (i - start vs i) (in-trip vs hs n i m)
-      ∙ rw (hold-in vs hs n i m, speed-in vs hs n i m)
+      ∙ rw (hold-in vs hs n i m, speed-in vs hs n i m, place-is, rise-is)
 
   -- the held second's gear is its hold
   pub held-shows : at hs i ≢ 0 → gear-at car vs hs i ≡ at hs i

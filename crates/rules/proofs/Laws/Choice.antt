@@ -9,8 +9,9 @@ use lib.Dec.{eqb}
 use lib.IntN.{ℤ}
 use borrow.Author.Tests.{eqb-true, eqb-false, eq-eqb, ne-eqb}
 use Rattle.rules.specs.declared.Vehicle.{Vehicle}
+use Rattle.rules.specs.declared.Place.{Place}
 use Rattle.rules.specs.Words.{_and_, highest}
-use Rattle.rules.specs.Gears.{Place, fits, power, enough, more, suits, strongest, choose}
+use Rattle.rules.specs.Gears.{fits, power, enough, more, suits, strongest, choose}
 use Rattle.rules.specs.Vocabulary.{InBounds, HighestEnough, MostPower, NoGear, FirstChoice}
 use Rattle.rules.proofs.Laws.Words.{clash, by-test, if-ind, and-left, and-right, highest-holds, highest-above, highest-none}
 use Rattle.rules.proofs.Laws.Strongest.{fits-from, strongest-fits, strongest-none, strongest-tie, strongest-most}

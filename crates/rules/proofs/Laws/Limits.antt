@@ -14,9 +14,10 @@ use lib.IntN.{ℤ}
 use lib.ListN.{length}
 use borrow.Author.Tests.{leb-true, ltb-true, le-leb, eqb-true}
 use Rattle.rules.specs.declared.Vehicle.{Vehicle}
+use Rattle.rules.specs.declared.Place.{Place}
 use Rattle.rules.specs.Words.{if_then_else_, _and_, _or_, at, first, highest, pass}
 use Rattle.rules.specs.Units.{ratio-of, low, rise}
-use Rattle.rules.specs.Gears.{Place, engine, under-nmax, allowed, fits, beats, strongest, suits, choose}
+use Rattle.rules.specs.Gears.{engine, under-nmax, allowed, fits, beats, strongest, suits, choose}
 use Rattle.rules.specs.Corrections.{floor, ceiling, here, first-choice, free, is-peak, peak, too-high, rising, too-low, slowing, firsts, after-A, after-B, gears}
 use Rattle.rules.specs.Vocabulary.{InBounds}
 use Rattle.rules.proofs.Laws.Words.{clash, if-ind, and-left, and-right, by-order, pass-holds, Found, first-found, none-first, highest-holds}

@@ -10,8 +10,9 @@ use mathlib.Core.Option.{Option, none, some, Option·getD}
 use lib.IntN.{ℤ, pos, negℤ, _+ℤ_, _-ℤ_, _*ℤ_, +ℤ-idr, +ℤ-invr, *ℤ-comm, *ℤ-zero}
 use borrow.Author.Tests.{leb-true, leb-false, lt-leb}
 use Rattle.rules.specs.declared.Vehicle.{Vehicle}
+use Rattle.rules.specs.declared.Place.{Place}
 use Rattle.rules.specs.Words.{_and_, _or_, at, first}
-use Rattle.rules.specs.Gears.{Place, engine, under-nmax, fits, between, on-segment, reaches, segment, power-speed, power}
+use Rattle.rules.specs.Gears.{engine, under-nmax, fits, between, on-segment, reaches, segment, power-speed, power}
 use Rattle.rules.specs.Vocabulary.{InBounds, OnSegment}
 use Rattle.rules.proofs.Laws.Words.{and-right, Found, first-found, none-first, first-skip}
 use Rattle.rules.proofs.Laws.Integers.{+ℤ-*ℤ, *ℤ-+ℤ, neg-*ℤ, *ℤ-neg, *ℤ-assoc, left-comm, add-back, pos-sub}

@@ -10,9 +10,10 @@ use lib.IntN.{ℤ, pos, _*ℤ_, *ℤ-comm}
 use lib.Signed.{leZ}
 use borrow.Author.Tests.{leb-true, eqb-false, ne-eqb, not-false, not-true}
 use Rattle.rules.specs.declared.Vehicle.{Vehicle}
+use Rattle.rules.specs.declared.Place.{Place}
 use Rattle.rules.specs.Words.{_and_}
 use Rattle.rules.specs.Units.{low}
-use Rattle.rules.specs.Gears.{Place, Power, allowed, fits, segment, power-speed, power, more, beats, strongest}
+use Rattle.rules.specs.Gears.{Power, allowed, fits, segment, power-speed, power, more, beats, strongest}
 use Rattle.rules.specs.Vocabulary.{InBounds}
 use Rattle.rules.proofs.Laws.Words.{clash, by-test, by-eq, if-ind, and-left, and-right, and-fails, or-left, or-right, or-skip}
 use Rattle.rules.proofs.Laws.Vehicle.{low-from}

@@ -1,7 +1,7 @@
 -- Refused for want of a gear: refusal 10 of a trace that passes the other checks.
 -- Assumes nothing.
 use Prim.Native.Nat.{ℕ, zero, suc, _+_, _-_, _*_, _≤_, _<_}
-use native.Mathlib.Nat.{sub-zero}
+use native.Mathlib.Nat.{sub-zero, le-trans, mul-le-mul-left}
 use native.Mathlib.Omega.{arith}
 use mathlib.Core.Path.{_≡_, refl, sym, ap, _∙_}
 use mathlib.Core.Logic.{_≢_, _↔_}
@@ -9,30 +9,33 @@ use mathlib.Core.Bool.{Bool, true, false, not}
 use mathlib.Core.Option.{Option, none, some}
 use mathlib.Core.List.{List, [], _∷_}
 use lib.Dec.{leb, eqb}
-use lib.ListN.{length}
+use lib.ListN.{length, drop}
 use borrow.Author.Tests.{leb-true, le-leb, eqb-true, eqb-false, eq-eqb, ne-eqb, not-true}
 use Rattle.rules.specs.declared.Vehicle.{Vehicle}
+use Rattle.rules.specs.declared.Place.{Place}
 use Rattle.rules.specs.Words.{if_then_else_, _and_, _or_, at, first}
 use Rattle.rules.specs.Units.{low, moving, rise, start}
-use Rattle.rules.specs.Gears.{Place, engine, minimum, under-nmax, over-minimum, allowed, fits, choose}
-use Rattle.rules.specs.Corrections.{here, trip-speeds, trip-holds, first-at}
+use Rattle.rules.specs.Gears.{engine, minimum, under-nmax, over-minimum, allowed, fits, choose, is-first}
+use Rattle.rules.specs.Corrections.{here, trip-speeds, trip-holds, first-at, closing, place-at, place-of}
 use Rattle.rules.specs.Refusals.{Fault, refuse-at, _orelse_, trace-fault, room-fault, vehicle-fault, no-gear, check-number, last-check, bad, fault-of, gear-fault, span-fault, work-fault}
 use Rattle.rules.specs.Vocabulary.{InBounds, Turns, Allowed, Wanting, PassesOthers}
 use Rattle.rules.proofs.Laws.Words.{clash, by-test, by-order, both, and-left, and-right, or-skip, Found, first-found, first-none, none-first}
 use Rattle.rules.proofs.Laws.Trips.{start-le, moving-in}
 use Rattle.rules.proofs.Laws.Checks.{none-orelse, orelse-nothing, rooms-in, vehicle-in}
-use Rattle.rules.proofs.Laws.Cards.{at-trip, first-at-is}
+use Rattle.rules.proofs.Laws.Cards.{first-at-is}
 use Rattle.rules.proofs.Laws.Choice.{first-choice-plainly}
+use Rattle.rules.proofs.Laws.Minimum.{minimum-most}
+use Rattle.rules.specs.declared.Place.the-variants.{First, Closing, AfterLow, Inner}
 
-module _ (car : Vehicle) (v g : ℕ) where
-  inside-true : Turns car v g → over-minimum car v g and under-nmax car v g ≡ true
+module _ (car : Vehicle) (here : Place) (v g : ℕ) where
+  inside-true : Turns car here v g → over-minimum car here v g and under-nmax car v g ≡ true
   unfolding _and_ _or_ over-minimum under-nmax
   inside-true I =
       by-test (eqb g (low car))
       (λ t. rw (t, le-leb _ _ (I .to)))
       (λ t. rw (t, le-leb _ _ (I .from (eqb-false _ _ t)), le-leb _ _ (I .to)))
 
-  true-inside : over-minimum car v g and under-nmax car v g ≡ true → Turns car v g
+  true-inside : over-minimum car here v g and under-nmax car v g ≡ true → Turns car here v g
   unfolding over-minimum under-nmax
   true-inside t = record {
     from = λ n. leb-true _ _ (or-skip _ _ (ne-eqb g (low car) n) (and-left _ _ t));
@@ -40,57 +43,71 @@ module _ (car : Vehicle) (v g : ℕ) where
   }
 
 module _ (car : Vehicle) (vs hs : List ℕ) (i : ℕ) where
-  allowed-true : (spot : Place) → spot .first-second ≡ eqb (i - start vs i) 0 → (g : ℕ) → Allowed car vs i g → allowed car spot g ≡ true
+  -- only a trip's first second is one
+  place-first : is-first (place-at car vs hs i) ≡ eqb i (start vs i)
+  unfolding place-at place-of is-first
+  place-first =
+      by-test (eqb i (start vs i)) (λ t. rw t)
+      (λ t. by-test (closing (drop i vs)) (λ c. rw (t, c)) (λ c. by-test (eqb (first-at car vs hs (i - 1)) (low car)) (λ l. rw (t, c, l)) (λ l. rw (t, c, l))))
+
+  allowed-true : (g : ℕ) → Allowed car vs i g → allowed car (place-at car vs hs i) g ≡ true
   unfolding _and_ _or_ allowed
-  allowed-true spot e g A =
-      let l = start-le vs i in
+  allowed-true g A =
       by-test (eqb g (low car))
       (λ t. rw (le-leb _ _ (A .from), t))
-      (λ t. rw (le-leb _ _ (A .from), t, e, ne-eqb (i - start vs i) 0 (λ z. eqb-false _ _ t (A .at-first (omega arith)))))
+      (λ t. rw (le-leb _ _ (A .from), t, place-first, ne-eqb i (start vs i) (λ z. eqb-false _ _ t (A .at-first z))))
 
-  true-allowed : (spot : Place) → spot .first-second ≡ eqb (i - start vs i) 0 → (g : ℕ) → g ≤ car .ng → allowed car spot g ≡ true → Allowed car vs i g
+  true-allowed : (g : ℕ) → g ≤ car .ng → allowed car (place-at car vs hs i) g ≡ true → Allowed car vs i g
   unfolding allowed
-  true-allowed spot e g h t = record {
+  true-allowed g h t = record {
     from = leb-true _ _ (and-left _ _ t);
     to = h;
     at-first = λ z.
-        let y : eqb (i - start vs i) 0 ≡ true = eq-eqb (i - start vs i) 0 (omega arith) in
-        by-test (eqb g (low car)) (λ u. eqb-true _ _ u) (λ u. clash (e ∙ y) (not-true _ (or-skip _ _ u (and-right _ _ t))));
+        by-test (eqb g (low car)) (λ u. eqb-true _ _ u)
+        (λ u. clash (place-first ∙ eq-eqb i (start vs i) z) (not-true _ (or-skip _ _ u (and-right _ _ t))));
   }
 
   module _ (n : length hs ≡ length vs) (C : InBounds car) where
     -- check 10 fails at a moving second exactly when it is wanting
     bad-wanting : bad no-gear car vs hs 0 i ≡ true → Wanting car vs hs i
-    unfolding bad fits here
+    unfolding bad fits
     bad-wanting t =
         let m : moving (at vs i) ≡ true = and-left _ _ t in
         let z : first-at car vs hs i ≡ 0 = eqb-true _ _ (and-right _ _ t) in
         let f = first-at-is car vs hs n i m in
-        let spot = at-trip car vs hs n i m in
+        let spot = place-at car vs hs i in
         by-test (eqb (at hs i) 0)
         (λ h.
-        let c : choose car spot (at vs i) (rise (trip-speeds vs i) (i - start vs i)) ≡ 0 = sym (rw h at f) ∙ z in
+        let c : choose car spot (at vs i) (rise vs i) ≡ 0 = sym (rw h at f) ∙ z in
         record {
           moves = m;
           no-hold = eqb-true _ _ h;
           no-gear-there = λ g A I.
-              let x : fits car spot (at vs i) g ≡ false = first-choice-plainly car spot (at vs i) (rise (trip-speeds vs i) (i - start vs i)) C .none-fits c g (A .to) in
-              clash (both (allowed-true spot refl g A) (inside-true car (at vs i) g I)) x;
+              let x : fits car spot (at vs i) g ≡ false = first-choice-plainly car spot (at vs i) (rise vs i) C .none-fits c g (A .to) in
+              clash (both (allowed-true g A) (inside-true car spot (at vs i) g I)) x;
         })
         (λ h. absurd (eqb-false _ _ h (sym (rw h at f) ∙ z)))
 
     wanting-bad : Wanting car vs hs i → bad no-gear car vs hs 0 i ≡ true
-    unfolding bad fits here
+    unfolding bad fits
     wanting-bad W =
         let m = W .moves in
         let f = first-at-is car vs hs n i m in
-        let spot = at-trip car vs hs n i m in
-        let d = rise (trip-speeds vs i) (i - start vs i) in
+        let spot = place-at car vs hs i in
+        let d = rise vs i in
         let c : choose car spot (at vs i) d ≡ 0 =
         first-choice-plainly car spot (at vs i) d C .choice-none (λ g l.
         by-test (fits car spot (at vs i) g)
-        (λ t. absurd (W .no-gear-there g (true-allowed spot refl g l (and-left _ _ t)) (true-inside car (at vs i) g (and-right _ _ t)))) (λ t. t)) in
+        (λ t. absurd (W .no-gear-there g (true-allowed g l (and-left _ _ t)) (true-inside car spot (at vs i) g (and-right _ _ t)))) (λ t. t)) in
         both m (eq-eqb _ _ (rw (eq-eqb (at hs i) 0 (W .no-hold)) at f ∙ c))
+
+-- the cheap test: a second at which an allowed gear is fast enough even after the lowest gear is not wanting, whatever was chosen before it
+pub never-wanting : (car : Vehicle) (vs hs : List ℕ) (i g : ℕ) → Allowed car vs i g → Turns car AfterLow (at vs i) g → Wanting car vs hs i → ⊥
+never-wanting car vs hs i g A I W =
+    W .no-gear-there g A (record {
+      from = λ n. le-trans (mul-le-mul-left 1000 (minimum-most car (place-at car vs hs i) g)) (I .from n);
+      to = I .to;
+    })
 
 nothing : {P : Type 0} {f : Fault} → some f ≡ none → P
 nothing e = let z : _≡_ {A = ℕ} 0 1 = cc in absurd (omega arith)

@@ -7,8 +7,10 @@ use mathlib.Core.List.{List}
 use lib.ListN.{length}
 use Rattle.rules.specs.declared.Vehicle.{Vehicle}
 use Rattle.rules.proofs.Laws.Checks.{trace-in}
+use Rattle.gears.specs.Parts.{Counts}
 use Rattle.checks.proofs.Rows.{longest-is, Opened, opened}
-use Rattle.cards.proofs.Mending.{Placed, Checked, mend-opening, mend-outside, span-asked, span-parts, span-refused, span-range, span-passes, span-done}
+use Rattle.cards.proofs.Mending.{Placed, Checked, mend-opening, mend-outside, span-asked, span-resting, span-parts, span-refused, span-range, span-passes, span-done}
+use Rattle.cards.proofs.Working.{its-parts}
 use borrow.Author.Needs.{needs}
 use Rattle.cards.proofs.sample.mend.Statement.{statement}
 use Rattle.cards.proofs.sample.mend.Tie as tie
@@ -36,9 +38,13 @@ placed-at c = record {
   span-to = c .past .ensures;
 }
 
+-- the numbers are the vehicle's
+counts-at : (c : tie.After-numbers-of) → Of (λ car vs hs old s v. Counts car (c .numbers-of .result)) (c .before .before .before .before .before)
+counts-at c = record { numbers = sym (c .numbers-of .ensures) }
+
 -- the span was looked at
-checked-at : (c : tie.After-check-mended) → Of (Checked (c .check-mended .result) (c .before .before .before .before .numbers-of .result) (c .before .before .before .before .before .before .reach .result) (record { lo = c .before .before .before .before .before .before .reach .result .lo; hi = c .before .before .before .before .before .past .result })) (c .before .before .before .before .before .before .before .before .before)
-checked-at c = record { placed = placed-at (c .before .before .before .before .before); counts = record { numbers = sym (c .before .before .before .before .numbers-of .ensures) }; says = c .check-mended .ensures }
+checked-at : (c : tie.After-check-mended) → Of (Checked (c .check-mended .result) (c .before .before .before .before .before .before .numbers-of .result) (c .before .before .before .before .before .before .before .before .reach .result) (record { lo = c .before .before .before .before .before .before .before .before .reach .result .lo; hi = c .before .before .before .before .before .before .before .past .result })) (c .before .before .before .before .before .before .before .before .before .before .before)
+checked-at c = record { placed = placed-at (c .before .before .before .before .before .before .before); counts = counts-at (c .before .before .before .before .before .before); says = c .check-mended .ensures }
 
 check-opening-requires : tie.Need-check-opening-requires
 check-opening-requires c κs = search needs
@@ -70,7 +76,11 @@ numbers-of-requires : tie.Need-numbers-of-requires
 numbers-of-requires c κs = search needs
 
 check-mended-requires : tie.Need-check-mended-requires
-check-mended-requires c κs = span-asked (placed-at (c .before .before .before .before)) (record { numbers = sym (c .before .before .before .numbers-of .ensures) })
+check-mended-requires c κs =
+    let P = placed-at (c .before .before .before .before .before .before) in
+    let K = counts-at (c .before .before .before .before .before) in
+    let asked = span-asked P K in
+    (record { car = _; lent = its-parts K (P .opened) }, asked .0, asked .1, span-resting P)
 
 enum-told-3 : tie.Need-enum-told-3
 enum-told-3 c = search needs
@@ -86,11 +96,11 @@ returns-3 c = span-refused (checked-at (c .before .before)) (c .enum-told4 .give
 
 mul-speeds : tie.Need-mul-speeds
 mul-speeds c =
-    let O = opened-at (c .before .before .before .before .before .before .before .before .before .before .before) in
-    omega (arith, inside-at (c .before .before .before .before .before .before .before .before .before .before), trace-in _ (O .trace), longest-is)
+    let O = opened-at (c .before .before .before .before .before .before .before .before .before .before .before .before .before) in
+    omega (arith, inside-at (c .before .before .before .before .before .before .before .before .before .before .before .before), trace-in _ (O .trace), longest-is)
 
 slice-write-speeds : tie.Need-slice-write-speeds
-slice-write-speeds c = inside-at (c .before .before .before .before .before .before .before .before .before .before)
+slice-write-speeds c = inside-at (c .before .before .before .before .before .before .before .before .before .before .before .before)
 
 sweep-requires : tie.Need-sweep-requires
 sweep-requires c κs =

@@ -7,7 +7,7 @@ use Rattle.rules.specs.declared.Vehicle.{Vehicle}
 use native.Mathlib.Omega.{arith}
 use Rattle.gears.specs.Parts.{Counts}
 use Rattle.checks.proofs.Rows.{Opened, opened, spanned}
-use Rattle.cards.proofs.Working.{work-opening, its-parts, no-edit, work-span, work-range, work-passes, work-done}
+use Rattle.cards.proofs.Working.{work-opening, its-parts, no-edit, work-span, work-range, work-passes, work-done, whole-resting}
 use borrow.Author.Needs.{needs}
 use Rattle.cards.proofs.whole.work.Statement.{statement}
 use Rattle.cards.proofs.whole.work.Tie as tie
@@ -43,7 +43,10 @@ numbers-of-requires : tie.Need-numbers-of-requires
 numbers-of-requires c κs = search needs
 
 check-span-requires : tie.Need-check-span-requires
-check-span-requires c κs = spanned (counts-at (c .before .before)) (opened-at (c .before .before .before)) (omega arith) (omega arith)
+check-span-requires c κs =
+    let O = opened-at (c .before .before .before .before .before) in
+    let K = counts-at (c .before .before .before .before) in
+    (record { car = _; lent = its-parts K O }, spanned K O (omega arith) (omega arith), whole-resting O)
 
 enum-told-3 : tie.Need-enum-told-3
 enum-told-3 c = search needs
@@ -53,16 +56,16 @@ enum-told-4 c = search needs
 
 returns-2 : tie.Need-returns-2
 returns-2 c =
-    let O = opened-at (c .before .before .before .before .before .before) in
-    work-span O (no-edit O _ 0 _ (c .before .before .check-span .ensures _ (its-parts (counts-at (c .before .before .before .before .before)) O .has))) (c .enum-told4 .given .1)
+    let O = opened-at (c .before .before .before .before .before .before .before .before) in
+    work-span O (no-edit O _ 0 _ (c .before .before .check-span .ensures _ (its-parts (counts-at (c .before .before .before .before .before .before .before)) O))) (c .enum-told4 .given .1)
 
 sweep-requires : tie.Need-sweep-requires
 sweep-requires c κs =
-    let O = opened-at (c .before .before .before .before .before .before .before .before .before .before .before) in
-    let L = its-parts (counts-at (c .before .before .before .before .before .before .before .before .before .before)) O in (
+    let O = opened-at (c .before .before .before .before .before .before .before .before .before .before .before .before .before) in
+    let L = its-parts (counts-at (c .before .before .before .before .before .before .before .before .before .before .before .before)) O in (
       record { car = _; lent = L },
-      work-range O _ (no-edit O _ 0 _ (c .before .before .before .before .before .before .before .check-span .ensures _ (L .has))) (c .before .before .before .before .before .enum-told3 .given .1),
-      λ car M. work-passes O car (no-edit O car 0 _ (c .before .before .before .before .before .before .before .check-span .ensures car (M .has))) (c .before .before .before .before .before .enum-told3 .given .1),
+      work-range O _ (no-edit O _ 0 _ (c .before .before .before .before .before .before .before .check-span .ensures _ L)) (c .before .before .before .before .before .enum-told3 .given .1),
+      λ car M. work-passes O car (no-edit O car 0 _ (c .before .before .before .before .before .before .before .check-span .ensures car M)) (c .before .before .before .before .before .enum-told3 .given .1),
     )
 
 same-length : tie.Need-same-length
@@ -70,9 +73,9 @@ same-length c = search needs
 
 returns-3 : tie.Need-returns-3
 returns-3 c =
-    let O = opened-at (c .before .before .before .before .before .before .before .before .before .before .before .before .before .before) in
-    let L = its-parts (counts-at (c .before .before .before .before .before .before .before .before .before .before .before .before .before)) O in
-    work-done O (no-edit O _ 0 _ (c .before .before .before .before .before .before .before .before .before .before .check-span .ensures _ (L .has))) (c .before .before .before .before .before .before .before .before .enum-told3 .given .1) (c .before .before .sweep .ensures _ L)
+    let O = opened-at (c .before .before .before .before .before .before .before .before .before .before .before .before .before .before .before .before) in
+    let L = its-parts (counts-at (c .before .before .before .before .before .before .before .before .before .before .before .before .before .before .before)) O in
+    work-done O (no-edit O _ 0 _ (c .before .before .before .before .before .before .before .before .before .before .check-span .ensures _ L)) (c .before .before .before .before .before .before .before .before .enum-told3 .given .1) (c .before .before .sweep .ensures _ L)
 
 pub work-spec : {M : Type 1} → statement M
 work-spec =

@@ -19,14 +19,14 @@ enum-told-2 c = search needs
 
 returns : tie.Need-returns
 unfolding span-fault
-returns c = λ car H. said-first _ (c .before .before .check-seconds .ensures car H) (c .enum-told2 .given .1)
+returns c = λ car L. said-first _ (c .before .before .check-seconds .ensures car (L .has)) (c .enum-told2 .given .1)
 
 check-gears-requires : tie.Need-check-gears-requires
-check-gears-requires c κs = (search needs, λ car H. sym (said-none (c .before .before .check-seconds .ensures car H) (c .enum-told .given .1)))
+check-gears-requires c κs = let s = c .before .before .before .before .before in (s .pre .0, s .pre .1, s .pre .2, λ car H. sym (said-none (c .before .before .check-seconds .ensures car H) (c .enum-told .given .1)))
 
 returns-2 : tie.Need-returns-2
 unfolding span-fault
-returns-2 c = λ car H. c .check-gears .ensures car H ∙ sym (none-orelse _ _ (said-none (c .before .before .before .check-seconds .ensures car H) (c .before .enum-told .given .1)))
+returns-2 c = λ car L. c .check-gears .ensures car L ∙ sym (none-orelse _ _ (said-none (c .before .before .before .check-seconds .ensures car (L .has)) (c .before .enum-told .given .1)))
 
 pub check-span-spec : {M : Type 1} → statement M
 check-span-spec = tie.close (tie.spec check-seconds-requires enum-told enum-told-2 returns check-gears-requires returns-2)

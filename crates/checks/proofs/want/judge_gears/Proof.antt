@@ -1,75 +1,111 @@
--- `checks::want::judge_gears` meets its contract: what is left of the search, from second i on, is what was asked.
+-- `checks::want::judge_gears` meets its contract: what is left of the search, from second a on, is what was asked, and the second before a stands.
 -- Assumes nothing.
-use Prim.Native.Nat.{_-_, _≤_}
+use Prim.Native.Nat.{_+_, _-_, _≤_, _<_}
 use native.Mathlib.Omega.{arith}
-use mathlib.Core.Path.{refl, sym, _∙_}
+use mathlib.Core.Path.{_≡_, refl, sym, _∙_}
+use mathlib.Core.Bool.{false}
 use lib.ListN.{set, length-set}
 use borrow.Author.Needs.{needs}
 use Rattle.rules.specs.declared.Vehicle.{Vehicle}
-use Rattle.rules.specs.Words.{first}
+use Rattle.rules.specs.Words.{at, first}
+use Rattle.rules.specs.Units.{moving, stop}
 use Rattle.rules.specs.Refusals.{said, no-gear, bad}
+use Rattle.rules.proofs.Laws.Trips.{stop-le, stop-after}
 use Rattle.rules.proofs.Laws.Walk.{Left, start, stops, ends, again}
-use Rattle.gears.specs.Parts.{Has}
-use Rattle.checks.specs.Checks.{HeldAt}
+use Rattle.gears.specs.Parts.{Lent}
+use Rattle.checks.proofs.Tests.{gear-standing}
 use Rattle.checks.proofs.Wanting.{wanted, not-wanted}
+use Rattle.checks.proofs.Dry.{passes-over, stop-by, ahead}
 use Rattle.checks.proofs.want.judge_gears.Statement.{statement}
 use Rattle.checks.proofs.want.judge_gears.Tie as tie
 
 abbrev Inv-loop : tie.InvT-loop
-Inv-loop k ratio speeds holds hold span i₀ i =
-    (span .lo ≤ i) × ((car : Vehicle) → Has car k ratio
-    → let p = bad no-gear car speeds (set holds (hold .second) (hold .gear)) (span .lo) in Left p i (span .hi) (first p (span .lo) (span .hi - span .lo)))
+Inv-loop k ratio n p speeds holds sample hold span a₀ a =
+    (span .lo < a) × (a ≤ span .hi) × (moving (at (set speeds (sample .second) (sample .speed)) (a - 1)) ≡ false) × ((car : Vehicle) → Lent car k ratio n p
+    → let q = bad no-gear car (set speeds (sample .second) (sample .speed)) (set holds (hold .second) (hold .gear)) (span .lo) in Left q a (span .hi) (first q (span .lo) (span .hi - span .lo)))
 
 abbrev μ-loop : tie.MeasureT-loop
-μ-loop k ratio speeds holds hold span i₀ i = span .hi - i
+μ-loop k ratio n p speeds holds sample hold span a₀ a = span .hi - a
 
--- the hold that was read is the second's
-held : (c : tie.After-hold-at Inv-loop μ-loop) → let a = c .before .before .before .before .before .before .args in
-    HeldAt (a .speeds .now) (set (a .holds .now) (a .hold .second) (a .hold .gear)) (c .before .before .before .loop .i) (c .hold-at .result)
-held c =
-    let s = c .before .before .before .before .before .before in
+-- where the trip that begins at second a ends, inside the span
+inside : (c : tie.After-stop-with Inv-loop μ-loop) → c .stop-with .result < c .before .before .before .before .before .before .before .args .span .hi
+inside c =
+    let s = c .before .before .before .before .before .before .before in
+    let l = c .before .before .before .loop in
+    rw (c .stop-with .ensures) (stop-by (s .pre .1) (l .inv .0) (omega arith) (l .inv .2))
+
+add-a : tie.Need-add-a Inv-loop μ-loop
+add-a c =
+    let s = c .before .before .before in
     let a = s .args in
-    record { size = length-set (a .holds .now) (a .hold .second) (a .hold .gear) ∙ s .pre .rooms; shows = sym (c .hold-at .ensures) }
+    omega (arith, s .pre .1 .rest .some, s .pre .1 .inside, length-set (a .speeds .now) (a .sample .second) (a .sample .speed))
 
 loop-holds : tie.Need-loop-holds Inv-loop μ-loop
-loop-holds c = (omega arith, λ car H. start refl)
+loop-holds c =
+    let s = c .before .before .before in
+    let rest = s .pre .1 .rest in
+    let x : s .args .span .lo + 1 - 1 ≡ s .args .span .lo = omega arith in
+    (omega arith, omega (arith, rest .some), rw x (rest .first), λ car L. again (start refl) (rest .some) (sym (gear-standing car _ _ _ _ (rest .first))))
 
-hold-at-requires : tie.Need-hold-at-requires Inv-loop μ-loop
-hold-at-requires c κs = search needs
+stop-with-requires : tie.Need-stop-with-requires Inv-loop μ-loop
+stop-with-requires c κs =
+    let s = c .before .before .before .before .before .before in
+    let a = s .args in
+    omega (arith, s .pre .1 .inside, length-set (a .speeds .now) (a .sample .second) (a .sample .speed))
 
 wanting-requires : tie.Need-wanting-requires Inv-loop μ-loop
-wanting-requires c κs = search needs
+wanting-requires c κs =
+    let s = c .before .before .before .before .before .before .before in
+    let l = c .before .before .before .loop in
+    let a = s .args in
+    (s .pre .0, rw (c .stop-with .ensures) (ahead (s .pre .1) (l .inv .0) (omega arith) (l .inv .2)), s .pre .1 .rooms ∙ length-set (a .speeds .now) (a .sample .second) (a .sample .speed))
 
 returns : tie.Need-returns Inv-loop μ-loop
 unfolding said
-returns c = λ car H.
-    let s = c .before .before .before .before .before .before .before .before in
-    let a = s .args in
-    let hs = set (a .holds .now) (a .hold .second) (a .hold .gear) in
+returns c = λ car L.
+    let a = c .before .before .before .before .before .before .before .before .before .args in
     let l = c .before .before .before .before .before .loop in
-    wanted car (a .speeds .now) hs (a .span .lo) (a .span .hi) (l .i) (stops (l .inv .1 car H) (omega arith) (sym (c .before .wanting .ensures car H hs (a .span .lo) (held (c .before .before))) ∙ c .if2 .taken))
+    let F = c .before .wanting .ensures car L (a .span .lo) in
+    let h = inside (c .before .before) in
+    wanted car (set (a .speeds .now) (a .sample .second) (a .sample .speed)) (set (a .holds .now) (a .hold .second) (a .hold .gear)) (a .span .lo) (a .span .hi) (c .before .wanting .result)
+    (stops (passes-over (l .inv .3 car L) (c .before .wanting .result) (F .from) (omega arith) (F .fails)) (omega arith) (F .holds (c .if2 .taken)))
 
-add-i : tie.Need-add-i Inv-loop μ-loop
-add-i c = search needs
+add-a-2 : tie.Need-add-a-2 Inv-loop μ-loop
+add-a-2 c =
+    let s = c .before .before .before .before .before .before .before .before .before in
+    let a = s .args in
+    let h = inside (c .before .before) in
+    omega (arith, s .pre .1 .inside, length-set (a .speeds .now) (a .sample .second) (a .sample .speed))
 
 loop-less : tie.Need-loop-less Inv-loop μ-loop
-loop-less c = search needs
+loop-less c =
+    let a = c .before .before .before .before .before .before .before .before .before .args in
+    let l = c .before .before .before .before .before .loop in
+    let h = inside (c .before .before) in
+    omega (arith, c .before .before .stop-with .ensures, stop-le (set (a .speeds .now) (a .sample .second) (a .sample .speed)) (l .a))
 
 loop-again : tie.Need-loop-again Inv-loop μ-loop
-loop-again c = (
-  omega arith,
-  λ car H.
-      let s = c .before .before .before .before .before .before .before .before in
-      let a = s .args in
-      let hs = set (a .holds .now) (a .hold .second) (a .hold .gear) in
-      again (c .before .before .before .before .before .loop .inv .1 car H) (omega arith) (sym (c .before .wanting .ensures car H hs (a .span .lo) (held (c .before .before))) ∙ c .if2 .left),
-)
+loop-again c =
+    let a = c .before .before .before .before .before .before .before .before .before .args in
+    let l = c .before .before .before .before .before .loop in
+    let b = c .before .before .stop-with .result in
+    let h = inside (c .before .before) in
+    let from : l .a ≤ b = rw (c .before .before .stop-with .ensures) (stop-le (set (a .speeds .now) (a .sample .second) (a .sample .speed)) (l .a)) in
+    let rest : moving (at (set (a .speeds .now) (a .sample .second) (a .sample .speed)) b) ≡ false = rw (c .before .before .stop-with .ensures) (stop-after (set (a .speeds .now) (a .sample .second) (a .sample .speed)) (l .a)) in
+    let x : b + 1 - 1 ≡ b = omega arith in (
+      omega (arith, l .inv .0),
+      omega arith,
+      rw x rest,
+      λ car L.
+          let F = c .before .wanting .ensures car L (a .span .lo) in
+          again (passes-over (l .inv .3 car L) b from (omega arith) (λ m p q. F .fails m p (omega (arith, F .to)))) h (sym (gear-standing car _ _ _ _ rest)),
+    )
 
 returns-2 : tie.Need-returns-2 Inv-loop μ-loop
 unfolding said
-returns-2 c = λ car H.
-    let a = c .before .before .before .before .before .args in
-    not-wanted car (a .speeds .now) (set (a .holds .now) (a .hold .second) (a .hold .gear)) (a .span .lo) (a .span .hi) (ends (c .before .before .loop .inv .1 car H) (omega arith))
+returns-2 c = λ car L.
+    let a = c .before .before .before .before .before .before .args in
+    not-wanted car (set (a .speeds .now) (a .sample .second) (a .sample .speed)) (set (a .holds .now) (a .hold .second) (a .hold .gear)) (a .span .lo) (a .span .hi) (ends (c .before .before .loop .inv .3 car L) (omega arith))
 
 pub judge-gears-spec : {M : Type 1} → statement M
-judge-gears-spec = tie.close (tie.spec Inv-loop μ-loop loop-holds hold-at-requires wanting-requires returns add-i loop-less loop-again returns-2)
+judge-gears-spec = tie.close (tie.spec Inv-loop μ-loop add-a loop-holds stop-with-requires wanting-requires returns add-a-2 loop-less loop-again returns-2)

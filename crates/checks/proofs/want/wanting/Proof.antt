@@ -1,50 +1,73 @@
--- `checks::want::wanting` meets its contract: a moving second without a hold wants a gear where none fits.
+-- `checks::want::wanting` meets its contract: each first choice before second i is a gear.
 -- Assumes nothing.
+use Prim.Native.Nat.{_-_, _≤_}
 use native.Mathlib.Omega.{arith}
-use Prim.Native.Nat.{ℕ}
-use mathlib.Core.Path.{_≡_, sym, ap, _∙_}
-use mathlib.Core.Bool.{not}
-use lib.Dec.{eqb}
-use Rattle.rules.specs.Words.{at, highest}
-use Rattle.rules.specs.Gears.{fits}
-use Rattle.gears.proofs.Parts.{ng-of}
+use mathlib.Core.Path.{sym, _∙_}
+use lib.ListN.{set, length-set}
 use borrow.Author.Needs.{needs}
-use Rattle.checks.proofs.Scans.{not-so, so}
-use Rattle.checks.proofs.Tests.{gear-standing, gear-held, gear-want}
+use Rattle.rules.specs.declared.Vehicle.{Vehicle}
+use Rattle.gears.specs.Parts.{Lent}
+use Rattle.checks.proofs.Dry.{Dry, dry-start, dry-more, dry-stops, dry-ends}
 use Rattle.checks.proofs.want.wanting.Statement.{statement}
 use Rattle.checks.proofs.want.wanting.Tie as tie
 
-mul-v : tie.Need-mul-v
-mul-v c = search needs
+abbrev Inv-loop : tie.InvT-loop
+Inv-loop k ratio n p speeds holds sample hold trip a b run before₀ i₀ before i =
+    (trip .lo ≤ i) × (i ≤ trip .hi) × ((car : Vehicle) → Lent car k ratio n p → Dry car (set speeds (sample .second) (sample .speed)) (set holds (hold .second) (hold .gear)) (trip .lo) i before)
 
-shared-slice-read-v : tie.Need-shared-slice-read-v
-shared-slice-read-v c = search needs
+abbrev μ-loop : tie.MeasureT-loop
+μ-loop k ratio n p speeds holds sample hold trip a b run before₀ i₀ before i = trip .hi - i
 
-moving-requires : tie.Need-moving-requires
-moving-requires c κs = search needs
+closing-with-requires : tie.Need-closing-with-requires Inv-loop μ-loop
+closing-with-requires c κs = c .before .before .pre .1
 
-returns : tie.Need-returns
-returns c = λ car H hs lo h.
-    let a = c .before .before .before .before .args in
-    gear-standing car (a .speeds .now) hs lo (a .i) (not-so (c .before .moving .ensures) (c .if1 .taken))
+loop-holds : tie.Need-loop-holds Inv-loop μ-loop
+loop-holds c = (omega arith, c .before .before .before .pre .1 .order, λ car L. dry-start)
 
-returns-2 : tie.Need-returns-2
-returns-2 c = λ car H hs lo h.
-    let a = c .before .before .before .before .before .args in
-    gear-held car (a .speeds .now) hs lo (a .i) (h .size) (so (c .before .before .moving .ensures) (c .before .if1 .left)) (λ z. c .if2 .taken (sym (h .shows) ∙ z))
+choice-in-requires : tie.Need-choice-in-requires Inv-loop μ-loop
+choice-in-requires c κs =
+    let s = c .before .before .before .before .before in
+    let l = c .before .loop in
+    let a = s .args in
+    (s .pre .0, record { trip = s .pre .1; rooms = s .pre .2 ∙ sym (length-set (a .speeds .now) (a .sample .second) (a .sample .speed)); since = l .inv .0; until = omega arith; closes = c .before .before .closing-with .ensures })
 
-begins-requires : tie.Need-begins-requires
-begins-requires c κs = search needs
+returns : tie.Need-returns Inv-loop μ-loop
+returns c = λ car L lo.
+    let A = c .before .before .before .before .before .before .before .pre .1 in
+    let l = c .before .before .before .loop in
+    let D = l .inv .2 car L in
+    dry-stops D (c .before .choice-in .ensures car L (D .last)) (l .inv .0) (omega arith) (A .moves (l .i) (l .inv .0) (omega arith)) (c .if1 .taken) lo
 
-some-fits-requires : tie.Need-some-fits-requires
-some-fits-requires c κs = search needs
+add-i : tie.Need-add-i Inv-loop μ-loop
+add-i c =
+    let s = c .before .before .before .before .before .before .before in
+    let a = s .args in
+    omega (arith, s .pre .1 .inside, length-set (a .speeds .now) (a .sample .second) (a .sample .speed))
 
-returns-3 : tie.Need-returns-3
-returns-3 c = λ car H hs lo h.
-    let a = c .before .before .before .before .before .before .before .args in
-    let z : a .held ≡ 0 = omega arith in
-    gear-want car (a .speeds .now) hs lo (a .i) (h .size) (so (c .before .before .before .before .moving .ensures) (c .before .before .before .if1 .left)) (h .shows ∙ z) (c .before .begins .ensures)
-    (c .some-fits .ensures car H ∙ ap (λ (g : ℕ). not (eqb (highest (fits car (record { first-second = c .before .begins .result }) (at (a .speeds .now) (a .i))) g) 0)) (sym (ng-of (H .counts))))
+loop-less : tie.Need-loop-less Inv-loop μ-loop
+loop-less c = search needs
+
+loop-again : tie.Need-loop-again Inv-loop μ-loop
+loop-again c =
+    let l = c .before .before .before .loop in
+    (omega (arith, l .inv .0), omega arith, λ car L. let D = l .inv .2 car L in dry-more D (c .before .choice-in .ensures car L (D .last)) (c .if1 .left))
+
+returns-2 : tie.Need-returns-2 Inv-loop μ-loop
+returns-2 c = λ car L lo.
+    let A = c .before .before .before .before .before .pre .1 in
+    dry-ends (c .before .loop .inv .2 car L) (A .order) (omega (arith, c .before .loop .inv .1)) lo
 
 pub wanting-spec : {M : Type 1} → statement M
-wanting-spec = tie.close (tie.spec mul-v shared-slice-read-v moving-requires returns returns-2 begins-requires some-fits-requires returns-3)
+wanting-spec =
+    tie.close
+    (tie.spec
+    Inv-loop
+    μ-loop
+    closing-with-requires
+    loop-holds
+    choice-in-requires
+    returns
+    add-i
+    loop-less
+    loop-again
+    returns-2)

@@ -10,44 +10,48 @@ use mir.Syntax.{w64}
 use mir.Val.{toZ}
 use Rattle.rules.proofs.Laws.Sizes.{required-size}
 use Rattle.rules.proofs.Laws.Range.{rd, result}
-use Rattle.rules.specs.Gears.{Place, required}
+use Rattle.rules.specs.Gears.{is-first, required}
 use Rattle.rules.specs.declared.Vehicle.{Vehicle}
 use Rattle.gears.specs.Choosing.{suits-for}
 use Rattle.gears.specs.Parts.{Counts, Lent}
 use Rattle.gears.proofs.Parts.{ng-of, idle-of, rated-of, f0-of, f1-of, f2-of, tm-of}
 use Rattle.gears.proofs.Choices.{choice-first, down-of, goes-down, choice-highest, choice-strongest}
+use Rattle.gears.proofs.Speeds.{only-first-is}
 use Rattle.gears.proofs.Down.{Down, start, stops, ends}
 use Rattle.gears.proofs.choice.choose.Statement.{statement}
 use Rattle.gears.proofs.choice.choose.Tie as tie
 
--- a later second of a trip
-abbrev later : Place
-later = record { first-second = false }
-
 abbrev Inv-loop : tie.InvT-loop
-Inv-loop k ratio n p first-second v d e least g₀ g = (g ≤ k .ng) × ((car : Vehicle) → Lent car k ratio n p → Down (suits-for car later v (toZ w64 e)) (car .ng) g)
+Inv-loop k ratio n p here v d e least g₀ g = (g ≤ k .ng) × ((car : Vehicle) → Lent car k ratio n p → Down (suits-for car here v (toZ w64 e)) (car .ng) g)
 
 abbrev μ-loop : tie.MeasureT-loop
-μ-loop k ratio n p first-second v d e least g₀ g = g
+μ-loop k ratio n p here v d e least g₀ g = g
+
+is-first-requires : tie.Need-is-first-requires Inv-loop μ-loop
+is-first-requires c κs = search needs
 
 only-first-requires : tie.Need-only-first-requires Inv-loop μ-loop
-only-first-requires c κs = let L = c .before .pre .0 .lent in omega (arith, idle-of (L .has .counts), rated-of (L .has .counts), L .bounds .rated-from)
+only-first-requires c κs = let L = c .before .before .pre .0 .lent in omega (arith, idle-of (L .has .counts), rated-of (L .has .counts), L .bounds .rated-from)
 
 returns : tie.Need-returns Inv-loop μ-loop
 returns c = λ car L.
-    let s = c .before .before in
-    rw (c .before .if1 .taken) (c .only-first .ensures car (L .has) ∙ choice-first car (L .bounds) (s .args .v) (s .args .d))
+    let s = c .before .before .before in
+    rw (only-first-is (s .args .here) (rw (c .before .before .is-first .ensures) at (c .before .if1 .taken))) (c .only-first .ensures car (L .has) ∙ choice-first car (L .bounds) (s .args .v) (s .args .d))
+
+-- it is a later second of its trip
+later : (c : tie.After-required Inv-loop μ-loop) → is-first (c .before .before .before .args .here) ≡ false
+later c = rw (c .before .before .is-first .ensures) at (c .before .if1 .left)
 
 -- E is the required power, of every vehicle of these parts
-load : (c : tie.After-required Inv-loop μ-loop) → let s = c .before .before in (car : Vehicle) → Counts car (s .args .k)
+load : (c : tie.After-required Inv-loop μ-loop) → let s = c .before .before .before in (car : Vehicle) → Counts car (s .args .k)
     → rd (c .required .result) ≡ required car (s .args .v) (s .args .d)
 load c car C =
-    let s = c .before .before in
+    let s = c .before .before .before in
     result (c .required .ok) ∙ (rw (toZ-ofZ (s .fits .d)) at (c .required .ensures car C))
 
 required-requires : tie.Need-required-requires Inv-loop μ-loop
 required-requires c κs =
-    let s = c .before in
+    let s = c .before .before in
     let L = s .pre .0 .lent in
     rw (toZ-ofZ (s .fits .d)) (record {
       f0-to = omega (arith, f0-of (L .has .counts), L .bounds .f0-to);
@@ -60,7 +64,7 @@ required-requires c κs =
 
 minimum-requires : tie.Need-minimum-requires Inv-loop μ-loop
 minimum-requires c κs =
-    let L = c .before .before .pre .0 .lent in
+    let L = c .before .before .before .pre .0 .lent in
     record { from = omega arith; rated-from = omega (arith, idle-of (L .has .counts), rated-of (L .has .counts), L .bounds .rated-from) }
 
 mul-least : tie.Need-mul-least Inv-loop μ-loop
@@ -77,11 +81,12 @@ strongest-requires c κs = search needs
 
 suits-requires : tie.Need-suits-requires Inv-loop μ-loop
 suits-requires c κs =
-    let s = c .before .before .before .before .before .before in
+    let s = c .before .before .before .before .before .before .before in
     let P = s .pre .0 in (
       P,
       record { from = omega arith; to = omega (arith, c .before .loop .inv .0) },
       rw (load (c .before .before .before .before) (P .car) (P .lent .has .counts)) (required-size (P .car) (P .lent .bounds) (s .args .v) (s .pre .1 .v-to) (s .args .d) (s .pre .1 .d-in)),
+      later (c .before .before .before .before),
       λ car C. rw (c .before .before .before .minimum .ensures .0 car C),
     )
 
@@ -93,27 +98,25 @@ loop-less c = down-of _ (c .below .ensures) (omega arith)
 
 loop-again : tie.Need-loop-again Inv-loop μ-loop
 loop-again c =
-    let s = c .before .before .before .before .before .before .before .before .before in
+    let s = c .before .before .before .before .before .before .before .before .before .before in
     let l = c .before .before .before .before .loop in
     let b : c .below .result < l .g = down-of _ (c .below .ensures) (omega arith) in (
       omega (arith, l .inv .0),
       λ car L.
-          goes-down L (s .args .v) (rw (c .before .before .before .before .before .before .minimum .ensures .0 car (L .has .counts))) _ (c .below .ensures) (omega arith) (omega (arith, ng-of (L .has .counts), l .inv .0)) (rw (c .before .before .suits .ensures car L) at (c .before .if3 .left)) (l .inv .1 car L),
+          goes-down L (s .args .here) (later (c .before .before .before .before .before .before .before)) (s .args .v) (rw (c .before .before .before .before .before .before .minimum .ensures .0 car (L .has .counts))) _ (c .below .ensures) (omega arith) (omega (arith, ng-of (L .has .counts), l .inv .0)) (rw (c .before .before .suits .ensures car L) at (c .before .if3 .left)) (l .inv .1 car L),
     )
 
 returns-2 : tie.Need-returns-2 Inv-loop μ-loop
 returns-2 c = λ car L.
-    let s = c .before .before .before .before .before .before .before in
-    rw (c .before .before .before .before .before .before .if1 .left)
-    (choice-strongest car later (s .args .v) (s .args .d) (load (c .before .before .before .before .before) car (L .has .counts))
-    (rw (c .before .before .before .before .before .before .if1 .left, ← ng-of (L .has .counts)) at (c .strongest .ensures car L)) (ends (c .before .before .loop .inv .1 car L) (c .before .if2 .taken)))
+    let s = c .before .before .before .before .before .before .before .before in
+    choice-strongest car (s .args .here) (s .args .v) (s .args .d) (load (c .before .before .before .before .before) car (L .has .counts))
+    (rw (← ng-of (L .has .counts)) at (c .strongest .ensures car L)) (ends (c .before .before .loop .inv .1 car L) (c .before .if2 .taken))
 
 returns-3 : tie.Need-returns-3 Inv-loop μ-loop
 returns-3 c = λ car L.
-    let s = c .before .before .before .before .before .before .before .before in
-    rw (c .before .before .before .before .before .before .before .if1 .left)
-    (choice-highest car later (s .args .v) (s .args .d) (load (c .before .before .before .before .before .before) car (L .has .counts)) (omega arith)
-    (stops (c .before .before .before .loop .inv .1 car L) (omega arith) (rw (c .before .suits .ensures car L) at (c .if3 .taken))))
+    let s = c .before .before .before .before .before .before .before .before .before in
+    choice-highest car (s .args .here) (s .args .v) (s .args .d) (load (c .before .before .before .before .before .before) car (L .has .counts)) (omega arith)
+    (stops (c .before .before .before .loop .inv .1 car L) (omega arith) (rw (c .before .suits .ensures car L) at (c .if3 .taken)))
 
 pub choose-spec : {M : Type 1} → statement M
 choose-spec =
@@ -121,6 +124,7 @@ choose-spec =
     (tie.spec
     Inv-loop
     μ-loop
+    is-first-requires
     only-first-requires
     returns
     required-requires

@@ -6,19 +6,16 @@ use borrow.Author.Tests.{eq-eqb, ne-eqb}
 use borrow.Author.Needs.{needs}
 use mir.Facts.{toZ-ofZ}
 use Rattle.rules.proofs.Laws.Choice.{choose-to}
-use Rattle.rules.specs.Gears.{Place, choose}
+use Rattle.rules.specs.Gears.{choose}
 use Rattle.rules.specs.declared.Vehicle.{Vehicle}
 use Rattle.gears.specs.Choosing.{first-of}
 use Rattle.gears.specs.Parts.{Lent}
 use Rattle.gears.proofs.choice.first_choice.Statement.{statement}
 use Rattle.gears.proofs.choice.first_choice.Tie as tie
 
-abbrev here : tie.Start → Place
-here c = record { first-second = c .args .first-second }
-
 -- what was returned is the rules' choice
 is : (c : tie.After-choose) → let s = c .before .before in (car : Vehicle) → Lent car (s .args .k) (s .args .ratio .now) (s .args .n .now) (s .args .p .now)
-    → c .choose .result ≡ choose car (here s) (s .args .v) (s .args .d)
+    → c .choose .result ≡ choose car (s .args .here) (s .args .v) (s .args .d)
 is c car L = let s = c .before .before in rw (toZ-ofZ (s .fits .d)) at (c .choose .ensures car L)
 
 choose-requires : tie.Need-choose-requires
@@ -29,7 +26,7 @@ cast-result c =
     let s = c .before .before in
     let car = s .pre .0 .car in
     let L = s .pre .0 .lent in
-    omega (arith, is c car L, choose-to car (here s) (s .args .v) (s .args .d), L .bounds .ng-to)
+    omega (arith, is c car L, choose-to car (s .args .here) (s .args .v) (s .args .d), L .bounds .ng-to)
 
 returns : tie.Need-returns
 unfolding first-of

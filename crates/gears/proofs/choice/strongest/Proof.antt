@@ -13,10 +13,10 @@ use Rattle.gears.proofs.choice.strongest.Statement.{statement}
 use Rattle.gears.proofs.choice.strongest.Tie as tie
 
 abbrev Inv-loop : tie.InvT-loop
-Inv-loop k ratio n p first-second v best₀ g₀ best g = (g ≤ k .ng) × ((car : Vehicle) → Lent car k ratio n p → Strongest car (record { first-second = first-second }) v g best)
+Inv-loop k ratio n p here v best₀ g₀ best g = (g ≤ k .ng) × ((car : Vehicle) → Lent car k ratio n p → Strongest car here v g best)
 
 abbrev μ-loop : tie.MeasureT-loop
-μ-loop k ratio n p first-second v best₀ g₀ best g = k .ng - g
+μ-loop k ratio n p here v best₀ g₀ best g = k .ng - g
 
 loop-holds : tie.Need-loop-holds Inv-loop μ-loop
 loop-holds c = (omega arith, λ car L. none-yet _ _ _ _)
@@ -43,7 +43,7 @@ returns : tie.Need-returns Inv-loop μ-loop
 returns c = λ car L.
     let s = c .before .before .before in
     let e : c .before .before .loop .g ≡ s .args .k .ng = omega arith in
-    c .before .before .loop .inv .1 car L .is ∙ ap (λ (j : ℕ). strongest car (record { first-second = s .args .first-second }) (s .args .v) j) e
+    c .before .before .loop .inv .1 car L .is ∙ ap (λ (j : ℕ). strongest car (s .args .here) (s .args .v) j) e
 
 pub strongest-spec : {M : Type 1} → statement M
 strongest-spec =

@@ -5,7 +5,7 @@ use mathlib.Core.Bool.{true, false}
 use mathlib.Core.Path.{_≡_}
 use borrow.Author.Needs.{needs}
 use mir.Facts.{toZ-ofZ}
-use Rattle.rules.specs.Gears.{Place, fits}
+use Rattle.rules.specs.Gears.{fits}
 use Rattle.rules.specs.declared.Vehicle.{Vehicle}
 use Rattle.gears.specs.Parts.{Lent}
 use Rattle.gears.specs.Choosing.{Turning}
@@ -15,21 +15,17 @@ use Rattle.gears.proofs.Powers.{turning-of, sized-of}
 use Rattle.gears.proofs.choice.suits.Statement.{statement}
 use Rattle.gears.proofs.choice.suits.Tie as tie
 
--- a later second of a trip
-abbrev later : Place
-later = record { first-second = false }
-
 -- the parts lent
 abbrev Of : tie.Start → Vehicle → Type 0
 Of s car = Lent car (s .args .k) (s .args .ratio .now) (s .args .n .now) (s .args .p .now)
 
 -- the gear fits
-fit : (c : tie.Then1) → let s = c .before .before in (car : Vehicle) → Of s car → fits car later (s .args .v) (s .args .g) ≡ true
+fit : (c : tie.Then1) → let s = c .before .before in (car : Vehicle) → Of s car → fits car (s .args .here) (s .args .v) (s .args .g) ≡ true
 fit c car L = rw (c .before .fits-later .ensures car (L .has)) at (c .if1 .taken)
 
 -- it is within nmax
 turns : (c : tie.Then1) → let s = c .before .before in Turning (s .args .k) (s .args .ratio .now) (s .args .v) (s .args .g)
-turns c = let s = c .before .before in let L = s .pre .0 .lent in turning-of (L .has) later _ _ (s .pre .1) (fit c (s .pre .0 .car) L)
+turns c = let s = c .before .before in let L = s .pre .0 .lent in turning-of (L .has) (s .args .here) _ _ (s .pre .1) (fit c (s .pre .0 .car) L)
 
 fits-later-requires : tie.Need-fits-later-requires
 fits-later-requires c κs = let L = c .pre .0 .lent in (
@@ -39,12 +35,13 @@ fits-later-requires c κs = let L = c .pre .0 .lent in (
     rated-from = omega (arith, idle-of (L .has .counts), rated-of (L .has .counts), L .bounds .rated-from);
   },
   c .pre .3,
+  c .pre .4,
 )
 
 returns : tie.Need-returns
 returns c = λ car L.
     let s = c .before .before .before in
-    suits-none L later _ _ (s .pre .1) (s .args .e) (fit (c .before) car L) (rw (toZ-ofZ (s .fits .e)) at (c .if2 .taken))
+    suits-none L (s .args .here) _ _ (s .pre .1) (s .args .e) (fit (c .before) car L) (rw (toZ-ofZ (s .fits .e)) at (c .if2 .taken))
 
 power-at-requires : tie.Need-power-at-requires
 power-at-requires c κs = let s = c .before .before .before in (s .pre .0, turns (c .before))
@@ -62,12 +59,12 @@ enough-requires c κs =
 returns-2 : tie.Need-returns-2
 returns-2 c = λ car L.
     let s = c .before .before .before .before .before in
-    suits-power L later _ _ (s .args .e) (c .before .power-at .result) (fit (c .before .before .before) car L) (c .before .power-at .ensures car L) (rw (toZ-ofZ (s .fits .e)) at (c .enough .ensures))
+    suits-power L (s .args .here) _ _ (s .args .e) (c .before .power-at .result) (fit (c .before .before .before) car L) (c .before .power-at .ensures car L) (rw (toZ-ofZ (s .fits .e)) at (c .enough .ensures))
 
 returns-3 : tie.Need-returns-3
 returns-3 c = λ car L.
     let s = c .before .before in
-    unfit L later _ _ (s .args .e) (rw (c .before .fits-later .ensures car (L .has)) at (c .if1 .left))
+    unfit L (s .args .here) _ _ (s .args .e) (rw (c .before .fits-later .ensures car (L .has)) at (c .if1 .left))
 
 pub suits-spec : {M : Type 1} → statement M
 suits-spec = tie.close (tie.spec fits-later-requires returns power-at-requires enough-requires returns-2 returns-3)

@@ -17,8 +17,11 @@ returns c = λ car H. fits-over H _ _ _ (rw (c .before .top .ensures, c .before 
 returns-2 : tie.Need-returns-2
 returns-2 c = λ car H. fits-one H _ _ _ (c .if2 .taken) (rw (c .before .before .top .ensures, c .before .before .before .engine .ensures) at (c .before .if1 .left))
 
+is-first-requires : tie.Need-is-first-requires
+is-first-requires c κs = search needs
+
 returns-3 : tie.Need-returns-3
-returns-3 c = λ car H. fits-not car _ _ _ (c .before .if2 .left) (c .if3 .taken)
+returns-3 c = λ car H. fits-not car _ _ _ (c .before .before .if2 .left) (rw (c .before .is-first .ensures) at (c .if3 .taken))
 
 minimum-requires : tie.Need-minimum-requires
 minimum-requires c κs = search needs
@@ -27,7 +30,10 @@ mul-result : tie.Need-mul-result
 mul-result c = search needs
 
 returns-4 : tie.Need-returns-4
-returns-4 c = λ car H. rw (c .minimum .ensures .0 car (H .counts), c .before .before .before .before .before .engine .ensures) (fits-later H _ _ _ (c .before .before .before .before .before .before .pre .from) (c .before .before .if2 .left) (c .before .if3 .left) (rw (c .before .before .before .before .top .ensures, c .before .before .before .before .before .engine .ensures) at (c .before .before .before .if1 .left)))
+returns-4 c = λ car H.
+    let x = c .before .before .before .before .before .before .engine .ensures in
+    rw (c .minimum .ensures .0 car (H .counts), x)
+    (fits-later H _ _ _ (c .before .before .before .before .before .before .before .pre .from) (c .before .before .before .if2 .left) (rw (c .before .before .is-first .ensures) at (c .before .if3 .left)) (rw (c .before .before .before .before .before .top .ensures, x) at (c .before .before .before .before .if1 .left)))
 
 pub fits-spec : {M : Type 1} → statement M
 fits-spec =
@@ -37,6 +43,7 @@ fits-spec =
     top-requires
     returns
     returns-2
+    is-first-requires
     returns-3
     minimum-requires
     mul-result

@@ -1,5 +1,6 @@
 -- `trips::work::work_trip` meets its contract: what each call leaves is what the next one finds.
 -- Assumes nothing.
+use native.Mathlib.Omega.{arith}
 use mathlib.Core.Path.{_≡_}
 use Rattle.rules.specs.declared.Vehicle.{Vehicle}
 use Rattle.rules.specs.Corrections.{gears}
@@ -15,7 +16,7 @@ Of s car = Lent car (s .args .k) (s .args .ratio .now) (s .args .n .now) (s .arg
 
 -- where the function began, seen from after its last pass
 abbrev start : tie.After-pass-c → tie.Start
-start c = c .before .before .before .before .before .before .before .before .before .before .before .before .before .before .before .before .before
+start c = c .before .before .before .before .before .before .before .before .before .before .before .before .before .before .before .before .before .before
 
 -- after the three passes the slice holds the trip's gears
 done : (c : tie.After-pass-c) (car : Vehicle) → Of (start c) car → c .pass-c .last .1 .1 .0 ≡ gears car (start c .args .us .now) (start c .args .hs .now)
@@ -24,21 +25,24 @@ done c car L =
     let first = c .before .before .before .before .before .before .before .before .before .before .before .before .first-choices in
     let one = c .before .before .before .before .before .before .before .before .pass-a in
     let two = c .before .before .before .before .pass-b in
-    gears-is car (a .us .now) (a .hs .now) (first .ensures car L) (one .ensures car (L .has)) (two .ensures car (L .has)) (c .pass-c .ensures car)
+    gears-is car (a .us .now) (a .hs .now) (first .ensures car L) (one .ensures car (L .has)) (two .ensures car (L .has)) (c .pass-c .ensures car (a .us .now) (start c .pre .1 .lists .speeds) (c .before .before .before .before .before .before .before .before .before .before .before .before .before .before .closing-from .ensures))
+
+closing-from-requires : tie.Need-closing-from-requires
+closing-from-requires c κs = let s = c .before .before .before in (moves-on (s .pre .1), omega (arith, s .pre .1 .lists .speeds))
 
 first-choices-requires : tie.Need-first-choices-requires
-first-choices-requires c κs = search needs
+first-choices-requires c κs = let s = c .before .before .before .before .before in (s .pre .0, s .pre .1 .pace, s .pre .1 .lists, c .before .closing-from .ensures)
 
 pass-a-requires : tie.Need-pass-a-requires
-pass-a-requires c κs = let s = c .before .before .before .before .before .before .before .before in (gears-few (s .pre .0), record { speeds = s .pre .1 .lists .speeds; gears = search needs })
+pass-a-requires c κs = let s = c .before .before .before .before .before .before .before .before .before in (gears-few (s .pre .0), record { speeds = s .pre .1 .lists .speeds; gears = search needs })
 
 pass-b-requires : tie.Need-pass-b-requires
-pass-b-requires c κs = let s = c .before .before .before .before .before .before .before .before .before .before .before .before in (gears-few (s .pre .0), record { speeds = s .pre .1 .lists .speeds; gears = search needs })
+pass-b-requires c κs = let s = c .before .before .before .before .before .before .before .before .before .before .before .before .before in (gears-few (s .pre .0), record { speeds = s .pre .1 .lists .speeds; gears = search needs })
 
 pass-c-requires : tie.Need-pass-c-requires
 pass-c-requires c κs =
-    let s = c .before .before .before .before .before .before .before .before .before .before .before .before .before .before .before .before in
-    (record { speeds = s .pre .1 .lists .speeds; gears = search needs }, moves-on (s .pre .1))
+    let s = c .before .before .before .before .before .before .before .before .before .before .before .before .before .before .before .before .before in
+    record { us = s .args .us .now; speeds = s .pre .1 .lists .speeds; gears = search needs; run = c .before .before .before .before .before .before .before .before .before .before .before .before .before .closing-from .ensures }
 
 bytes-requires : tie.Need-bytes-requires
 bytes-requires c κs =
@@ -58,6 +62,7 @@ pub work-trip-spec : {M : Type 1} → statement M
 work-trip-spec =
     tie.close
     (tie.spec
+    closing-from-requires
     first-choices-requires
     pass-a-requires
     pass-b-requires

@@ -1,0 +1,209 @@
+-- The dry run of first choices: a second on the way through its trip, a whole trip, and the trips of a span one after the other.
+-- Assumes nothing.
+use Prim.Native.Nat.{ℕ, zero, suc, _+_, _-_, _≤_, _<_}
+use native.Mathlib.Numerals.{add-one}
+use native.Mathlib.Omega.{arith}
+use mathlib.Core.Path.{_≡_, refl, sym, ap, subst, _∙_}
+use mathlib.Core.Logic.{_≢_, _⊎_, inl, inr}
+use mathlib.Core.Bool.{Bool, true, false}
+use mathlib.Core.Option.{Option, none, some}
+use mathlib.Core.List.{List}
+use lib.Dec.{leb, eqb, lit<}
+use lib.IntN.{pos, natAbs, _-ℤ_}
+use lib.ListN.{length, drop}
+use borrow.Author.Tests.{ltb-false, lt-ltb, eq-eqb, ne-eqb, eqb-true, eqb-false}
+use Rattle.rules.specs.declared.Vehicle.{Vehicle}
+use Rattle.rules.specs.Words.{_and_, _or_, at, part, first}
+use Rattle.rules.specs.Units.{fastest, steepest, moving, rise, start, stop}
+use Rattle.rules.specs.Corrections.{closing, place-of, first-at, place-at}
+use Rattle.rules.specs.Refusals.{speed, step, ends, no-gear, checks, bad, seconds-fault}
+use Rattle.rules.specs.Vocabulary.{IsTrip}
+use Rattle.rules.proofs.Laws.Words.{clash, by-test, by-order, by-eq, both, and-no, or-left, or-right, at-part, length-part}
+use Rattle.rules.proofs.Laws.Range.{natAbs-gap}
+use Rattle.rules.proofs.Laws.Walk.{Left, again}
+use Rattle.rules.proofs.Laws.Trips.{trip-of, trip-start, start-le, stop-le, stop-after, stop-standing}
+use Rattle.rules.proofs.Laws.Closing.{closing-part}
+use Rattle.rules.proofs.Laws.Cards.{first-at-is}
+use Rattle.rules.proofs.Laws.Checks.{listed, step-passed}
+use Rattle.gears.specs.Choosing.{first-of, Pace}
+use Rattle.trips.specs.Trip.{AllMoving, RunFrom}
+use Rattle.trips.proofs.Clutch.{rise-here}
+use Rattle.trips.proofs.Closing.{Closing, run-start}
+use Rattle.checks.specs.Calm.{Stands}
+use Rattle.checks.specs.Want.{Resting, Level, Ahead, OnWay, LowestAt}
+
+-- ---- a span that passes 4 to 9
+
+-- a step that passes is at most 150
+pub step-small : (car : Vehicle) (vs hs : List ℕ) (lo i : ℕ) → lo ≤ i → suc i < length vs → bad step car vs hs lo (suc i) ≡ false → natAbs (rise vs i) ≤ steepest
+unfolding bad rise _and_
+step-small car vs hs lo i a b e =
+    let x : suc i - 1 ≡ i = omega arith in
+    let f = rw (lt-ltb lo (suc i) (omega arith), x) at e in
+    rw (lt-ltb (suc i) (length vs) b) (natAbs-gap (at vs (suc i)) (at vs i) steepest (ltb-false _ _ (or-left _ _ f)) (ltb-false _ _ (or-right _ _ f)))
+
+-- the first or the last second
+pub end-second : (i n : ℕ) → (i ≡ 0) ⊎ (suc i ≡ n) → (eqb i 0 or eqb (suc i) n) ≡ true
+unfolding _or_
+end-second i n o = elim o [ inl x ↦ rw (eq-eqb i 0 x) | inr x ↦ by-test (eqb i 0) (λ t. rw t) (λ t. rw (t, eq-eqb (suc i) n x)) ]
+
+module _ (car : Vehicle) (vs hs : List ℕ) (lo hi : ℕ) (e : seconds-fault car vs hs lo hi ≡ none) where
+  speed-passed : (i : ℕ) → lo ≤ i → i < hi → at vs i ≤ fastest
+  unfolding seconds-fault checks bad
+  speed-passed i a b = ltb-false _ _ (listed car vs hs lo hi checks e 0 (lit< tt) i a b)
+
+  -- the trace's first or last second stands
+  end-stands : (i : ℕ) → lo ≤ i → i < hi → (i ≡ 0) ⊎ (suc i ≡ length vs) → moving (at vs i) ≡ false
+  unfolding seconds-fault checks bad
+  end-stands i a b o =
+      by-test (moving (at vs i)) (λ m. clash (both m (end-second i (length vs) o)) (listed car vs hs lo hi checks e 2 (lit< tt) i a b)) (λ m. m)
+
+  -- so that a span which begins and ends with a standing second, or with the trace, begins and ends with a standing second
+  module _ (R : Resting vs lo hi) (b : hi ≤ length vs) where
+    pub rests : Stands vs lo hi
+    rests = record {
+      some = R .some;
+      first = by-test (eqb lo 0) (λ t. end-stands lo (omega arith) (R .some) (inl (eqb-true _ _ t))) (λ t. R .begins (eqb-false _ _ t));
+      last = by-test (eqb hi (length vs))
+          (λ t. let z : hi ≡ length vs = eqb-true _ _ t in end-stands (hi - 1) (omega (arith, R .some)) (omega (arith, R .some)) (inr (omega (arith, R .some))))
+          (λ t. R .ends (eqb-false _ _ t));
+    }
+
+    pub level : {ks : List ℕ} → length ks ≡ length vs → Level vs ks lo hi
+    level n = record {
+      rest = rests;
+      inside = b;
+      rooms = n;
+      speed-to = speed-passed;
+      step-to = λ i x y. step-small car vs hs lo i x (omega arith) (step-passed car vs hs lo hi e (suc i) (omega arith) y);
+    }
+
+-- ---- a second on the way through its trip
+
+module _ {vs hs : List ℕ} {a b run i : ℕ} (W : OnWay vs hs a b run i) where
+  its-trip : IsTrip vs a b
+  its-trip = record { some-second = omega (arith, W .since, W .until); inside = W .trip .moves; before = W .trip .before; after = W .trip .after }
+
+  closes-here : closing (drop i vs) ≡ leb run (i - a)
+  closes-here =
+      let n = length-part vs a (suc b) (W .trip .inside) in
+      sym (closing-part vs its-trip (omega (arith, W .trip .inside)) i (W .since) (W .until)) ∙ W .closes .run (i - a) (omega (arith, W .since, W .until, n))
+
+  -- its speed and its step can be chosen for
+  its-pace : Pace (at vs i) (pos (at vs (i + 1)) -ℤ pos (at vs i))
+  its-pace = record {
+    v-to = W .trip .speed-to i (W .since) (W .until);
+    d-in = rw (← rise-here vs i (omega (arith, W .until, W .trip .inside))) (W .trip .step-to i (W .since) (W .until));
+  }
+
+  pub way-pace : {v next : ℕ} → v ≡ at vs i → next ≡ at vs (i + 1) → Pace v (pos next -ℤ pos v)
+  way-pace {v} {next} e f = subst (λ (x : ℕ). Pace x (pos next -ℤ pos x)) (sym e) (subst (λ (x : ℕ). Pace (at vs i) (pos x -ℤ pos (at vs i))) (sym f) its-pace)
+
+  module _ (car : Vehicle) (ks : List ℕ) (same : length ks ≡ length hs) {before : ℕ} (last : (i ≡ a → ⊥) → before ≡ first-at car vs ks (i - 1)) where
+    -- what it is in its trip
+    place-here : place-of car (eqb i a) (leb run (i - a)) before ≡ place-at car vs ks i
+    unfolding place-at place-of
+    place-here =
+        let s : start vs i ≡ a = trip-start vs its-trip i (W .since) (W .until) in
+        by-order a i
+        (λ l. rw (s, closes-here, ← last (λ z. omega arith)))
+        (λ l. let e : i ≡ a = omega (arith, W .since) in rw (s, eq-eqb i a e))
+
+    -- so that the choice for it is its first choice
+    chosen : {r : ℕ} → r ≡ first-of car (place-of car (eqb i a) (leb run (i - a)) before) (at vs i) (pos (at vs (i + 1)) -ℤ pos (at vs i)) (at ks i)
+        → r ≡ first-at car vs ks i
+    unfolding first-of
+    chosen e =
+        e ∙ rw (place-here, ← rise-here vs i (omega (arith, W .until, W .trip .inside)))
+        (sym (first-at-is car vs ks (same ∙ W .rooms) i (W .trip .moves i (W .since) (W .until))))
+
+    pub way-choice : {r v next held : ℕ} → v ≡ at vs i → next ≡ at vs (i + 1) → held ≡ at ks i
+        → r ≡ first-of car (place-of car (eqb i a) (leb run (i - a)) before) v (pos next -ℤ pos v) held → r ≡ first-at car vs ks i
+    way-choice {r} {v} {next} {held} e f g is =
+        let here = place-of car (eqb i a) (leb run (i - a)) before in
+        chosen
+        (is ∙ ap (λ (x : ℕ). first-of car here x (pos next -ℤ pos x) held) e
+        ∙ ap (λ (x : ℕ). first-of car here (at vs i) (pos x -ℤ pos (at vs i)) held) f
+        ∙ ap (first-of car here (at vs i) (pos (at vs (i + 1)) -ℤ pos (at vs i))) g)
+
+-- ---- the seconds of a trip
+
+-- the closing run is looked for in the trip's own speeds
+pub trip-moves : {vs : List ℕ} {a b : ℕ} → Ahead vs a b → AllMoving (part vs a (suc b))
+trip-moves {vs} {a} {b} A = record {
+  second = λ i h.
+      let n = length-part vs a (suc b) (A .inside) in
+      rw (at-part vs a (suc b) i (omega (arith, n))) (A .moves (a + i) (omega arith) (omega (arith, n)));
+}
+
+-- from the standing second after it
+pub trip-closes : {vs : List ℕ} {a b : ℕ} → Ahead vs a b → Closing (part vs a (suc b)) (b - a)
+trip-closes {vs} {a} {b} A =
+    let n = length-part vs a (suc b) (A .inside) in
+    let x : a + (b - a) ≡ b = omega (arith, A .order) in
+    run-start (part vs a (suc b)) (b - a) (omega (arith, n, A .order)) (rw (at-part vs a (suc b) (b - a) (omega (arith, n, A .order)), x) (A .after))
+
+-- the first choices from a up to i have been gone through, and each was a gear
+pub record Dry (car : Vehicle) (vs hs : List ℕ) (a i before : ℕ) : Type 0 where
+  pub last : (i ≡ a → ⊥) → before ≡ first-at car vs hs (i - 1)
+  pub good : (lo j : ℕ) → a ≤ j → j < i → bad no-gear car vs hs lo j ≡ false
+
+pub dry-start : {car : Vehicle} {vs hs : List ℕ} {a before : ℕ} → Dry car vs hs a a before
+dry-start = record { last = λ z. absurd (z refl); good = λ lo j p q. absurd (omega arith) }
+
+module _ {car : Vehicle} {vs hs : List ℕ} {a i before : ℕ} (inv : Dry car vs hs a i before) {g : ℕ} (e : g ≡ first-at car vs hs i) where
+  -- a gear
+  pub dry-more : (g ≡ 0 → ⊥) → Dry car vs hs a (i + 1) g
+  unfolding bad
+  dry-more n = record {
+    last = λ z. let x : i + 1 - 1 ≡ i = omega arith in rw x e;
+    good = λ lo j p q. by-eq (omega arith) (λ (x : j ≡ i). rw x (and-no _ _ (ne-eqb (first-at car vs hs i) 0 (λ z. n (e ∙ z))))) (λ (l : j < i). inv .good lo j p l);
+  }
+
+  -- none
+  pub dry-stops : {b : ℕ} → a ≤ i → i < b → moving (at vs i) ≡ true → g ≡ 0 → (lo : ℕ) → LowestAt (bad no-gear car vs hs lo) a b i
+  unfolding bad
+  dry-stops p q m z lo = record {
+    from = p;
+    to = omega arith;
+    fails = λ j x y. inv .good lo j x y;
+    holds = λ h. both m (eq-eqb (first-at car vs hs i) 0 (sym e ∙ z));
+  }
+
+pub dry-ends : {car : Vehicle} {vs hs : List ℕ} {a b i before : ℕ} → Dry car vs hs a i before → a ≤ b → i ≡ b → (lo : ℕ) → LowestAt (bad no-gear car vs hs lo) a b b
+dry-ends inv h e lo = record { from = h; to = omega arith; fails = λ j x y. inv .good lo j x (omega arith); holds = λ l. absurd (omega arith) }
+
+-- ---- the trips of a span
+
+-- places at which the test fails may be passed over
+pub passes-over : {p : ℕ → Bool} {i hi : ℕ} {r : Option ℕ} → Left p i hi r → (j : ℕ) → i ≤ j → j ≤ hi → ((m : ℕ) → i ≤ m → m < j → p m ≡ false) → Left p j hi r
+passes-over inv zero a b f = by-eq a (λ e. rw (← e) inv) (λ l. absurd (omega arith))
+passes-over inv (suc j) a b f =
+    by-eq a (λ e. rw (← e) inv)
+    (λ l. rw (← add-one j) (again (passes-over inv j (omega arith) (omega arith) (λ m x y. f m x (omega arith))) (omega arith) (f j (omega arith) (omega arith))))
+
+module _ {vs hs : List ℕ} {lo hi a : ℕ} (Y : Level vs hs lo hi) (x : lo < a) (y : a < hi) (s : moving (at vs (a - 1)) ≡ false) where
+  -- a trip ends by the span's last second, which stands
+  pub stop-by : stop vs a < hi
+  stop-by =
+      by-order (stop vs a) hi (λ l. l)
+      (λ l. by-test (moving (at vs a))
+      (λ m. let t = trip-of vs a m in clash (t .0 .inside (hi - 1) (omega (arith, t .1)) (omega arith)) (Y .rest .last))
+      (λ m. let e : stop vs a ≡ a = stop-standing vs a m in omega arith))
+
+  -- the trip that begins here, or none
+  pub ahead : Ahead vs a (stop vs a)
+  ahead =
+      let h = stop-by in
+      record {
+        order = stop-le vs a;
+        before = λ i e. let z : a - 1 ≡ i = omega arith in rw z at s;
+        moves = λ i p q.
+            by-test (moving (at vs a))
+            (λ m. trip-of vs a m .0 .inside i (omega (arith, start-le vs a)) q)
+            (λ m. let e : stop vs a ≡ a = stop-standing vs a m in absurd (omega arith));
+        after = stop-after vs a;
+        inside = omega (arith, Y .inside);
+        speed-to = λ i p q. Y .speed-to i (omega arith) (omega arith);
+        step-to = λ i p q. Y .step-to i (omega arith) (omega arith);
+      }

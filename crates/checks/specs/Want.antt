@@ -1,0 +1,52 @@
+-- What the check for want of a gear asks and finds.
+-- Assumes nothing.
+use Prim.Native.Nat.{ℕ, suc, _-_, _≤_, _<_}
+use mathlib.Core.Path.{_≡_}
+use mathlib.Core.Logic.{_≢_}
+use mathlib.Core.Bool.{Bool, true, false}
+use mathlib.Core.List.{List}
+use lib.IntN.{natAbs}
+use lib.ListN.{length}
+use Rattle.rules.specs.Words.{at, part}
+use Rattle.rules.specs.Units.{fastest, steepest, moving, rise}
+use Rattle.trips.specs.Trip.{RunFrom}
+use Rattle.checks.specs.Calm.{Stands}
+
+-- a span that begins and ends with a standing second, or with the trace
+pub record Resting (vs : List ℕ) (lo hi : ℕ) : Type 0 where
+  pub some : lo < hi
+  pub begins : lo ≢ 0 → moving (at vs lo) ≡ false
+  pub ends : hi ≢ length vs → moving (at vs (hi - 1)) ≡ false
+
+-- a span from a standing second to a standing one, its speeds and steps in bounds, and a hold for each second of the trace
+pub record Level (vs hs : List ℕ) (lo hi : ℕ) : Type 0 where
+  pub rest : Stands vs lo hi
+  pub inside : hi ≤ length vs
+  pub rooms : length hs ≡ length vs
+  pub speed-to : (i : ℕ) → lo ≤ i → i < hi → at vs i ≤ fastest
+  pub step-to : (i : ℕ) → lo ≤ i → suc i < hi → natAbs (rise vs i) ≤ steepest
+
+-- the moving seconds from a up to b, between two standing ones; none where b is a
+pub record Ahead (vs : List ℕ) (a b : ℕ) : Type 0 where
+  pub order : a ≤ b
+  pub before : (i : ℕ) → suc i ≡ a → moving (at vs i) ≡ false
+  pub moves : (i : ℕ) → a ≤ i → i < b → moving (at vs i) ≡ true
+  pub after : moving (at vs b) ≡ false
+  pub inside : b < length vs
+  pub speed-to : (i : ℕ) → a ≤ i → i < b → at vs i ≤ fastest
+  pub step-to : (i : ℕ) → a ≤ i → i < b → natAbs (rise vs i) ≤ steepest
+
+-- one of them, with where the closing run begins, counted from a, and a hold for each second of the trace
+pub record OnWay (vs hs : List ℕ) (a b run i : ℕ) : Type 0 where
+  pub trip : Ahead vs a b
+  pub rooms : length hs ≡ length vs
+  pub since : a ≤ i
+  pub until : i < b
+  pub closes : RunFrom (part vs a (suc b)) run
+
+-- r is the lowest place from a up to b at which the test holds; b where there is none
+pub record LowestAt (p : ℕ → Bool) (a b r : ℕ) : Type 0 where
+  pub from : a ≤ r
+  pub to : r ≤ b
+  pub fails : (i : ℕ) → a ≤ i → i < r → p i ≡ false
+  pub holds : r < b → p r ≡ true

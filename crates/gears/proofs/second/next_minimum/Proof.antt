@@ -1,0 +1,76 @@
+-- `gears::second::next_minimum` meets its contract: each arm of the match is a clause of `next-minimum`.
+-- Assumes nothing.
+use borrow.Author.Needs.{needs}
+use Rattle.rules.specs.Gears.{next-minimum}
+use Rattle.gears.proofs.Parts.{idle-of}
+use Rattle.gears.proofs.second.next_minimum.Statement.{statement}
+use Rattle.gears.proofs.second.next_minimum.Tie as tie
+
+wide-requires : tie.Need-wide-requires
+wide-requires c κs = search needs
+
+enum-told : tie.Need-enum-told
+enum-told c = search needs
+
+mul-result : tie.Need-mul-result
+mul-result c = search needs
+
+add-result : tie.Need-add-result
+add-result c = search needs
+
+enum-told-2 : tie.Need-enum-told-2
+enum-told-2 c = search needs
+
+enum-told-3 : tie.Need-enum-told-3
+enum-told-3 c = search needs
+
+mul-result-2 : tie.Need-mul-result-2
+mul-result-2 c = search needs
+
+add-result-2 : tie.Need-add-result-2
+add-result-2 c = search needs
+
+enum-told-4 : tie.Need-enum-told-4
+enum-told-4 c = search needs
+
+mul-result-3 : tie.Need-mul-result-3
+mul-result-3 c = search needs
+
+add-result-3 : tie.Need-add-result-3
+add-result-3 c = search needs
+
+returns : tie.Need-returns
+unfolding next-minimum
+returns c = (λ car C. rw (c .enum-told .given .1, idle-of C, c .before .before .wide .ensures .0), search needs)
+
+returns-2 : tie.Need-returns-2
+unfolding next-minimum
+returns-2 c = (λ car C. rw (c .enum-told2 .given .1, idle-of C, c .before .before .wide .ensures .0), search needs)
+
+returns-3 : tie.Need-returns-3
+unfolding next-minimum
+returns-3 c = (λ car C. rw (c .enum-told3 .given .1, idle-of C, c .before .before .wide .ensures .0), search needs)
+
+returns-4 : tie.Need-returns-4
+unfolding next-minimum
+returns-4 c = (λ car C. rw (c .enum-told4 .given .1, idle-of C, c .before .before .wide .ensures .0), search needs)
+
+pub next-minimum-spec : {M : Type 1} → statement M
+next-minimum-spec =
+    tie.close
+    (tie.spec
+    wide-requires
+    enum-told
+    mul-result
+    add-result
+    enum-told-2
+    enum-told-3
+    mul-result-2
+    add-result-2
+    enum-told-4
+    mul-result-3
+    add-result-3
+    returns
+    returns-2
+    returns-3
+    returns-4)
