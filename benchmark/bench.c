@@ -13,7 +13,7 @@ typedef struct gearcard_vehicle car_t;
 typedef struct gearcard_verdict verdict_t;
 typedef struct gearcard_job job_t;
 typedef struct gearcard_written written_t;
-enum { ROOM = GEARCARD_LONGEST, BYTES = 20000, ROUNDS = 41 };
+enum { ROOM = GEARCARD_LONGEST, MADE = 2048, BYTES = 9 * GEARCARD_LONGEST + 1024, ROUNDS = 41 }; /* MADE: seconds of a made trace */
 
 static uint64_t seed = 88172645463325252ull;
 static uint32_t rnd(uint32_t n) {
@@ -278,7 +278,7 @@ static void random_checks(long rounds) {
   static uint8_t h[ROOM + 8], card[ROOM + 8], s[BYTES], t[BYTES];
   for (long r = 0; r < rounds; r++) {
     car_t car = random_car();
-    size_t n = rnd(20) ? 1 + rnd(r % 10 ? 120 : 2048) : ROOM;
+    size_t n = rnd(20) ? 1 + rnd(r % 10 ? 120 : MADE) : rnd(10) ? MADE : ROOM;
     if (n < 8) n = 1 + rnd(8);
     if (n >= 8 && rnd(2)) one_trip(v, n);
     else if (n >= 8) short_trips(v, n);
@@ -382,6 +382,33 @@ static void work_cases(const char *trace, const uint16_t *v, size_t n) {
   }
 }
 
+/* Cycles joined, as durability benches do, the last broken off where it last stood: the working, the reading, and a hold in the trip of
+   hold.typical, whose cost must not grow with the trace. */
+static void joined_cases(const car_t *car, const uint16_t *v, size_t n) {
+  static const size_t seconds[4] = {2048, 4096, 8192, 16384};
+  static uint16_t joined[ROOM];
+  static uint8_t none[ROOM];
+  for (int k = 0; k < 4; k++) {
+    size_t all = seconds[k], end = all;
+    for (size_t i = 0; i < all; i++) joined[i] = v[i % n];
+    while (joined[end - 1] >= 10) joined[--end] = 0;
+    const char *kinds[3] = {"work", "hold", "read"};
+    for (int w = 0; w < 3; w++) {
+      char name[40];
+      snprintf(name, sizeof name, "%s.joined.%zu", kinds[w], all);
+      case_t *c = fresh(name, w == 0 ? WORK : w == 1 ? HOLD : READ);
+      c->car = *car, c->count = all;
+      memcpy(c->v, joined, all * sizeof *joined);
+      if (w == 1) {
+        span_t trip = trips[(ntrips - 1) / 2];
+        gearcard_work(c->car, c->v, all, c->h, all, c->card, all);
+        c->length = trip.b - trip.a, c->second = trip.a + c->length / 2, c->gear = c->card[c->second] & 15;
+      }
+      if (w == 2) c->length = encode(c->job, car, joined, all, none);
+    }
+  }
+}
+
 static void build(const char *path) {
   static uint8_t bytes[BYTES];
   FILE *f = fopen(path, "rb");
@@ -403,11 +430,11 @@ static void build(const char *path) {
   c->car.ratio[0] = 39400, c->car.ratio[1] = 5450;
   memcpy(c->v, v, sizeof v);
   work_cases("class3", v, n);
-  static uint16_t one[ROOM], many[ROOM];
-  one_trip(one, ROOM);
-  short_trips(many, ROOM);
-  work_cases("one", one, ROOM);
-  work_cases("many", many, ROOM);
+  static uint16_t one[MADE], many[MADE];
+  one_trip(one, MADE);
+  short_trips(many, MADE);
+  work_cases("one", one, MADE);
+  work_cases("many", many, MADE);
   /* holds: each trip of the Class 3 cycle */
   static uint8_t card[ROOM];
   memset(h, 0, sizeof h);
@@ -457,15 +484,16 @@ static void build(const char *path) {
   memcpy(c->job, bytes, len), c->length = len;
   c = fresh("read.long", READ); /* 2,048 seconds of speeds as they are driven, a hold at every moving one */
   c->car = car_of(64);
-  for (size_t i = 0; i < ROOM; i++) h[i] = one[i] >= 10 ? 3 : 0;
-  c->length = encode(c->job, &c->car, one, ROOM, h);
+  for (size_t i = 0; i < MADE; i++) h[i] = one[i] >= 10 ? 3 : 0;
+  c->length = encode(c->job, &c->car, one, MADE, h);
   c = fresh("read.bytes", READ); /* the most bytes: every value as long as it can be */
   car_t big;
   for (size_t i = 0; i < sizeof big / 2; i++) ((uint16_t *)&big)[i] = 65535;
   big.ng = 10, big.points = 64, big.f1 = 60535;
-  static uint16_t far[ROOM];
-  for (size_t i = 0; i < ROOM; i++) far[i] = (uint16_t)(16384 + rnd(49152)), h[i] = (uint8_t)(128 + rnd(128));
-  c->length = encode(c->job, &big, far, ROOM, h);
+  static uint16_t far[MADE];
+  for (size_t i = 0; i < MADE; i++) far[i] = (uint16_t)(16384 + rnd(49152)), h[i] = (uint8_t)(128 + rnd(128));
+  c->length = encode(c->job, &big, far, MADE, h);
+  joined_cases(&job.vehicle, v, n);
   /* the built-in cycle, which is the job's */
   fresh("fill.class3", FILL);
   if (n != GEARCARD_CYCLE) stop("the job is not the Class 3 cycle");

@@ -407,7 +407,7 @@ INLINE size_t trip(const prep_t *k, const uint16_t *v, const uint8_t *h, uint8_t
 
 /* Refusals 1 to 3. */
 INLINE verdict_t opening(const car_t *c, size_t n, size_t nh, size_t nc) {
-  if (n - 1 > 2047) return say(1, 0);
+  if (n - 1 >= GEARCARD_LONGEST) return say(1, 0);
   if (nh != n || nc != n) return say(2, 0);
   uint32_t field = car_fault(c);
   return say(field ? 3 : 0, field);
@@ -556,7 +556,7 @@ INLINE verdict_t parse(struct gearcard_job *r, const uint8_t *s, size_t end, uin
     FIELD(c->p[i]);
   }
   GROUP(x);
-  if (x - 1u > 2047u) return say(1, 0);
+  if (x - 1u >= GEARCARD_LONGEST) return say(1, 0);
   uint32_t count = x;
   if (rs < count || rh < count) return say(2, 0);
 #ifdef PLAIN_READ
@@ -584,7 +584,7 @@ INLINE verdict_t parse(struct gearcard_job *r, const uint8_t *s, size_t end, uin
     holds[x] = (uint8_t)y;
   }
 #else
-  uint16_t vs[2048];
+  uint16_t vs[GEARCARD_LONGEST];
   uint32_t i = 0;
   /* Three bytes a second are there for the next so many seconds: no end to look for. */
   while (i < count) {
@@ -615,7 +615,7 @@ INLINE verdict_t parse(struct gearcard_job *r, const uint8_t *s, size_t end, uin
   uint32_t held;
   GROUP(held);
   if (held) {
-    uint8_t hs[2048];
+    uint8_t hs[GEARCARD_LONGEST];
     uint32_t next = 0;
     memset(hs, 0, count);
     for (i = 0; i < held; i++) {

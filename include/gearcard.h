@@ -14,7 +14,7 @@
 #include <stdint.h>
 
 /* The longest trace, in seconds. */
-#define GEARCARD_LONGEST 2048
+#define GEARCARD_LONGEST 16384
 
 /* The seconds of the built-in Class 3 cycle, 0 to 1800. */
 #define GEARCARD_CYCLE 1801
@@ -41,7 +41,7 @@ struct gearcard_vehicle {
    gearcard_work, gearcard_hold, gearcard_release, gearcard_mend and gearcard_write give the first in this order, at its lowest second; gearcard_read the
    first fault of the job from left to right.
 
-    1  trace empty or over 2,048 seconds                              place 0
+    1  trace empty or over 16,384 seconds                             place 0
     2  holds or card not as long as the trace;                        place 0
        in gearcard_read, a room smaller than the count;
        in gearcard_cycle, a room under 1,801;

@@ -14,7 +14,7 @@
 #include <stdlib.h>
 
 enum { READ, WORK, HOLD, RELEASE, EXPORT, CYCLE, CYCLE_PART, DOWNSCALE, WRITE, MEND };
-enum { SECONDS = 4096, BYTES = 32768 };
+enum { SECONDS = GEARCARD_LONGEST + 256, BYTES = 9 * GEARCARD_LONGEST + 1024 };
 
 struct span {
   uint32_t before, length, after;

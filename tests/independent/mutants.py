@@ -40,7 +40,7 @@ SLIPS = [
     ("speed 2001 passes", "speeds[s] > 2000", "speeds[s] > 2001"),
     ("speed 2000 refused", "speeds[s] > 2000", "speeds[s] >= 2000"),
     ("moving from 11", "speed >= 10\n", "speed >= 11\n"),
-    ("2,048 refused", "speeds > LONGEST", "speeds >= LONGEST"),
+    ("the longest refused", "speeds > LONGEST", "speeds >= LONGEST"),
     ("quick: step before the span", "refuse_first(5, from + 1, to", "refuse_first(5, from.max(1), to"),
     ("quick: hold at the standing second after is not seen", "let good = seconds_good(v, speeds, &holds, from, to);", "let mut seen = holds.clone();\n    seen[to] = 0;\n    let good = seconds_good(v, speeds, &seen, from, to);"),
     ("quick: whole trace checked", "let good = seconds_good(v, speeds, &holds, from, to);", "let good = seconds_good(v, speeds, &holds, 0, speeds.len() - 1);"),

@@ -44,7 +44,7 @@ unfolding left
 left-new old new e = rw e
 
 -- the longest trace, as the code has it
-pub longest-is : longest ≡ 2048
+pub longest-is : longest ≡ 16384
 unfolding longest
 longest-is = refl
 

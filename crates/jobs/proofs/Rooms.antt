@@ -10,14 +10,13 @@ use mathlib.Core.Bool.{true}
 use Rattle.rules.specs.declared.Vehicle.{Vehicle}
 use Rattle.rules.specs.declared.Refusal.{Refusal}
 use Rattle.rules.specs.declared.Answer.the-variants.{Done, Refused}
-use Rattle.rules.specs.Units.{longest}
 use Rattle.rules.specs.Refusals.{said}
 use Rattle.rules.specs.Groups.{got, refused, hand-on}
 use Rattle.rules.specs.Forms.{value, many}
 use Rattle.rules.specs.Job.{rising, put, Job, job-read, read-fault, job-of, filled}
 use Rattle.rules.proofs.Laws.Forms.{value-sound}
 use Rattle.rules.proofs.Laws.Gathers.{length-put}
-use Rattle.rules.proofs.Laws.Jobs.{Even, job-even}
+use Rattle.rules.proofs.Laws.Jobs.{Even, job-even, job-room}
 use Rattle.jobs.specs.declared.Reading.{Reading}
 use Rattle.jobs.specs.Reader.{fault, reading, ReadAs}
 use Rattle.jobs.specs.Stages.{nothing, used}
@@ -66,8 +65,8 @@ filled-as job speeds holds e n s h =
 
 -- ---- the rooms as the reader leaves them: their start is what was read
 
-pub record Rooms (j : Job) (n : ℕ) (speeds holds : List ℕ) : Type 0 where
-  pub few : n ≤ longest
+pub record Rooms (j : Job) (n room : ℕ) (speeds holds : List ℕ) : Type 0 where
+  pub few : n ≤ room
   pub speeds-fit : n ≤ length speeds
   pub holds-fit : n ≤ length holds
   pub speeds-are : take n speeds ≡ j .speeds
@@ -78,14 +77,14 @@ pub filled-start : (room values : List ℕ) (n : ℕ) → n ≡ length values �
 unfolding filled
 filled-start room values n e = (rw length-append (omega arith), rw e (take-append-seam values _))
 
-pub rooms : {job s₀ h₀ s h : List ℕ} {r : Reading} → ReadAs job s₀ h₀ r s h → Rooms (job-of (reading job s₀ h₀)) (r .count) s h
+pub rooms : {job s₀ h₀ s h : List ℕ} {r : Reading} → ReadAs job s₀ h₀ r s h → Rooms (job-of (reading job s₀ h₀)) (r .count) (length s₀) s h
 unfolding reading
 rooms {job} {s₀} {h₀} {s} {h} {r} a =
     let z : Even (job-of (reading job s₀ h₀)) = job-even job (length s₀) (length h₀) in
     let v = filled-start s₀ (job-of (reading job s₀ h₀) .speeds) (r .count) (a .the-count) in
     let w = filled-start h₀ (job-of (reading job s₀ h₀) .holds) (r .count) (a .the-count ∙ sym (z .even)) in
     record {
-      few = rw (a .the-count) (z .few);
+      few = rw (a .the-count) (job-room job (length s₀) (length h₀));
       speeds-fit = rw (a .speeds-left) (v .0);
       holds-fit = rw (a .holds-left) (w .0);
       speeds-are = rw (a .speeds-left) (v .1);

@@ -20,11 +20,15 @@ use Rattle.jobs.specs.Stages.{used}
 use Rattle.jobs.proofs.Steps.{joined, many-length, values, judged-stops, judged-comes}
 use Rattle.jobs.proofs.Ways.{fails, head}
 
+-- the longest trace, as the code has it
+abbrev pub top : ℕ
+top = 16384
+
 module _ (job : List ℕ) (a b : ℕ) where
   -- after the version and the vehicle: the trace, the holds, and the end
   rest : ℕ × Vehicle → Reader Job
   rest x = do
-    count ← bounded 1 2048 1 0 .read job
+    count ← bounded 1 top 1 0 .read job
     demand (leb count a and leb count b) 2 0
     vs ← many value count .read job
     k ← group job
@@ -42,11 +46,11 @@ module _ (job : List ℕ) (a b : ℕ) where
   car-stops e = rw (in-order, ← e)
 
   module _ {x : ℕ × Vehicle} {j : ℕ} (c : got x j ≡ head .read job 0) where
-    pub count-stops : {f : Fault} → refused f ≡ bounded 1 2048 1 0 .read job j → refused f ≡ job-read job a b
+    pub count-stops : {f : Fault} → refused f ≡ bounded 1 top 1 0 .read job j → refused f ≡ job-read job a b
     unfolding rest hand-on
     count-stops e = rw (in-order, ← c, ← e)
 
-    module _ {n t : ℕ} (d : got n t ≡ bounded 1 2048 1 0 .read job j) where
+    module _ {n t : ℕ} (d : got n t ≡ bounded 1 top 1 0 .read job j) where
       pub no-room : (n ≤ a → n ≤ b → ⊥) → refused (record { no = 2; spot = 0 }) ≡ job-read job a b
       unfolding rest hand-on demand
       no-room h =

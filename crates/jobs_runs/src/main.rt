@@ -188,8 +188,8 @@ fn say_reading(r: Reading) {
 
 // What it answers of a job with room for the longest trace. A refusal that left a mark on a room is told.
 fn answer(job: &[u8]) {
-    let mut speeds = [7u16; 2048];
-    let mut holds = [7u8; 2048];
+    let mut speeds = [7u16; 16384];
+    let mut holds = [7u8; 16384];
     let r = jobs::read(job, &mut speeds, &mut holds);
     say_reading(r);
     if r.count == 0 {
@@ -269,6 +269,17 @@ fn changed_two(at: usize, one: u8, two: u8)
     answer(start(&job, 63));
 }
 
+// Three bytes changed: a group of three.
+fn changed_three(at: usize, one: u8, two: u8, three: u8)
+    requires { ⌜ at ≤ 60 ⌝ }
+{
+    let mut job = car_z();
+    job[at] = one;
+    job[at + 1] = two;
+    job[at + 2] = three;
+    answer(start(&job, 63));
+}
+
 // Each refusal of the reader but 12, 15 and 16, which have lines of their own.
 fn refusals() {
     say(b"refusals:");
@@ -278,19 +289,25 @@ fn refusals() {
     changed(27, 1);
     changed(27, 65);
     changed(55, 0);
-    changed_two(55, 0x81, 0x10);
+    changed_three(55, 0x81, 0x80, 0x01);
     changed_two(12, 0x80, 0x00);
+    say(b"\n");
+}
+
+// Sample counts of 2,049, 16,383 and 16,384, of which the job then has too few speeds, and of 16,385.
+fn counts() {
+    say(b"counts:");
+    changed_two(55, 0x81, 0x10);
+    changed_two(55, 0xFF, 0x7F);
+    changed_three(55, 0x80, 0x80, 0x01);
+    changed_three(55, 0x81, 0x80, 0x01);
     say(b"\n");
 }
 
 // The third byte of a group says that more follow.
 fn third() {
     say(b"third byte:");
-    let mut job = car_z();
-    job[12] = 0xFF;
-    job[13] = 0xFF;
-    job[14] = 0x83;
-    answer(start(&job, 63));
+    changed_three(12, 0xFF, 0xFF, 0x83);
     say(b"\n");
 }
 
@@ -433,7 +450,7 @@ fn not_written() {
     let standing = [0u8, 0, 0, 0, 1];
     let moving = [0u16, 50, 150, 100, 50];
     let fast = [0u16, 150, 300, 450, 600, 450, 300, 150, 0];
-    let long = [0u16; 2049];
+    let long = [0u16; 16385];
     let first = [0u8, 0, 0, 0, 1, 0, 0, 0, 0];
     let mut short = [7u8; 62];
     let mut exact = [7u8; 63];
@@ -457,6 +474,7 @@ fn main() {
     bad_groups();
     whole();
     refusals();
+    counts();
     third();
     rooms();
     cut();

@@ -4,9 +4,9 @@ use Prim.Native.Nat.{ℕ}
 use mathlib.Core.Path.{_≡_, refl}
 use mathlib.Core.Bool.{Bool, true, false}
 use mathlib.Core.Option.{Option, none, some}
-use mathlib.Core.List.{List, [], _∷_}
+use mathlib.Core.List.{List, [], _∷_, _++_}
 use lib.IntN.{ℤ, pos, negℤ}
-use lib.ListN.{replicate, drop, set}
+use lib.ListN.{replicate, drop, set, take}
 use Rattle.rules.specs.declared.Vehicle.{Vehicle}
 use Rattle.rules.specs.declared.Place.{Place}
 use Rattle.rules.specs.declared.Place.the-variants.{First, Closing, AfterLow, Inner}
@@ -19,10 +19,10 @@ use Rattle.rules.specs.Quick.{span-lo, span-hi, standing-fault, own-faul
 use Rattle.rules.specs.Holds.{asked, hold-fault, hold-holds, hold-card, release-holds, release-card}
 use Rattle.rules.specs.Groups.{Read, got, refused, hand-on, demand, early, group-if, group, form}
 use Rattle.rules.specs.Forms.{value, checked, bounded, _then_, seen, row-read, row as in-a-row, many, counted, whole, row-write}
-use Rattle.rules.specs.Job.{version, gearbox, numbers as eight-numbers, point, curve, seconds, trace as speeds, hold, rising as rising-holds, padded, vehicle-of, vehicle, put, holds, packed, stages, job, job-read, points-of, parts-of, gather, fields}
+use Rattle.rules.specs.Job.{version, gearbox, numbers as eight-numbers, point, curve, seconds, trace as speeds, hold, rising as rising-holds, padded, vehicle-of, vehicle, put, holds, packed, stages, job, job-read, points-of, parts-of, gather, fields, read-fault}
 use Rattle.rules.specs.Write.{job-from, job-bytes}
 use Rattle.rules.specs.Mend.{mend-lo, mend-hi, mend-end, mended-fault, mended-card, mend-fault, mend-speeds, mend-card}
-use Rattle.rules.specs.Text.{digits, decimal, heading, pedal, line, lines, card-text, refusal-text, worked-text, read-text, printed}
+use Rattle.rules.specs.Text.{digits, decimal, heading, pedal, line, lines, card-text, refusal-text, worked-text, read-text, printed, program-room, printed-fault}
 
 -- car Z, with its first ratio, its idle and rated speeds and its F0
 car-with : ℕ → ℕ → ℕ → ℕ → Vehicle
@@ -108,6 +108,10 @@ job-Z =
     7 ∷ 160 ∷ 6 ∷ 100 ∷ 136 ∷ 14 ∷ 172 ∷ 2 ∷ 240 ∷ 21 ∷ 244 ∷ 3 ∷ 216 ∷ 29 ∷ 188 ∷ 5 ∷ 192 ∷ 37 ∷ 210 ∷ 6 ∷ 224 ∷ 43 ∷ 132 ∷ 7 ∷ 240 ∷ 46 ∷ 240 ∷ 6 ∷
     5 ∷ 0 ∷ 50 ∷ 150 ∷ 1 ∷ 100 ∷ 0 ∷ 0 ∷ []
 
+-- its first bytes, with another sample count and nothing after it
+counting : List ℕ → List ℕ
+counting count = take 55 job-Z ++ count
+
 -- what a row is about: numbers, a power, a test, a group that is read, a refusal or none
 data Value : Type 0 where
   numbers : List ℕ → Value
@@ -115,6 +119,10 @@ data Value : Type 0 where
   test : Bool → Value
   reading : Read ℕ → Value
   refusal : Option Fault → Value
+
+-- "refused 1 at 0" and a line's end
+too-long : List ℕ
+too-long = 114 ∷ 101 ∷ 102 ∷ 117 ∷ 115 ∷ 101 ∷ 100 ∷ 32 ∷ 49 ∷ 32 ∷ 97 ∷ 116 ∷ 32 ∷ 48 ∷ 10 ∷ []
 
 -- what the definitions work out, beside what the paper prints
 record Row : Type 0 where
@@ -242,6 +250,18 @@ rows =
     -- the step into the span is not looked at, and no byte before it is written
     ∷ row (refusal (mend-fault Z (0 ∷ 100 ∷ 200 ∷ 0 ∷ 50 ∷ 0 ∷ []) (replicate 6 0) (replicate 6 0) 4 60)) (refusal none)
     ∷ row (numbers (mend-card Z (0 ∷ 100 ∷ 200 ∷ 0 ∷ 50 ∷ 0 ∷ []) (replicate 6 0) (replicate 6 0) 4 60)) (numbers (0 ∷ 0 ∷ 0 ∷ 17 ∷ 17 ∷ 0 ∷ []))
+    -- request Ten: 16383 takes two bytes, 16384 three
+    ∷ row (numbers (form 16383)) (numbers (0xFF ∷ 0x7F ∷ []))
+    ∷ row (numbers (form 16384)) (numbers (0x80 ∷ 0x80 ∷ 0x01 ∷ []))
+    -- of a count of 4,096 the card program reads on, and finds the job's end; of 4,097, 16,384, 16,385 and 65,535 it prints "refused 1 at 0"
+    ∷ row (numbers (printed (counting (form 4096)))) (numbers (refusal-text (record { no = 12; spot = 57 })))
+    ∷ row (numbers (printed (counting (form 4097)))) (numbers too-long)
+    ∷ row (numbers (printed (counting (form 16384)))) (numbers too-long)
+    ∷ row (numbers (printed (counting (form 16385)))) (numbers too-long)
+    ∷ row (numbers (printed (counting (form 65535)))) (numbers too-long)
+    -- callers with their own memory read on where the count is 16,384, and are refused by 1 where it is 16,385
+    ∷ row (refusal (read-fault (job-read (counting (form 16384)) 16384 16384))) (refusal (some (record { no = 12; spot = 58 })))
+    ∷ row (refusal (read-fault (job-read (counting (form 16385)) 65535 65535))) (refusal (some (record { no = 1; spot = 0 })))
     -- what the card program prints of car Z's job
     ∷ row (numbers (printed job-Z)) (numbers (
     115 ∷ 101 ∷ 99 ∷ 111 ∷ 110 ∷ 100 ∷ 32 ∷ 115 ∷ 112 ∷ 101 ∷ 101 ∷ 100 ∷ 32 ∷ 103 ∷ 101 ∷ 97 ∷ 114 ∷ 32 ∷ 99 ∷ 108 ∷ 117 ∷ 116 ∷ 99 ∷ 104 ∷ 10 ∷
@@ -259,5 +279,5 @@ papers [] = []
 papers (r ∷ rs) = r .paper ∷ papers rs
 
 sums-done-on-paper : sums rows ≡ papers rows
-unfolding sums papers rows row choice car-of car-Z Z halves inside free-trip steady up trace two-trips job-Z _and_ _or_ within every first highest pass table patch ratio-of ratio-good point-good bounds first-failed bad-field low longest moving rise start run stop engine minimum-of minimum under-nmax over-minimum allowed fits required between on-segment reaches segment power-speed power enough more suits beats strongest choose floor closing ceiling here first-choice free is-peak peak too-high rising too-low slowing firsts after-A after-B gears trip-speeds trip-holds first-at gear-at clutch byte card-at card refuse-at _orelse_ when trace-fault room-fault vehicle-fault check-number checks last-check bad fault-of seconds-fault gear-fault span-fault work-fault left second-fault edit-fault span-lo span-hi standing-fault own-fault quick-fault reworked quick-holds quick-card asked hold-fault hold-holds hold-card release-holds release-card hand-on demand early group-if group value checked bounded _then_ seen row-read in-a-row many counted whole version gearbox eight-numbers point curve seconds speeds hold rising-holds padded vehicle-of vehicle put holds packed stages job job-read digits decimal heading pedal line lines card-text refusal-text worked-text read-text printed form row-write points-of parts-of gather fields job-from job-bytes split mend-lo mend-hi mend-end mended-fault mended-card mend-fault mend-speeds mend-card next-minimums firsts-of no-gear-at car-with halves-after gap dip dip-closing slow-start is-first next-minimum place-at place-of
+unfolding sums papers rows row choice car-of car-Z Z halves inside free-trip steady up trace two-trips job-Z _and_ _or_ within every first highest pass table patch ratio-of ratio-good point-good bounds first-failed bad-field low longest moving rise start run stop engine minimum-of minimum under-nmax over-minimum allowed fits required between on-segment reaches segment power-speed power enough more suits beats strongest choose floor closing ceiling here first-choice free is-peak peak too-high rising too-low slowing firsts after-A after-B gears trip-speeds trip-holds first-at gear-at clutch byte card-at card refuse-at _orelse_ when trace-fault room-fault vehicle-fault check-number checks last-check bad fault-of seconds-fault gear-fault span-fault work-fault left second-fault edit-fault span-lo span-hi standing-fault own-fault quick-fault reworked quick-holds quick-card asked hold-fault hold-holds hold-card release-holds release-card hand-on demand early group-if group value checked bounded _then_ seen row-read in-a-row many counted whole version gearbox eight-numbers point curve seconds speeds hold rising-holds padded vehicle-of vehicle put holds packed stages job job-read digits decimal heading pedal line lines card-text refusal-text worked-text read-text printed form row-write points-of parts-of gather fields job-from job-bytes split mend-lo mend-hi mend-end mended-fault mended-card mend-fault mend-speeds mend-card next-minimums firsts-of no-gear-at car-with halves-after gap dip dip-closing slow-start is-first next-minimum place-at place-of counting too-long read-fault program-room printed-fault
 sums-done-on-paper = refl

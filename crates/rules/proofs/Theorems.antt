@@ -19,8 +19,9 @@ use Rattle.rules.specs.Units.{bad-field, longest, fastest, steepest, mov
 use Rattle.rules.specs.Gears.{engine, under-nmax, fits, required, Power, on-segment, segment, power-speed, choose, is-first, minimum}
 use Rattle.rules.specs.Corrections.{peak, rising, slowing, gear-at, card-at, card, first-at, place-at}
 use Rattle.rules.specs.Refusals.{said, refuse-at, _orelse_, speed, step, ends, fault-of, span-fault, work-fault, left, work-card, edit-fault}
-use Rattle.rules.specs.Job.{most-groups, longest-job, Job, job-read}
-use Rattle.rules.specs.Text.{printed}
+use Rattle.rules.specs.Job.{most-groups, longest-job, Job, job-read, version, vehicle}
+use Rattle.rules.specs.Text.{printed, refusal-text, program-room}
+use Rattle.rules.specs.Groups.{got, form, group}
 use Rattle.rules.specs.Quick.{span-lo, span-hi, own-fault, quick-fault, reworked, quick-holds, quick-card}
 use Rattle.rules.specs.Holds.{asked, hold-fault, hold-holds, hold-card, release-fault, release-holds, release-card}
 use Rattle.rules.specs.Vocabulary.{IsTrip, FirstChoice, OnSegment, Wanting, PassesOthers, Out, Edit, SameSpan, OneForm, _times_, In64, nested, nested-sum, engine-sum, idle-sum, required-sum, w-sum, Q-sum, margin-sum, Bytes, MayChange, Right, Run, Spares, Turns, Allowed}
@@ -47,7 +48,7 @@ use Rattle.rules.proofs.Laws.Mend.{mend-whole, mend-same, lo-kept, hi-k
 use Rattle.rules.proofs.Laws.Runs.{hold-stays, release-stays, mend-stays, run-right}
 use Rattle.rules.proofs.Laws.Groups.{one-form}
 use Rattle.rules.proofs.Laws.Writes.{writable, reads-written, writes-read, write-none, none-write}
-use Rattle.rules.proofs.Laws.Long.{long-job}
+use Rattle.rules.proofs.Laws.Long.{long-job, too-long, two-bytes-most}
 use Rattle.rules.proofs.Laws.Refusals.{said-once}
 use Rattle.rules.proofs.Laws.Minimum.{minimum-most, fits-anywhere}
 
@@ -347,15 +348,31 @@ read-writes-back bytes h a b {j} e ok room l =
     let f = none-write (j .vehicle) (j .speeds) (j .holds) room ok (rw same l) in
     (f, write-none (j .vehicle) (j .speeds) (j .holds) room f .1 ∙ same)
 
--- ---- The card program: of an input that is longer than the longest job, as many bytes as the longest job has and one more say all that is printed
+-- ---- The card program: of an input that is longer than the longest job that it has room for, as many bytes as that job has and one more say all that
+-- is printed
 
-pub long-input : (bytes : List ℕ) → longest-job < length bytes → printed (take (suc longest-job) bytes) ≡ printed bytes
+pub long-input : (bytes : List ℕ) → longest-job program-room < length bytes → printed (take (suc (longest-job program-room)) bytes) ≡ printed bytes
 long-input = long-job
 
--- and that is 18,886 bytes
-pub longest-job-is : suc longest-job ≡ 18886
-unfolding longest-job most-groups longest
+-- and that is 37,318 bytes
+pub longest-job-is : suc (longest-job program-room) ≡ 37318
+unfolding longest-job most-groups program-room
 longest-job-is = refl
+
+-- Request Ten: where the version, the vehicle and then the sample count are read, and the count is more than it has room for, it prints "refused 1 at 0",
+-- be the count over the longest trace or not
+pub too-long-printed : (bytes : List ℕ) {v : ℕ} {car : Vehicle} {i j k n : ℕ} → version .read bytes 0 ≡ got v i → vehicle .read bytes i ≡ got car j → group bytes j ≡ got n k
+    → program-room < n → printed bytes ≡ refusal-text (record { no = 1; spot = 0 })
+too-long-printed = too-long
+
+-- a count or a hold's second below the longest trace takes at most two bytes, and the count of the longest trace three
+pub two-bytes : (n : ℕ) → n < longest → length (form n) ≤ 2
+unfolding longest
+two-bytes = two-bytes-most
+
+pub three-bytes : length (form longest) ≡ 3
+unfolding form longest
+three-bytes = refl
 
 -- ---- Refusals: two answers with one number and one place are one
 

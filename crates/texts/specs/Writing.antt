@@ -6,7 +6,8 @@ use mathlib.Core.List.{List, _∷_, _++_}
 use lib.ListN.{length, take, drop}
 use lib.Seq.{sets}
 use Rattle.rules.specs.declared.Vehicle.{Vehicle}
-use Rattle.rules.specs.Refusals.{work-fault}
+use Rattle.rules.specs.declared.Refusal.{Refusal}
+use Rattle.rules.specs.Refusals.{Fault, number, place, work-fault}
 use Rattle.rules.specs.Text.{decimal, pedal, worked-text}
 
 -- memory in which a text is put at a place, byte after byte
@@ -37,3 +38,7 @@ gear-text byte = 32 ∷ (decimal (byte % 16) ++ pedal byte)
 -- what is printed of a job that was read
 abbrev pub text-of : Vehicle → List ℕ → List ℕ → List ℕ
 text-of car vs hs = worked-text car vs hs (work-fault car vs hs vs)
+
+-- number and place of a refusal
+abbrev pub fault-of : Refusal → Fault
+fault-of q = record { no = number q; spot = place q }

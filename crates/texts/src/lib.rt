@@ -4,11 +4,17 @@ ghost use Prim.Native.Nat.{_+_, _*_, _%_, _≤_, _<_};
 ghost use lib.ListN.{length};
 ghost use Rattle.rules.specs.Words.{part};
 ghost use Rattle.rules.specs.Refusals.{number, place};
-ghost use Rattle.rules.specs.Text.{decimal, pedal, line, lines, card-text, refusal-text, printed};
-ghost use Rattle.texts.specs.Writing.{Put, Begins, speed-text, gear-text, text-of};
+ghost use Rattle.rules.specs.Text.{decimal, pedal, line, lines, card-text, refusal-text, program-room, printed-fault, printed};
+ghost use Rattle.texts.specs.Writing.{Put, Begins, speed-text, gear-text, text-of, fault-of};
 use rules::Answer;
 use rules::Refusal;
 use rules::Vehicle;
+
+// The card program has room for so many seconds.
+const ROOM: usize = 4096;
+
+// The most bytes of a text: a line has at most 20 and the heading 25.
+pub const TEXT: usize = 81945;
 
 // Puts bytes at a place.
 fn put(out: &mut [u8], at: usize, src: &[u8]) -> usize
@@ -149,9 +155,9 @@ fn put_worked<'a>(
     card: &mut [u8],
     out: &mut [u8],
 ) -> usize
-    requires { ⌜ length (now speeds) ≤ 2048 ⌝ }
+    requires { ⌜ length (now speeds) ≤ program-room ⌝ }
     requires { ⌜ length (now card) ≡ length (now speeds) ⌝ }
-    requires { ⌜ 40985 ≤ length (now out) ⌝ }
+    requires { ⌜ 25 + 20 * program-room ≤ length (now out) ⌝ }
     ensures { λ r. ⌜ Put (text-of vehicle (now (speeds .entry)) (now (holds .entry))) (now (out .entry)) 0 r (now (out .exit)) ⌝ }
 {
     let answer = cards::work(vehicle, speeds, holds, card);
@@ -161,14 +167,23 @@ fn put_worked<'a>(
     }
 }
 
-// What the card program prints of a job, at the start of lent memory: its card or one refusal. No other byte is touched. A line has at most 20 bytes
-// and the heading 25, so that 40,985 are enough for the longest trace.
-pub fn answer(job: &[u8], out: &mut [u8; 40985]) -> usize
+// A trace that is too long for the program's room is told as too long: 1 where the reader answers 2.
+fn as_printed(refusal: Refusal) -> Refusal
+    ensures { λ r. ⌜ fault-of r ≡ printed-fault (fault-of refusal) ⌝ }
+{
+    if refusal.number() == 2 {
+        return Refusal::TraceLength;
+    }
+    refusal
+}
+
+// What the card program prints of a job, at the start of lent memory: its card or one refusal. No other byte is touched.
+pub fn answer(job: &[u8], out: &mut [u8; TEXT]) -> usize
     ensures { λ r. ⌜ Begins (printed (now (job .entry))) (now (out .entry)) r (now (out .exit)) ⌝ }
 {
-    let mut speeds = [0u16; 2048];
-    let mut holds = [0u8; 2048];
-    let mut card = [0u8; 2048];
+    let mut speeds = [0u16; ROOM];
+    let mut holds = [0u8; ROOM];
+    let mut card = [0u8; ROOM];
     let reading = jobs::read(job, &mut speeds, &mut holds);
     let judged = reading.answer;
     match judged {
@@ -183,6 +198,9 @@ pub fn answer(job: &[u8], out: &mut [u8; 40985]) -> usize
                 out,
             )
         }
-        Answer::Refused(refusal) => put_refusal(out, 0, refusal),
+        Answer::Refused(refusal) => {
+            let shown = as_printed(refusal);
+            put_refusal(out, 0, shown)
+        }
     }
 }

@@ -59,14 +59,14 @@ fn lengths() {
     say(b"card long:");
     let answer = cards::work(z, &[0u16; 2], &[0u8; 2], &mut card);
     say_work(answer, &card);
-    let mut long = [99u8; 2049];
-    say(b"2,049 seconds:");
-    let answer = cards::work(z, &[0u16; 2049], &[0u8; 2049], &mut long);
+    let mut long = [99u8; 16385];
+    say(b"16,385 seconds:");
+    let answer = cards::work(z, &[0u16; 16385], &[0u8; 16385], &mut long);
     say_answer(answer);
     say(b"\n");
-    let mut most = [99u8; 2048];
-    say(b"2,048 seconds:");
-    let answer = cards::work(z, &[0u16; 2048], &[0u8; 2048], &mut most);
+    let mut most = [99u8; 16384];
+    say(b"16,384 seconds:");
+    let answer = cards::work(z, &[0u16; 16384], &[0u8; 16384], &mut most);
     say_answer(answer);
     say(b"\n");
 }

@@ -71,7 +71,7 @@ fn spoil(r: &mut Rng, c: &mut Setting) {
 }
 
 fn spoil_length(r: &mut Rng, c: &mut Setting) {
-    let length = r.pick(&[0, 2049, 2049, 2050, 2060]);
+    let length = r.pick(&[0, 0, 0, 16_385, 16_385, 16_386]);
     c.speeds.resize(length, 0);
     if r.chance(70) {
         c.holds.resize(length, 0);
@@ -283,7 +283,8 @@ fn rooms(r: &mut Rng, count: usize) -> (usize, usize) {
     let one = |r: &mut Rng| match r.range(0, 99) {
         0..=39 => count,
         40..=79 => count + r.range(1, 9) as usize,
-        80..=94 => paper::LONGEST.max(count),
+        80..=93 => count.max(2_048),
+        94 => paper::LONGEST.max(count),
         95..=97 => count.saturating_sub(1),
         _ => r.below(count + 1),
     };

@@ -55,7 +55,7 @@ pub fn damage_groups(r: &mut Rng, g: &mut Groups, kind: i64) {
         1 => g.all[any] = r.pick(&[&[0xFF, 0xFF, 4][..], &[0x80, 0x80, 4], &[0x80, 0x80, 0x80], &[0x80, 0x80, 0], &[0x80, 0], &[0xFF, 0xFF, 0x83, 0]]).to_vec(),
         2 => g.all[1] = group(r.pick(&[0, 1, 11, 65_535])),
         3 => g.all[g.points_at] = group(r.pick(&[0, 1, 65, 65_535])),
-        4 => g.all[g.count_at] = group(r.pick(&[0, 2049, 65_535])),
+        4 => g.all[g.count_at] = group(r.pick(&[0, 2_049, 16_384, 16_385, 65_535])),
         5 => g.all[0] = group(r.pick(&[0, 2, 127, 128, 257, 65_535])),
         6 => g.all[g.holds_at] = group((held as i64 + r.range(-2, 2)).clamp(0, 65_535) as u16),
         7 => g.all[any] = group(r.next() as u16),

@@ -1,6 +1,6 @@
 //! Compares the gear card library with a working of its own, written from docs/01-scope.md and requests One, Five and Eight of document 02 alone.
 //!
-//!   independent [--seed S] [--cases N] [--cycles DIR] -- DRIVER..    the cycles of DIR, the built-in and the scaled cycle, then N cases of each kind (read, work, hold, release, export, write, mend)
+//!   independent [--seed S] [--cases N] [--cycles DIR] -- DRIVER..    the cycles of DIR, the built-in and the scaled cycle, the long traces, then N cases of each kind (read, work, hold, release, export, write, mend)
 //!   with --class-3 FILE: that job must have the speeds of the built-in cycle
 //!   independent [--seed S] --case KIND I -- DRIVER..                 one case again (KIND as above)
 //!   independent --job FILE                                           what the card program would print of a job, from the reference alone
@@ -14,6 +14,7 @@ mod events;
 mod exports;
 mod jobs;
 mod library;
+mod long;
 mod paper;
 mod revs;
 mod rng;
@@ -126,6 +127,7 @@ fn run(mut library: Library, options: &Options) -> Result<(), String> {
         drives::run(&mut library, options.seed, Path::new(dir))?;
         builtin::run(&mut library, options.seed, Path::new(dir), options.class_3.as_deref().map(Path::new))?;
         downscale::run(&mut library, options.seed, Path::new(dir))?;
+        long::run(&mut library, options.seed, Path::new(dir))?;
     }
     let mut met: Counts = [[0; 23]; cases::KINDS.len()];
     let mut spent = [Duration::ZERO; cases::KINDS.len()];

@@ -5,7 +5,9 @@ use crate::events::{note, Event};
 use crate::jobs;
 use crate::vehicle::{Vehicle, ZERO};
 
-pub const LONGEST: usize = 2048;
+pub const LONGEST: usize = 16_384;
+/// The card program's, in seconds.
+pub const PROGRAM_ROOM: usize = 4_096;
 
 /// Number and place.
 pub type Refusal = (u32, usize);
@@ -637,11 +639,20 @@ pub fn write(v: &Vehicle, speeds: &[u16], holds: &[u8], room: usize) -> Result<V
 
 /// All that the card program prints for a job.
 pub fn printed(bytes: &[u8]) -> String {
-    let worked = read(bytes, LONGEST, LONGEST).and_then(|job| work(&job.vehicle, &job.speeds, &job.holds, job.speeds.len()).map(|card| (job, card)));
-    match worked {
-        Err((number, place)) => format!("refused {number} at {place}\n"),
-        Ok((job, card)) => card_text(&job.speeds, &card),
+    // 1 where the reader answers 2, which has place 0 too.
+    let job = match read(bytes, PROGRAM_ROOM, PROGRAM_ROOM) {
+        Ok(job) => job,
+        Err((2, place)) => return refusal_text((1, place)),
+        Err(refusal) => return refusal_text(refusal),
+    };
+    match work(&job.vehicle, &job.speeds, &job.holds, job.speeds.len()) {
+        Ok(card) => card_text(&job.speeds, &card),
+        Err(refusal) => refusal_text(refusal),
     }
+}
+
+fn refusal_text((number, place): Refusal) -> String {
+    format!("refused {number} at {place}\n")
 }
 
 fn card_text(speeds: &[u16], card: &[u8]) -> String {

@@ -11,8 +11,15 @@ pub fn length(r: &mut Rng) -> usize {
         6..=75 => r.range(3, 90) as usize,
         76..=93 => r.range(60, 400) as usize,
         94..=97 => r.range(400, 2048) as usize,
-        _ => r.pick(&[2046, 2047, 2048]),
+        _ if r.chance(93) => r.pick(&[2046, 2047, 2048, 2049]),
+        _ => long(r),
     }
+}
+
+/// Seldom, since one takes as long as a hundred others: up to the longest, the ends of the range and the card program's room often.
+fn long(r: &mut Rng) -> usize {
+    let between = r.range(2_050, 16_384) as usize;
+    r.pick(&[between, between, 4_096, 4_097, 16_383, 16_384])
 }
 
 #[derive(Clone, Copy, PartialEq)]

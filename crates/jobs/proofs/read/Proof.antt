@@ -11,7 +11,7 @@ use Rattle.rules.specs.Job.{rising}
 use Rattle.rules.proofs.Laws.Forms.{value-sound}
 use Rattle.jobs.proofs.Steps.{comes-by, many-length, judged-comes}
 use Rattle.jobs.proofs.Ways.{bounded-in}
-use Rattle.jobs.proofs.Whole.{car-stops, count-stops, no-room, speeds-stop, number-stops, holds-stop, more-bytes, whole-gives}
+use Rattle.jobs.proofs.Whole.{top, car-stops, count-stops, no-room, speeds-stop, number-stops, holds-stop, more-bytes, whole-gives}
 use Rattle.jobs.proofs.Rooms.{refused-as, filled-as, speeds-stand, holds-stand}
 use Rattle.jobs.proofs.read.Statement.{statement}
 use Rattle.jobs.proofs.read.Tie as tie
@@ -154,7 +154,7 @@ judge-holds-requires c κs =
     let c₂ = c₃ .before .before in
     let c₁ = c₂ .before .before in
     let s = c₁ .before .before .before .before in
-    let b = bounded-in (s .args .job .now) 1 2048 1 0 (c₂ .came .given .0 .0) (rw (c₄ .seconds .given .1) at (c₃ .bounded .ensures)) in omega (arith, b)
+    let b = bounded-in (s .args .job .now) 1 top 1 0 (c₂ .came .given .0 .0) (rw (c₄ .seconds .given .1) at (c₃ .bounded .ensures)) in omega (arith, b)
 
 enum-known-judged : tie.Need-enum-known-judged
 enum-known-judged c = search needs

@@ -4,6 +4,7 @@ use Prim.Native.Nat.{ℕ, _+_, _-_, _≤_}
 use native.Mathlib.Omega.{arith}
 use mathlib.Core.Path.{_≡_, refl, sym, ap, _∙_}
 use mathlib.Core.List.{List, [], _∷_, _++_, map}
+use borrow.Author.Tests.{leb-true}
 use lib.ListN.{length, replicate, length-append, drop-of-length-le}
 use lib.Seq.{take-append-seam, drop-cons}
 use lib.IntN.{pos, _+ℤ_, _-ℤ_, -ℤ-+ℤ-cancel}
@@ -12,7 +13,7 @@ use Rattle.rules.specs.Units.{longest}
 use Rattle.rules.specs.Groups.{Read, got, refused}
 use Rattle.rules.specs.Forms.{checked, _then_, seen, row, many, counted}
 use Rattle.rules.specs.Job.{version, gearbox, numbers, point, curve, seconds, trace, padded, points-of, Parts, vehicle-of, parts-of, vehicle, holds, Job, packed, fields, stages, job, job-read, job-of}
-use Rattle.rules.proofs.Laws.Words.{table-at}
+use Rattle.rules.proofs.Laws.Words.{table-at, and-left}
 use Rattle.rules.proofs.Laws.Forms.{Says, told, Sound, seen-sound, sounds, whole-says}
 use Rattle.rules.proofs.Laws.Takes.{takes-bounded}
 use Rattle.rules.proofs.Laws.Gathers.{holds-sound, takes-holds}
@@ -107,3 +108,22 @@ even-of a b (refused f) s = record { even = refl; few = omega arith }
 pub job-even : (bytes : List ℕ) (a b : ℕ) → Even (job-of (job-read bytes a b))
 unfolding job-read
 job-even bytes a b = even-of a b _ (whole-says (job-sound a b) bytes)
+
+-- ---- and no more seconds than the room for speeds has
+
+pub room-seconds : (a b k : ℕ) → seconds a b .Takes k → k ≤ a
+unfolding seconds checked
+room-seconds a b k t = leb-true _ _ (and-left _ _ (t .1))
+
+pub room-speeds : (a b : ℕ) (speeds : List ℕ) → trace a b .Takes speeds → length speeds ≤ a
+unfolding trace counted seen _then_
+room-speeds a b speeds t = room-seconds a b (length speeds) (t .0 .0)
+
+room-of : (a b : ℕ) (r : Read Job) {P : Job → Type 0} → Says (λ j _. job a b .Takes j × P j) r → length (job-of r .speeds) ≤ a
+unfolding job-of job seen stages fields _then_
+room-of a b (got j end) (told t) = room-speeds a b (j .speeds) (t .0 .0 .1 .1 .0)
+room-of a b (refused f) s = omega arith
+
+pub job-room : (bytes : List ℕ) (a b : ℕ) → length (job-of (job-read bytes a b) .speeds) ≤ a
+unfolding job-read
+job-room bytes a b = room-of a b _ (whole-says (job-sound a b) bytes)

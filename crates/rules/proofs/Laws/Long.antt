@@ -3,22 +3,23 @@
 use Prim.Native.Nat.{ℕ, zero, suc, _+_, _-_, _*_, _≤_, _<_}
 use native.Mathlib.Omega.{arith}
 use mathlib.Core.Path.{_≡_}
-use mathlib.Core.Bool.{true}
+use mathlib.Core.Bool.{true, false}
 use mathlib.Core.List.{List}
 use lib.ListN.{length, take}
 use lib.Dec.{leb, ltb}
-use borrow.Author.Tests.{leb-true, ltb-true}
-use Rattle.rules.specs.Words.{_and_}
+use borrow.Author.Tests.{leb-true, ltb-true, le-leb, lt-leb, lt-ltb}
+use Rattle.rules.specs.declared.Vehicle.{Vehicle}
+use Rattle.rules.specs.Words.{if_then_else_, _and_, within}
 use Rattle.rules.specs.Units.{longest}
-use Rattle.rules.specs.Groups.{hand-on}
-use Rattle.rules.specs.Forms.{value, checked, bounded, _then_, row-read, row}
+use Rattle.rules.specs.Groups.{Read, got, hand-on, demand, form, group}
+use Rattle.rules.specs.Forms.{value, checked, bounded, _then_, seen, row-read, row, counted, whole}
 use Rattle.rules.specs.Job.{version, gearbox, numbers, point, curve, vehicle, seconds, trace, hold, rising, holds, stages, job, job-read, most-groups, longest-job}
-use Rattle.rules.specs.Text.{printed}
+use Rattle.rules.specs.Text.{refusal-text, program-room, printed-fault, read-text, printed}
 use Rattle.rules.proofs.Laws.Words.{by-test, by-order, and-left, and-right}
 use Rattle.rules.proofs.Laws.Forms.{says-now, value-sound, checked-sound, bounded-sound}
 use Rattle.rules.proofs.Laws.Takes.{takes-bounded}
 use Rattle.rules.proofs.Laws.Gathers.{takes-hold, hold-sound}
-use Rattle.rules.proofs.Laws.Jobs.{version-sound, gearbox-sound, numbers-sound, vehicle-sound, trace-sound, few-seconds, few-speeds}
+use Rattle.rules.proofs.Laws.Jobs.{version-sound, gearbox-sound, numbers-sound, vehicle-sound, trace-sound, room-seconds, room-speeds}
 use Rattle.rules.proofs.Laws.Reach.{went, then-both, stop-both, Reach, group-both, value-reach, less, checked-reach, then-reach, seen-reach, many-reach, counted-reach, counted-many-reach, bounded-reach, long-whole}
 
 -- ---- holds are two groups each, and their seconds rise: no more of them than seconds are left
@@ -62,9 +63,9 @@ rising-reach count next (suc k) =
           let y = takes-hold count next x (says-now e (hold-sound count next .one-form job i) .taken) in absurd (omega arith));
     })
 
-holds-reach : (count : ℕ) → count ≤ longest → Reach (holds count) (3 + 6 * longest)
+holds-reach : (room count : ℕ) → count ≤ room → Reach (holds count) (3 + 6 * room)
 unfolding holds rising
-holds-reach count h = seen-reach _ _ (counted-reach value-sound value-reach (λ k t. less {m = 6 * longest} (omega arith) (rising-reach count 0 k)))
+holds-reach room count h = seen-reach _ _ (counted-reach value-sound value-reach (λ k t. less {m = 6 * room} (omega arith) (rising-reach count 0 k)))
 
 -- ---- the stages
 
@@ -88,19 +89,40 @@ vehicle-reach : Reach vehicle (31 + (24 + 385))
 unfolding vehicle
 vehicle-reach = seen-reach _ _ (then-reach gearbox-sound gearbox-reach (λ _ _. then-reach numbers-sound numbers-reach (λ _ _. curve-reach)))
 
-trace-reach : (a b : ℕ) → Reach (trace a b) (3 + longest * 3)
+trace-reach : (a b : ℕ) → Reach (trace a b) (3 + a * 3)
 unfolding trace seconds bounded
-trace-reach a b = counted-many-reach longest (checked-sound (bounded-sound 1 longest 1 0) _ _ _) (checked-reach (checked-reach value-reach _ _ _) _ _ _) (few-seconds a b) value-reach
+trace-reach a b = counted-many-reach a (checked-sound (bounded-sound _ _ _ _) _ _ _) (checked-reach (checked-reach value-reach _ _ _) _ _ _) (room-seconds a b) value-reach
 
-stages-reach : (a b : ℕ) → Reach (stages a b) (1 + (440 + (3 + longest * 3 + (3 + 6 * longest))))
+stages-reach : (a b : ℕ) → Reach (stages a b) (1 + (440 + (3 + a * 3 + (3 + 6 * a))))
 unfolding stages
 stages-reach a b =
     then-reach version-sound version-reach (λ _ _.
     then-reach vehicle-sound vehicle-reach (λ _ _.
     then-reach (trace-sound a b) (trace-reach a b) (λ vs t.
-    holds-reach (length vs) (few-speeds a b vs t))))
+    holds-reach a (length vs) (room-speeds a b vs t))))
 
--- Theorem, "long jobs": of a job that is longer than the longest, what its first bytes say, one more than the longest job has, is all that is printed
-pub long-job : (bytes : List ℕ) → longest-job < length bytes → printed (take (suc longest-job) bytes) ≡ printed bytes
+-- Theorem, "long jobs": of a job that is longer than the longest that the card program has room for, what its first bytes say, one more than that job
+-- has, is all that is printed
+pub long-job : (bytes : List ℕ) → longest-job program-room < length bytes → printed (take (suc (longest-job program-room)) bytes) ≡ printed bytes
 unfolding printed job-read job longest-job most-groups
-long-job bytes h = rw (long-whole (seen-reach _ _ (stages-reach longest longest)) (suc longest-job) (omega arith) bytes h)
+long-job bytes h = rw (long-whole (seen-reach _ _ (stages-reach program-room program-room)) (suc (longest-job program-room)) (omega arith) bytes h)
+
+-- ---- request Ten: a trace that is longer than the card program has room for
+
+-- whether its count is over the longest trace or not, what is printed is 1 at 0
+pub too-long : (bytes : List ℕ) {v : ℕ} {car : Vehicle} {i j k n : ℕ} → version .read bytes 0 ≡ got v i → vehicle .read bytes i ≡ got car j → group bytes j ≡ got n k
+    → program-room < n → printed bytes ≡ refusal-text (record { no = 1; spot = 0 })
+unfolding printed job-read whole job seen stages _then_ trace counted seconds checked bounded value hand-on demand within read-text printed-fault _and_
+too-long bytes {n} a b c h =
+    let f : leb n program-room ≡ false = lt-leb n program-room h in
+    by-order longest n
+    (λ l. rw (a, b, c, le-leb 1 n (omega arith), lt-leb n longest l))
+    (λ l. rw (a, b, c, le-leb 1 n (omega arith), le-leb n longest l, f))
+
+-- a value below 16,384 takes two bytes at most
+pub two-bytes-most : (n : ℕ) → n < 16384 → length (form n) ≤ 2
+unfolding form
+two-bytes-most n h =
+    let one : 1 ≤ 2 = omega arith in
+    let two : 2 ≤ 2 = omega arith in
+    by-test (ltb n 128) (λ t. rw t one) (λ t. rw (t, lt-ltb n 16384 h) two)

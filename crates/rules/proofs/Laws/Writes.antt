@@ -174,7 +174,7 @@ module _ (car : Vehicle) (vs hs : List ℕ) (w : Writable car vs hs) (a b : ℕ)
       let ng = w .bounds .ng-to in (
         bounded-takes 1 1 14 0 1 (omega arith) (in-range 1 1 1 (omega arith) (omega arith))
             also vehicle-takes car (w .bounds)
-            also counted-takes _ _ vs (bounded-takes 1 2048 1 0 (length vs) (omega arith) (in-range 1 2048 (length vs) (w .some-second) few), both (le-leb _ _ x) (le-leb _ _ y))
+            also counted-takes _ _ vs (bounded-takes 1 longest 1 0 (length vs) (omega arith) (in-range 1 longest (length vs) (w .some-second) few), both (le-leb _ _ x) (le-leb _ _ y))
             (all-at 65535 vs (λ i h. omega (arith, w .speeds-in i h)))
             also holds-take (length vs) hs (w .even) (omega arith) (all-at 255 hs (λ i h. omega (arith, w .even, w .holds-in i (omega (arith, w .even))))),
         refl,

@@ -1,11 +1,12 @@
 -- `texts::answer` meets its contract: the rooms begin with what was read, and what is put at place 0 begins the memory.
 -- Assumes nothing.
-use mathlib.Core.Path.{_≡_, refl, sym, _∙_}
+use native.Mathlib.Omega.{arith}
+use mathlib.Core.Path.{_≡_, sym, _∙_}
 use lib.ListN.{length, take}
 use lib.Seq.{length-take-le}
 use Rattle.texts.proofs.Pieces.{begins}
 use Rattle.jobs.proofs.Rooms.{rooms}
-use Rattle.texts.proofs.Jobs.{few, printed-done, printed-stop}
+use Rattle.texts.proofs.Jobs.{room-is, printed-done, printed-stop}
 use borrow.Author.Needs.{needs}
 use Rattle.texts.proofs.answer.Statement.{statement}
 use Rattle.texts.proofs.answer.Tie as tie
@@ -35,10 +36,10 @@ slice-aggregate-put-worked-2 : tie.Need-slice-aggregate-put-worked-2
 slice-aggregate-put-worked-2 c = let w = rooms (c .before .before .before .before .before .before .before .read .ensures) in sym (length-take-le _ _ (w .holds-fit))
 
 array-borrow-prefix-card : tie.Need-array-borrow-prefix-card
-array-borrow-prefix-card c = few (c .before .before .before .before .before .before .before .read .ensures)
+array-borrow-prefix-card c = let w = rooms (c .before .before .before .before .before .before .before .read .ensures) in w .few
 
 slice-aggregate-put-worked-3 : tie.Need-slice-aggregate-put-worked-3
-slice-aggregate-put-worked-3 c = sym (length-take-le _ _ (few (c .before .before .before .before .before .before .before .before .read .ensures)))
+slice-aggregate-put-worked-3 c = let w = rooms (c .before .before .before .before .before .before .before .before .read .ensures) in sym (length-take-le _ _ (w .few))
 
 put-worked-requires : tie.Need-put-worked-requires
 put-worked-requires c κs =
@@ -46,10 +47,14 @@ put-worked-requires c κs =
     let q = p .read in
     let w = rooms (q .ensures) in
     let n : length (take (q .result .count) (q .last .1 .0)) ≡ q .result .count = length-take-le _ _ (w .speeds-fit) in
-    (rw n (few (q .ensures)), (length-take-le _ _ (few (q .ensures)) ∙ sym n, search needs))
+    let e = room-is in
+    (rw (n, e) (w .few), (length-take-le _ _ (w .few) ∙ sym n, omega (arith, e)))
 
 enum-known-judged : tie.Need-enum-known-judged
 enum-known-judged c = search needs
+
+as-printed-requires : tie.Need-as-printed-requires
+as-printed-requires c κs = search needs
 
 put-refusal-requires : tie.Need-put-refusal-requires
 put-refusal-requires c κs = search needs
@@ -57,12 +62,12 @@ put-refusal-requires c κs = search needs
 returns : tie.Need-returns
 returns c =
     let p = c .before .before .before .before .before .before .before in
-    begins (rw (printed-done (p .before .before .before .before .read .ensures) refl refl (p .enum-told .given .1)) at (c .before .put-worked .ensures))
+    begins (rw (printed-done (p .before .before .before .before .read .ensures) (sym room-is) (sym room-is) (p .enum-told .given .1)) at (c .before .put-worked .ensures))
 
 returns-2 : tie.Need-returns-2
 returns-2 c =
-    let p = c .before .before .before in
-    begins (rw (printed-stop (p .before .before .before .before .read .ensures) refl refl (p .judged .given .1)) at (c .put-refusal .ensures))
+    let p = c .before .before .before .before in
+    begins (rw (c .before .before .as-printed .ensures, printed-stop (p .before .before .before .before .read .ensures) (sym room-is) (sym room-is) (p .judged .given .1)) at (c .put-refusal .ensures))
 
 pub answer-spec : {M : Type 1} → statement M
 answer-spec =
@@ -80,6 +85,7 @@ answer-spec =
     slice-aggregate-put-worked-3
     put-worked-requires
     enum-known-judged
+    as-printed-requires
     put-refusal-requires
     returns
     returns-2)

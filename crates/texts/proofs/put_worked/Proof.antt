@@ -1,6 +1,6 @@
 -- `texts::put_worked` meets its contract: what the working answers is what the text says.
 -- Assumes nothing.
-use Rattle.texts.proofs.Jobs.{done-text, stop-text}
+use Rattle.texts.proofs.Jobs.{done-text, stop-text, room-is}
 use borrow.Author.Needs.{needs}
 use Rattle.texts.proofs.put_worked.Statement.{statement}
 use Rattle.texts.proofs.put_worked.Tie as tie
@@ -12,13 +12,13 @@ enum-told : tie.Need-enum-told
 enum-told c = search needs
 
 put-card-requires : tie.Need-put-card-requires
-put-card-requires c κs = search needs
+put-card-requires c κs = let e = room-is in search needs
 
 enum-known-answer : tie.Need-enum-known-answer
 enum-known-answer c = search needs
 
 put-refusal-requires : tie.Need-put-refusal-requires
-put-refusal-requires c κs = search needs
+put-refusal-requires c κs = let e = room-is in search needs
 
 same-length : tie.Need-same-length
 same-length c = search needs
