@@ -75,14 +75,17 @@ static void put(uint8_t *s, size_t *at, uint32_t x) {
   while (x >= 128) s[(*at)++] = (uint8_t)(x & 127) | 128, x >>= 7;
   s[(*at)++] = (uint8_t)x;
 }
-static size_t encode(uint8_t *s, const car_t *c, const uint16_t *v, size_t n, const uint8_t *h) {
+static size_t encode(uint8_t *s, uint16_t version, const car_t *c, const uint16_t *v, size_t n, const uint8_t *h) {
   size_t at = 0, held = 0, i;
-  put(s, &at, 1);
+  put(s, &at, version);
   put(s, &at, c->ng);
   for (i = 0; i < c->ng; i++) put(s, &at, c->ratio[i]);
   put(s, &at, c->idle), put(s, &at, c->rated), put(s, &at, c->nmax), put(s, &at, c->f0), put(s, &at, (uint32_t)(c->f1 + 5000));
   put(s, &at, c->f2), put(s, &at, c->tm), put(s, &at, c->margin), put(s, &at, c->points);
-  for (i = 0; i < c->points; i++) put(s, &at, c->n[i]), put(s, &at, c->p[i]);
+  for (i = 0; i < c->points; i++) {
+    put(s, &at, c->n[i]), put(s, &at, c->p[i]);
+    if (version == 2) put(s, &at, c->m[i]);
+  }
   put(s, &at, (uint32_t)n);
   for (i = 0; i < n; i++) put(s, &at, v[i]), held += h[i] != 0;
   put(s, &at, (uint32_t)held);
@@ -137,7 +140,7 @@ static const struct {
   verdict_t (*release)(car_t, const uint16_t *, size_t, uint8_t *, size_t, uint8_t *, size_t, size_t);
   verdict_t (*mend)(car_t, uint16_t *, size_t, const uint8_t *, size_t, uint8_t *, size_t, size_t, uint16_t);
   job_t (*read)(const uint8_t *, size_t, uint16_t *, size_t, uint8_t *, size_t);
-  written_t (*write)(car_t, const uint16_t *, size_t, const uint8_t *, size_t, uint8_t *, size_t);
+  written_t (*write)(uint16_t, car_t, const uint16_t *, size_t, const uint8_t *, size_t, uint8_t *, size_t);
 } sides[2] = {{gearcard_work, gearcard_hold, gearcard_release, gearcard_mend, gearcard_read, gearcard_write}, {twin_work, twin_hold, twin_release, twin_mend, twin_read, twin_write}};
 
 static uint16_t room_v[ROOM];
@@ -175,7 +178,7 @@ static __attribute__((noinline)) void call(case_t *c, int twin, long reps) {
     }
     break;
   case WRITE:
-    for (long r = 0; r < reps; r++) refused |= sides[twin].write(c->car, c->v, n, c->h, n, room_w, BYTES).verdict.number;
+    for (long r = 0; r < reps; r++) refused |= sides[twin].write(1, c->car, c->v, n, c->h, n, room_w, BYTES).verdict.number;
   }
   if (refused) stop("a benchmark input was refused");
 }
@@ -233,15 +236,15 @@ static uint32_t same_read(const uint8_t *s, size_t len, size_t rs, size_t rh) {
   static uint8_t h1[ROOM + 64], h2[ROOM + 64];
   memset(v1, 0xa5, sizeof v1), memset(v2, 0xa5, sizeof v2), memset(h1, 0xa5, sizeof h1), memset(h2, 0xa5, sizeof h2);
   job_t a = gearcard_read(s, len, v1, rs, h1, rh), b = twin_read(s, len, v2, rs, h2, rh);
-  if (!same_car(&a.vehicle, &b.vehicle) || a.count != b.count || memcmp(v1, v2, sizeof v1) || memcmp(h1, h2, sizeof h1)) stop("read: bytes differ");
+  if (a.version != b.version || !same_car(&a.vehicle, &b.vehicle) || a.count != b.count || memcmp(v1, v2, sizeof v1) || memcmp(h1, h2, sizeof h1)) stop("read: bytes differ");
   return same_verdict("read", a.verdict, b.verdict);
 }
 
-static uint32_t same_write(const car_t *car, const uint16_t *v, size_t n, const uint8_t *h, size_t nh, size_t nr) {
+static uint32_t same_write(uint16_t version, const car_t *car, const uint16_t *v, size_t n, const uint8_t *h, size_t nh, size_t nr) {
   static uint8_t x[BYTES + 64], y[BYTES + 64];
   memset(x, 0xa5, sizeof x);
   memset(y, 0xa5, sizeof y);
-  written_t a = gearcard_write(*car, v, n, h, nh, x, nr), b = twin_write(*car, v, n, h, nh, y, nr);
+  written_t a = gearcard_write(version, *car, v, n, h, nh, x, nr), b = twin_write(version, *car, v, n, h, nh, y, nr);
   if (a.length != b.length || memcmp(x, y, sizeof x)) stop("write: bytes differ");
   return same_verdict("write", a.verdict, b.verdict);
 }
@@ -260,11 +263,14 @@ static car_t random_car(void) {
   c.nmax = (uint16_t)(c.rated + rnd(1500));
   c.f0 = (uint16_t)rnd(3000), c.f1 = (int32_t)rnd(3001) - 1500, c.f2 = (uint16_t)rnd(6000), c.tm = (uint16_t)(400 + rnd(3601)), c.margin = (uint16_t)rnd(51);
   uint32_t from = 1 + rnd(c.idle), k = 0, step = 1000;
+  /* a point's margin is at most 50, and 90 with M; half of the cars have none */
+  uint32_t most = rnd(2) ? 0 : c.margin > 40 ? 90u - c.margin : 50;
   uint32_t least = (c.nmax - from) / 63 + 1;
   if (least < 1000) step = least + rnd(1000 - least + 1);
   for (;; k++) {
     c.n[k] = (uint16_t)(from > 16000 ? 16000 : from);
     c.p[k] = (uint16_t)rnd(rnd(3) ? 1200 : 5001);
+    c.m[k] = (uint16_t)rnd(most + 1);
     if (k >= 1 && from >= c.nmax) break;
     if (k == 63) break;
     from += step;
@@ -309,11 +315,12 @@ static void random_checks(long rounds) {
     case 5: if (rnd(4) == 0) n = nh = nc = 0; break;
     }
     uint32_t no = same_work(&car, v, n, h, nh, nc);
-    if (same_write(&car, v, n, h, nh, BYTES) == 0) { /* and with the last byte that it needs, and without */
-      size_t need = gearcard_write(car, v, n, h, n, s, BYTES).length;
-      same_write(&car, v, n, h, n, need);
-      same_write(&car, v, n, h, n, need - 1 - rnd(2));
-      if (encode(t, &car, v, n, h) != need || memcmp(s, t, need)) stop("write: not the job");
+    uint16_t version = (uint16_t)(rnd(16) ? 1 + rnd(2) : rnd(4));
+    if (same_write(version, &car, v, n, h, nh, BYTES) == 0) { /* and with the last byte that it needs, and without */
+      size_t need = gearcard_write(version, car, v, n, h, n, s, BYTES).length;
+      same_write(version, &car, v, n, h, n, need);
+      same_write(version, &car, v, n, h, n, need - 1 - rnd(2));
+      if (encode(t, version, &car, v, n, h) != need || memcmp(s, t, need)) stop("write: not the job");
     }
     if (n == 0) continue;
     for (size_t i = 0; i < n; i++) card[i] = (uint8_t)rnd(256);
@@ -337,7 +344,7 @@ static void random_checks(long rounds) {
       if (memcmp(whole, card, n)) stop("hold, mend: not the card of the whole working");
     }
     if (car.f1 < -5000 || car.f1 > 60535 || car.ng > 10 || car.points > 64) continue;
-    size_t len = encode(s, &car, v, n, h);
+    size_t len = encode(s, version, &car, v, n, h);
     same_read(s, len, ROOM, ROOM);
     same_read(s, len, n, n);
     if (rnd(4) == 0) same_read(s, len, n - rnd(2), n - rnd(2));
@@ -404,7 +411,7 @@ static void joined_cases(const car_t *car, const uint16_t *v, size_t n) {
         gearcard_work(c->car, c->v, all, c->h, all, c->card, all);
         c->length = trip.b - trip.a, c->second = trip.a + c->length / 2, c->gear = c->card[c->second] & 15;
       }
-      if (w == 2) c->length = encode(c->job, car, joined, all, none);
+      if (w == 2) c->length = encode(c->job, 1, car, joined, all, none);
     }
   }
 }
@@ -485,14 +492,14 @@ static void build(const char *path) {
   c = fresh("read.long", READ); /* 2,048 seconds of speeds as they are driven, a hold at every moving one */
   c->car = car_of(64);
   for (size_t i = 0; i < MADE; i++) h[i] = one[i] >= 10 ? 3 : 0;
-  c->length = encode(c->job, &c->car, one, MADE, h);
+  c->length = encode(c->job, 1, &c->car, one, MADE, h);
   c = fresh("read.bytes", READ); /* the most bytes: every value as long as it can be */
   car_t big;
   for (size_t i = 0; i < sizeof big / 2; i++) ((uint16_t *)&big)[i] = 65535;
   big.ng = 10, big.points = 64, big.f1 = 60535;
   static uint16_t far[MADE];
   for (size_t i = 0; i < MADE; i++) far[i] = (uint16_t)(16384 + rnd(49152)), h[i] = (uint8_t)(128 + rnd(128));
-  c->length = encode(c->job, &big, far, MADE, h);
+  c->length = encode(c->job, 2, &big, far, MADE, h);
   joined_cases(&job.vehicle, v, n);
   /* the built-in cycle, which is the job's */
   fresh("fill.class3", FILL);
@@ -503,9 +510,9 @@ static void build(const char *path) {
   c->car = job.vehicle, c->count = n;
   memcpy(c->v, v, sizeof v);
   c = fresh("write.long", WRITE); /* 2,048 seconds, a hold at every moving one */
-  c->car = car_of(64), c->count = ROOM;
+  c->car = car_of(64), c->count = MADE;
   memcpy(c->v, one, sizeof one);
-  for (size_t i = 0; i < ROOM; i++) { /* the lowest gear up to nmax */
+  for (size_t i = 0; i < MADE; i++) { /* the lowest gear up to nmax */
     uint8_t g = 1;
     while (g < c->car.ng && (uint32_t)c->car.ratio[g - 1] * one[i] > 1000u * c->car.nmax) g++;
     c->h[i] = one[i] >= 10 ? g : 0;
@@ -565,7 +572,7 @@ int main(int argc, char **argv) {
     if (c->kind == WORK) no = same_work(&c->car, c->v, c->count, c->h, c->count, c->count);
     if (c->kind == READ) no = same_read(c->job, c->length, ROOM, ROOM);
     if (c->kind == FILL) no = same_cycle();
-    if (c->kind == WRITE) no = same_write(&c->car, c->v, c->count, c->h, c->count, BYTES);
+    if (c->kind == WRITE) no = same_write(1, &c->car, c->v, c->count, c->h, c->count, BYTES);
     if (c->kind == HOLD) {
       uint8_t h[ROOM], card[ROOM];
       memcpy(h, c->h, ROOM), memcpy(card, c->card, ROOM);

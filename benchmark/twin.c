@@ -2,7 +2,7 @@
 
    What it does for speed:
    - the vehicle by const pointer, and once a call per gear the lowest and highest V at which the gear fits (both rise with the gear, so a second
-     needs no product to know which do; only gear 2 after gear 1 may be passed over);
+     needs no product to know which do; only gear 2 after gear 1 may be passed over), and the available power of each curve point;
    - the checks 4 to 10 as one pass without branches; only where it finds something is the exact refusal looked for, or the holds gone through; 10
      then by a dry run of first choices;
    - whether a second is in the closing run is asked only where the minimum of gear 2 decides, and no second is looked at twice for it;
@@ -45,8 +45,9 @@ static uint32_t car_fault(const car_t *c) {
   if (c->margin > 50) return 10;
   unsigned m = c->points;
   if (m - 2u > 62u) return 11;
-  bad = (c->n[0] == 0) | (c->p[0] > 5000);
-  for (i = 1; i < m; i++) bad |= ((uint32_t)(c->n[i] - c->n[i - 1] - 1) > 999u) | (c->p[i] > 5000);
+  unsigned most = 90u - c->margin < 50 ? 90u - c->margin : 50; /* of a point's margin */
+  bad = (c->n[0] == 0) | (c->p[0] > 5000) | (c->m[0] > most);
+  for (i = 1; i < m; i++) bad |= ((uint32_t)(c->n[i] - c->n[i - 1] - 1) > 999u) | (c->p[i] > 5000) | (c->m[i] > most);
   if (bad | (c->n[m - 1] > 16000)) return 12;
   if (c->n[0] > c->idle || c->n[m - 1] < c->nmax) return 13;
   return 0;
@@ -56,7 +57,8 @@ static uint32_t car_fault(const car_t *c) {
 typedef struct {
   const car_t *c;
   uint32_t ng, cap, idle1000;
-  int64_t a, b, e2, dm, mm;
+  int64_t a, b, e2, dm;
+  int32_t power[64]; /* p x (100 - M - m) of each point */
   uint32_t lo[12], hi[12]; /* the V at which a gear fits; gear 1 from 0 on, gear 2 where neither of the next two */
   uint32_t lo_closing, lo_after;
 } prep_t;
@@ -70,7 +72,8 @@ INLINE void prepare(prep_t *k, const car_t *c) {
   k->b = 9000ll * c->f1;
   k->e2 = 9ll * c->f2;
   k->dm = 2575000ll * c->tm;
-  k->mm = (100 - (int64_t)c->margin) * 3240000;
+  int32_t rest = 100 - c->margin;
+  for (uint32_t i = 0; i < c->points; i++) k->power[i] = c->p[i] * (rest - c->m[i]);
   uint32_t m2 = 1000u * ((9 * idle + 5) / 10), m2a = 1000u * ((115 * idle + 50) / 100), m3 = 1000u * (idle + (c->rated - idle + 4) / 8);
   k->lo[1] = 0;
   k->hi[1] = top / c->ratio[0];
@@ -181,10 +184,10 @@ INLINE power_t power(const prep_t *k, uint32_t x) {
     s = n[s + half] < whole ? s + half : s;
     len -= half;
   }
-  int32_t n1 = n[s], p1 = c->p[s], w = n[s + 1] - n1;
+  int32_t n1 = n[s], p1 = k->power[s], w = n[s + 1] - n1;
   power_t r;
   r.w = w;
-  r.q = (int64_t)p1 * (1000 * w) + (int64_t)(c->p[s + 1] - p1) * ((int32_t)x - 1000 * n1);
+  r.q = (int64_t)p1 * (1000 * w) + (int64_t)(k->power[s + 1] - p1) * ((int32_t)x - 1000 * n1);
   return r;
 }
 
@@ -199,12 +202,12 @@ INLINE uint32_t choose(const prep_t *k, const uint16_t *v, size_t j, uint32_t la
   if (e <= 0) return t;
   const uint16_t *ratio = k->c->ratio;
   power_t m = power(k, ratio[t - 1] * x);
-  if (k->mm * m.q >= e * m.w) return t;
+  if (3240000 * m.q >= e * m.w) return t;
   uint32_t best = t;
   for (uint32_t g = t - 1; g >= 1 && x <= k->hi[g]; g--) {
     if (UNLIKELY(g == 2 && x < k->lo_after && !second_fits(k, v, j, last, open))) continue;
     power_t r = power(k, ratio[g - 1] * x);
-    if (k->mm * r.q >= e * r.w) return g;
+    if (3240000 * r.q >= e * r.w) return g;
     if (r.q * m.w > m.q * r.w) m = r, best = g;
   }
   return best;
@@ -229,8 +232,8 @@ INLINE power_t plain_power(const prep_t *k, uint32_t x) {
     if (x <= 1000u * c->n[mid + 1]) hi = mid;
     else lo = mid + 1;
   }
-  int64_t n1 = c->n[lo], p1 = c->p[lo], w = c->n[lo + 1] - n1;
-  power_t r = {1000 * p1 * w + (c->p[lo + 1] - p1) * ((int64_t)x - 1000 * n1), w};
+  int64_t n1 = c->n[lo], p1 = k->power[lo], w = c->n[lo + 1] - n1;
+  power_t r = {1000 * p1 * w + (k->power[lo + 1] - p1) * ((int64_t)x - 1000 * n1), w};
   return r;
 }
 INLINE uint32_t plain_choose(const prep_t *k, const uint16_t *v, size_t j, int first, uint32_t last, size_t *open) {
@@ -240,7 +243,7 @@ INLINE uint32_t plain_choose(const prep_t *k, const uint16_t *v, size_t j, int f
   for (uint32_t g = k->ng; g >= 1; g--)
     if (plain_fits(k, v, j, first, last, open, g)) {
       power_t r = plain_power(k, c->ratio[g - 1] * v[j]);
-      if (k->mm * r.q >= e * r.w) return g;
+      if (3240000 * r.q >= e * r.w) return g;
     }
   uint32_t best = 0;
   power_t m = {0, 1};
@@ -534,7 +537,8 @@ INLINE verdict_t parse(struct gearcard_job *r, const uint8_t *s, size_t end, uin
   if (UNLIKELY(y - 1u > 254u)) return say(15, from);                 \
   next = x + 1
   GROUP(x);
-  if (x != 1) return say(14, 0);
+  if (x - 1u > 1u) return say(14, 0);
+  r->version = (uint16_t)x;
   FIELD(c->ng);
   if (x - 2u > 8u) return say(3, 1);
   for (uint32_t i = 0; i < c->ng; i++) {
@@ -554,6 +558,9 @@ INLINE verdict_t parse(struct gearcard_job *r, const uint8_t *s, size_t end, uin
   for (uint32_t i = 0; i < c->points; i++) {
     FIELD(c->n[i]);
     FIELD(c->p[i]);
+    if (r->version == 2) {
+      FIELD(c->m[i]);
+    }
   }
   GROUP(x);
   if (x - 1u >= GEARCARD_LONGEST) return say(1, 0);
@@ -672,20 +679,30 @@ INLINE uint8_t *put(uint8_t *s, uint32_t x) {
 }
 
 /* The values of a vehicle in a job's order, behind the version. */
-INLINE uint32_t values_of(const car_t *c, uint16_t *to) {
+INLINE uint32_t values_of(uint16_t version, const car_t *c, uint16_t *to) {
   uint32_t k = 0, i;
-  to[k++] = 1;
+  to[k++] = version;
   to[k++] = c->ng;
   for (i = 0; i < c->ng; i++) to[k++] = c->ratio[i];
   to[k++] = c->idle, to[k++] = c->rated, to[k++] = c->nmax, to[k++] = c->f0, to[k++] = (uint16_t)(c->f1 + 5000);
   to[k++] = c->f2, to[k++] = c->tm, to[k++] = c->margin, to[k++] = c->points;
-  for (i = 0; i < c->points; i++) to[k++] = c->n[i], to[k++] = c->p[i];
+  for (i = 0; i < c->points; i++) {
+    to[k++] = c->n[i], to[k++] = c->p[i];
+    if (version == 2) to[k++] = c->m[i];
+  }
   return k;
 }
 
-struct gearcard_written twin_write(car_t vehicle, const uint16_t *v, size_t n, const uint8_t *h, size_t nh, uint8_t *room, size_t nr) {
+struct gearcard_written twin_write(uint16_t version, car_t vehicle, const uint16_t *v, size_t n, const uint8_t *h, size_t nh, uint8_t *room, size_t nr) {
   const car_t *c = &vehicle;
-  struct gearcard_written r = {opening(c, n, nh, n), 0};
+  struct gearcard_written r = {say(14, 0), 0};
+  if (UNLIKELY(version - 1u > 1u)) return r;
+  r.verdict = opening(c, n, nh, n);
+  if (version == 1 && (!r.verdict.number || (r.verdict.number == 3 && r.verdict.place == 13))) { /* version 1 has no place for a margin */
+    unsigned marked = 0;
+    for (uint32_t k = 0; k < c->points; k++) marked |= c->m[k];
+    if (UNLIKELY(marked)) r.verdict = say(3, 12);
+  }
   if (UNLIKELY(r.verdict.number)) return r;
   unsigned held = any(h, 0, n), odd = speeds_odd(v, 0, n, 2000) | (v[0] >= 10) | (v[n - 1] >= 10);
   if (held)
@@ -694,8 +711,8 @@ struct gearcard_written twin_write(car_t vehicle, const uint16_t *v, size_t n, c
     r.verdict = exact_written(c, v, n, h);
     if (UNLIKELY(r.verdict.number)) return r;
   }
-  uint16_t values[160];
-  uint32_t most = values_of(c, values), i;
+  uint16_t values[224];
+  uint32_t most = values_of(version, c, values), i;
   size_t need = size_of((uint32_t)n) + n, early = 0, late = 0;
   for (i = 0; i < most; i++) need += size_of(values[i]);
   uint16_t long_ones = 0; /* speeds of two bytes; a trace has at most 2,048 */

@@ -9,7 +9,7 @@ struct gearcard_verdict twin_hold(struct gearcard_vehicle vehicle, const uint16_
                                   uint8_t *card, size_t card_length, size_t second, uint8_t gear);
 struct gearcard_verdict twin_release(struct gearcard_vehicle vehicle, const uint16_t *speeds, size_t speeds_length, uint8_t *holds, size_t holds_length,
                                      uint8_t *card, size_t card_length, size_t second);
-struct gearcard_written twin_write(struct gearcard_vehicle vehicle, const uint16_t *speeds, size_t speeds_length, const uint8_t *holds,
+struct gearcard_written twin_write(uint16_t version, struct gearcard_vehicle vehicle, const uint16_t *speeds, size_t speeds_length, const uint8_t *holds,
                                    size_t holds_length, uint8_t *room, size_t room_length);
 struct gearcard_verdict twin_mend(struct gearcard_vehicle vehicle, uint16_t *speeds, size_t speeds_length, const uint8_t *holds, size_t holds_length,
                                   uint8_t *card, size_t card_length, size_t second, uint16_t speed);

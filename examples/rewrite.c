@@ -67,9 +67,9 @@ int main(int argc, char **argv) {
   }
 
   /* A room that is too short is refused by 17 with the length needed, so it can be asked for. */
-  struct gearcard_written asked = gearcard_write(read.vehicle, speeds, n, holds, n, anew, 0);
+  struct gearcard_written asked = gearcard_write(read.version, read.vehicle, speeds, n, holds, n, anew, 0);
   if (asked.verdict.number != 17) return refused("write", asked.verdict);
-  struct gearcard_written written = gearcard_write(read.vehicle, speeds, n, holds, n, anew, asked.verdict.place);
+  struct gearcard_written written = gearcard_write(read.version, read.vehicle, speeds, n, holds, n, anew, asked.verdict.place);
   if (refused("write", written.verdict)) return 1;
   if (!kept(name, anew, written.length)) return 2;
   printf("%zu bytes, were %zu\n", written.length, length);

@@ -20,7 +20,7 @@
 #define GEARCARD_CYCLE 1801
 
 /* Document 01's vehicle record, with its numbers of fields, which refusal 3 gives; field 13 is that the first n is at most idle and the last at least
-   nmax. Places of ratio past ng, and of n and p past points, are no part of it: they may hold any number. */
+   nmax. Places of ratio past ng, and of n, p and m past points, are no part of it: they may hold any number. */
 struct gearcard_vehicle {
   uint16_t ng;        /* 1: gear count, 2 to 10 */
   uint16_t ratio[10]; /* 2: engine speed over road speed, hundredths of min^-1 per km/h, 1 to 50,000, falling */
@@ -35,6 +35,7 @@ struct gearcard_vehicle {
   uint16_t points;    /* 11: number of power curve points, 2 to 64 */
   uint16_t n[64];     /* 12: engine speed, min^-1, 1 to 16,000, rising by 1 to 1,000 */
   uint16_t p[64];     /* 12: full-load power, tenths of kW, 0 to 5,000 */
+  uint16_t m[64];     /* 12: the point's own safety margin, per cent, 0 to 50, and at most 90 with margin */
 };
 
 /* The answer: number 0 and place 0 where it is accepted, else the refusal and its place. Seconds and bytes count from 0. Where several apply,
@@ -46,7 +47,8 @@ struct gearcard_vehicle {
        in gearcard_read, a room smaller than the count;
        in gearcard_cycle, a room under 1,801;
        in gearcard_downscale, a room not 1,801
-    3  a vehicle field out of bounds, the first such                  field, 1 to 13
+    3  a vehicle field out of bounds, the first such;                 field, 1 to 13
+       in gearcard_write also a margin m above 0 in version 1         12
    11  second outside the trace (gearcard_hold, gearcard_release,     second asked
        gearcard_mend)
     4  speed over 2,000                                               second
@@ -59,7 +61,7 @@ struct gearcard_vehicle {
        it may be a later second of the trip
    12  job ends early                                                 its length
    13  group not shortest, or over 65,535, or longer than 3 bytes     group's first byte
-   14  version not 1                                                  place 0
+   14  version neither 1 nor 2 (gearcard_write: before all others)    place 0
    15  hold second not rising or past the trace,                      first byte of the second
        or its gear 0 or over 255
    16  bytes after the end                                            first of them
@@ -77,9 +79,11 @@ struct gearcard_verdict {
   size_t place;
 };
 
-/* What gearcard_read answers; where it refuses, the vehicle is all zeros and the count 0. */
+/* What gearcard_read answers; where it refuses, the version is 0, the vehicle all zeros and the count 0. Version 2 has a margin m behind each p; in version 1
+   every m is 0. */
 struct gearcard_job {
   struct gearcard_verdict verdict;
+  uint16_t version; /* 1 or 2 */
   struct gearcard_vehicle vehicle;
   size_t count; /* seconds of the trace */
 };
@@ -94,10 +98,10 @@ struct gearcard_written {
   size_t length; /* bytes of the job */
 };
 
-/* Writes the job of a vehicle, a trace and its holds into the start of the room; room beyond is untouched, and room of exactly the length is enough. It
-   refuses by 1 to 9 as gearcard_work does, with no card to look at, and then by 17; never by 10. What it writes reads back as the same job, places of the
-   vehicle that are no part of it as 0, and a job that was read and passes 1 to 9 is written as the same bytes. */
-struct gearcard_written gearcard_write(struct gearcard_vehicle vehicle, const uint16_t *speeds, size_t speeds_length, const uint8_t *holds,
+/* Writes the job of a version, a vehicle, a trace and its holds into the start of the room; room beyond is untouched, and room of exactly the length is enough. It
+   refuses by 14, by 1 to 9 as gearcard_work does, with no card to look at, and then by 17; never by 10. What it writes reads back as the same job, places of the
+   vehicle that are no part of it as 0, and a job that was read and passes 1 to 9 is written in its own version as the same bytes. */
+struct gearcard_written gearcard_write(uint16_t version, struct gearcard_vehicle vehicle, const uint16_t *speeds, size_t speeds_length, const uint8_t *holds,
                                        size_t holds_length, uint8_t *room, size_t room_length);
 
 /* Works the whole trace: fills the card, which is as long as the speeds and the holds. */

@@ -3,10 +3,10 @@
 
    A request: kind (u32), gear (u32), second (u64), the vehicle's fields in order; for the speeds, the holds and the third slice (the job where kind
    is READ, the export where it is EXPORT, the room where it is WRITE, else the card) the number of elements of the guard before it, of the slice and of the guard after it (u32 each);
-   then the elements of the three, guards included. An answer: number (u32), place (u64); where kind is READ the vehicle's fields and the count (u64), where
+   then the elements of the three, guards included. An answer: number (u32), place (u64); where kind is READ the version (u16), the vehicle's fields and the count (u64), where
    it is EXPORT F0, F1, F2 and TM, where it is WRITE the length (u64); then the elements again. Where kind is CYCLE or CYCLE_PART the second is the part's number and the speeds are the room;
    CYCLE_PART answers the count as number and the first second as place. Where kind is DOWNSCALE the second is the factor, where it is MEND the gear is the
-   speed. All little-endian, as x86-64 is.
+   speed, where it is WRITE the version. All little-endian, as x86-64 is.
    Exit 0 at the end of the requests, 2 where one is cut or past the limits here. */
 #include "gearcard.h"
 
@@ -47,6 +47,7 @@ static void vehicle_fields(struct gearcard_vehicle *v, void (*pass)(void *, size
   pass(&v->points, sizeof v->points);
   pass(v->n, sizeof v->n);
   pass(v->p, sizeof v->p);
+  pass(v->m, sizeof v->m);
 }
 
 /* Elements of a slice and its guards, which a room must hold. */
@@ -89,7 +90,7 @@ static void answer(uint32_t kind, uint32_t gear, uint64_t second, struct gearcar
   } else if (kind == DOWNSCALE) {
     verdict = gearcard_downscale((uint32_t)second, v, s.length);
   } else if (kind == WRITE) {
-    written = gearcard_write(vehicle, v, s.length, held, h.length, last, t.length);
+    written = gearcard_write((uint16_t)second, vehicle, v, s.length, held, h.length, last, t.length);
     verdict = written.verdict;
   } else {
     struct gearcard_part part = gearcard_cycle_part((uint32_t)second, s.length);
@@ -99,6 +100,7 @@ static void answer(uint32_t kind, uint32_t gear, uint64_t second, struct gearcar
   put(&verdict.number, sizeof verdict.number);
   put(&verdict.place, sizeof verdict.place);
   if (kind == READ) {
+    put(&job.version, sizeof job.version);
     vehicle_fields(&job.vehicle, put);
     put(&job.count, sizeof job.count);
   }

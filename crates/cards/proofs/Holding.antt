@@ -24,6 +24,7 @@ use Rattle.rules.proofs.Laws.Words.{clash, by-order}
 use Rattle.rules.proofs.Laws.Trips.{trip-of, start-before, stop-after, stop-in}
 use Rattle.gears.specs.declared.Numbers.{Numbers}
 use Rattle.gears.specs.Parts.{Counts, Lent}
+use Rattle.gears.specs.Choosing.{available}
 use Rattle.cards.specs.Rework.{Between, Fitting}
 use Rattle.checks.specs.declared.Span.{Span}
 use Rattle.checks.specs.Checks.{Spanned}
@@ -52,10 +53,11 @@ pub record MovingSecond (trip span : Span) (car : Vehicle) (vs hs old : List ℕ
   pub span-to : span .hi ≡ min (trip .hi + 1) (length vs)
 
 -- and what the checks of the span said, of every vehicle of these parts
-pub record Checked (x : Answer) (k : Numbers) (trip span : Span) (car : Vehicle) (vs hs old : List ℕ) (s g : ℕ) : Type 0 where
+pub record Checked (x : Answer) (k : Numbers) (p : List ℕ) (trip span : Span) (car : Vehicle) (vs hs old : List ℕ) (s g : ℕ) : Type 0 where
   pub second : MovingSecond trip span car vs hs old s g
   pub counts : Counts car k
-  pub says : (one : Vehicle) → Lent one k (car .ratio) (car .n) (car .p) → said x ≡ span-fault one vs (set hs s g) (span .lo) (span .hi)
+  pub powers : p ≡ available (car .margin) (car .p) (car .m) (car .points)
+  pub says : (one : Vehicle) → Lent one k (car .ratio) (car .n) p → said x ≡ span-fault one vs (set hs s g) (span .lo) (span .hi)
 
 module _ (car : Vehicle) (vs hs old : List ℕ) (s g : ℕ) where
   -- what it says, and leaves in the holds and in the card
@@ -134,10 +136,10 @@ module _ {trip span : Span} {car : Vehicle} {vs hs old : List ℕ} {s g : ℕ} (
             (λ l. let e : span .hi - 1 ≡ stop vs s = omega arith in rw e (stop-after vs s)) (λ l. absurd (z (omega arith)));
       }
 
-module _ {x : Answer} {k : Numbers} {trip span : Span} {car : Vehicle} {vs hs old : List ℕ} {s g : ℕ} (C : Checked x k trip span car vs hs old s g) where
-  -- the parts that are lent
-  pub span-parts : Lent car k (car .ratio) (car .n) (car .p)
-  span-parts = its-parts (C .counts) (C .second .place .opened)
+module _ {x : Answer} {k : Numbers} {p : List ℕ} {trip span : Span} {car : Vehicle} {vs hs old : List ℕ} {s g : ℕ} (C : Checked x k p trip span car vs hs old s g) where
+  -- the parts that are lent, with the available powers
+  pub span-parts : Lent car k (car .ratio) (car .n) p
+  span-parts = its-parts (C .counts) (C .second .place .opened) (C .powers)
 
   -- what the checks of the span said is what the quick way says
   quick-says : said x ≡ quick-fault car vs hs old s g
@@ -151,7 +153,7 @@ module _ {x : Answer} {k : Numbers} {trip span : Span} {car : Vehicle} {vs hs ol
 
   module _ (h : x ≡ Done) where
     -- the checks passed, of every vehicle of these parts
-    module _ {one : Vehicle} (L : Lent one k (car .ratio) (car .n) (car .p)) where
+    module _ {one : Vehicle} (L : Lent one k (car .ratio) (car .n) p) where
       span-passed : span-fault one vs (set hs s g) (span .lo) (span .hi) ≡ none
       span-passed = said-none (C .says one L) h
 

@@ -25,6 +25,7 @@ use Rattle.rules.proofs.Laws.Trips.{start-le, start-before, stop-le, stop-after
 use Rattle.rules.proofs.Laws.Mend.{lo-kept, hi-kept, end-kept, mend-spans}
 use Rattle.gears.specs.declared.Numbers.{Numbers}
 use Rattle.gears.specs.Parts.{Counts, Lent}
+use Rattle.gears.specs.Choosing.{available}
 use Rattle.cards.specs.Rework.{Range, Passes}
 use Rattle.checks.specs.declared.Span.{Span}
 use Rattle.checks.specs.Checks.{Spanned}
@@ -44,10 +45,11 @@ pub record Placed (range span : Span) (car : Vehicle) (vs hs old : List ℕ) (s 
   pub span-to : span .hi ≡ min (range .hi + 1) (length vs)
 
 -- and what the checks of the span said, of every vehicle of these parts
-pub record Checked (x : Answer) (k : Numbers) (range span : Span) (car : Vehicle) (vs hs old : List ℕ) (s v : ℕ) : Type 0 where
+pub record Checked (x : Answer) (k : Numbers) (p : List ℕ) (range span : Span) (car : Vehicle) (vs hs old : List ℕ) (s v : ℕ) : Type 0 where
   pub placed : Placed range span car vs hs old s v
   pub counts : Counts car k
-  pub says : (one : Vehicle) → Lent one k (car .ratio) (car .n) (car .p) → said x ≡ span-fault one (set vs s v) hs (span .lo) (span .hi)
+  pub powers : p ≡ available (car .margin) (car .p) (car .m) (car .points)
+  pub says : (one : Vehicle) → Lent one k (car .ratio) (car .n) p → said x ≡ span-fault one (set vs s v) hs (span .lo) (span .hi)
 
 module _ (car : Vehicle) (vs hs old : List ℕ) (s v : ℕ) where
   -- what it says, and leaves in the speeds and in the card
@@ -114,10 +116,10 @@ module _ {range span : Span} {car : Vehicle} {vs hs old : List ℕ} {s v : ℕ} 
         ends = λ z. let e : span .hi - 1 ≡ stop ws (suc s) = omega (arith, P .span-to) in rw e (stop-after ws (suc s));
       }
 
-module _ {x : Answer} {k : Numbers} {range span : Span} {car : Vehicle} {vs hs old : List ℕ} {s v : ℕ} (C : Checked x k range span car vs hs old s v) where
-  -- the parts that are lent
-  pub span-parts : Lent car k (car .ratio) (car .n) (car .p)
-  span-parts = its-parts (C .counts) (C .placed .opened)
+module _ {x : Answer} {k : Numbers} {p : List ℕ} {range span : Span} {car : Vehicle} {vs hs old : List ℕ} {s v : ℕ} (C : Checked x k p range span car vs hs old s v) where
+  -- the parts that are lent, with the available powers
+  pub span-parts : Lent car k (car .ratio) (car .n) p
+  span-parts = its-parts (C .counts) (C .placed .opened) (C .powers)
 
   -- what the checks of the span said is what mending says
   mend-says : said x ≡ mend-fault car vs hs old s v
@@ -129,7 +131,7 @@ module _ {x : Answer} {k : Numbers} {range span : Span} {car : Vehicle} {vs hs o
 
   module _ (h : x ≡ Done) where
     -- the checks passed, of every vehicle of these parts
-    module _ {one : Vehicle} (L : Lent one k (car .ratio) (car .n) (car .p)) where
+    module _ {one : Vehicle} (L : Lent one k (car .ratio) (car .n) p) where
       span-passed : span-fault one (set vs s v) hs (span .lo) (span .hi) ≡ none
       span-passed = said-none (C .says one L) h
 

@@ -10,6 +10,7 @@ use checks::check_opening;
 use checks::check_span;
 use checks::trip_start;
 use checks::trip_stop;
+use gears::derate;
 use gears::numbers_of;
 use rules::Answer;
 use rules::Refusal;
@@ -63,12 +64,13 @@ pub fn edit(
         hi: trip_stop(speeds, second),
     };
     let k = numbers_of(vehicle);
+    let powers = derate(vehicle.margin, &vehicle.p, &vehicle.m, vehicle.points);
     let asked = Hold { second, gear };
     let span = check_span(
         k,
         &vehicle.ratio,
         &vehicle.n,
-        &vehicle.p,
+        &powers,
         speeds,
         holds,
         asked,
@@ -82,7 +84,7 @@ pub fn edit(
         k,
         &vehicle.ratio,
         &vehicle.n,
-        &vehicle.p,
+        &powers,
         speeds,
         holds,
         card,

@@ -13,6 +13,7 @@ use checks::check_mended;
 use checks::check_opening;
 use checks::trip_start;
 use checks::trip_stop;
+use gears::derate;
 use gears::numbers_of;
 use rules::Answer;
 use rules::Refusal;
@@ -60,12 +61,13 @@ pub fn mend(
         hi: past(range.hi, seconds),
     };
     let k = numbers_of(vehicle);
+    let powers = derate(vehicle.margin, &vehicle.p, &vehicle.m, vehicle.points);
     let sample = Sample { second, speed };
     let span = check_mended(
         k,
         &vehicle.ratio,
         &vehicle.n,
-        &vehicle.p,
+        &powers,
         speeds,
         holds,
         sample,
@@ -79,7 +81,7 @@ pub fn mend(
         k,
         &vehicle.ratio,
         &vehicle.n,
-        &vehicle.p,
+        &powers,
         speeds,
         holds,
         card,

@@ -6,6 +6,7 @@ use checks::Hold;
 use checks::Span;
 use checks::check_opening;
 use checks::check_span;
+use gears::derate;
 use gears::numbers_of;
 use rules::Answer;
 use rules::Vehicle;
@@ -21,6 +22,7 @@ pub fn work<'a>(vehicle: Vehicle, speeds: &'a [u16], holds: &'a [u8], card: &mut
         return opening;
     };
     let k = numbers_of(vehicle);
+    let powers = derate(vehicle.margin, &vehicle.p, &vehicle.m, vehicle.points);
     let all = Span { lo: 0, hi: seconds };
     // no hold is asked for: a second past the trace leaves the holds as they are
     let none = Hold {
@@ -31,7 +33,7 @@ pub fn work<'a>(vehicle: Vehicle, speeds: &'a [u16], holds: &'a [u8], card: &mut
         k,
         &vehicle.ratio,
         &vehicle.n,
-        &vehicle.p,
+        &powers,
         speeds,
         holds,
         none,
@@ -44,7 +46,7 @@ pub fn work<'a>(vehicle: Vehicle, speeds: &'a [u16], holds: &'a [u8], card: &mut
         k,
         &vehicle.ratio,
         &vehicle.n,
-        &vehicle.p,
+        &powers,
         speeds,
         holds,
         card,

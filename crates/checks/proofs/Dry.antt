@@ -3,17 +3,17 @@
 use Prim.Native.Nat.{ℕ, zero, suc, _+_, _-_, _≤_, _<_}
 use native.Mathlib.Numerals.{add-one}
 use native.Mathlib.Omega.{arith}
-use mathlib.Core.Path.{_≡_, refl, sym, ap, subst, _∙_}
+use mathlib.Core.Path.{_≡_, refl, sym, ap, _∙_}
 use mathlib.Core.Logic.{_≢_, _⊎_, inl, inr}
 use mathlib.Core.Bool.{Bool, true, false}
 use mathlib.Core.Option.{Option, none, some}
-use mathlib.Core.List.{List}
+use mathlib.Core.List.{List, [], _∷_}
 use lib.Dec.{leb, eqb, lit<}
 use lib.IntN.{pos, natAbs, _-ℤ_}
 use lib.ListN.{length, drop}
-use borrow.Author.Tests.{ltb-false, lt-ltb, eq-eqb, ne-eqb, eqb-true, eqb-false}
+use borrow.Author.Tests.{ltb-false, lt-ltb, le-leb, lt-leb, eq-eqb, ne-eqb, eqb-true, eqb-false}
 use Rattle.rules.specs.declared.Vehicle.{Vehicle}
-use Rattle.rules.specs.Words.{_and_, _or_, at, part, first}
+use Rattle.rules.specs.Words.{_and_, _or_, at, part, first, pass}
 use Rattle.rules.specs.Units.{fastest, steepest, moving, rise, start, stop}
 use Rattle.rules.specs.Corrections.{closing, place-of, first-at, place-at}
 use Rattle.rules.specs.Refusals.{speed, step, ends, no-gear, checks, bad, seconds-fault}
@@ -25,8 +25,9 @@ use Rattle.rules.proofs.Laws.Trips.{trip-of, trip-start, start-le, stop-le, sto
 use Rattle.rules.proofs.Laws.Closing.{closing-part}
 use Rattle.rules.proofs.Laws.Cards.{first-at-is}
 use Rattle.rules.proofs.Laws.Checks.{listed, step-passed}
-use Rattle.gears.specs.Choosing.{first-of, Pace}
-use Rattle.trips.specs.Trip.{AllMoving, RunFrom}
+use Rattle.gears.specs.Choosing.{first-of}
+use Rattle.trips.specs.Ready.{Aligned, Paced}
+use Rattle.trips.specs.Trip.{AllMoving, RunFrom, on-way}
 use Rattle.trips.proofs.Clutch.{rise-here}
 use Rattle.trips.proofs.Closing.{Closing, run-start}
 use Rattle.checks.specs.Calm.{Stands}
@@ -80,6 +81,22 @@ module _ (car : Vehicle) (vs hs : List ℕ) (lo hi : ℕ) (e : seconds-fault car
 
 -- ---- a second on the way through its trip
 
+and-yes : (b : Bool) → b and true ≡ b
+unfolding _and_
+and-yes true = refl
+and-yes false = refl
+
+-- nothing is left of the way to a run that has begun
+left-none : (run done : ℕ) → leb (run - done) 0 ≡ leb run done
+left-none run done =
+    by-order done run
+    (λ l. lt-leb (run - done) 0 (omega arith) ∙ sym (lt-leb run done l))
+    (λ l. le-leb (run - done) 0 (omega arith) ∙ sym (le-leb run done l))
+
+-- one second, with the speed that follows
+pub one-aligned : (v next h g : ℕ) → Aligned (v ∷ next ∷ []) (h ∷ []) (g ∷ [])
+one-aligned v next h g = record { speeds = refl; gears = refl }
+
 module _ {vs hs : List ℕ} {a b run i : ℕ} (W : OnWay vs hs a b run i) where
   its-trip : IsTrip vs a b
   its-trip = record { some-second = omega (arith, W .since, W .until); inside = W .trip .moves; before = W .trip .before; after = W .trip .after }
@@ -89,15 +106,17 @@ module _ {vs hs : List ℕ} {a b run i : ℕ} (W : OnWay vs hs a b run i) where
       let n = length-part vs a (suc b) (W .trip .inside) in
       sym (closing-part vs its-trip (omega (arith, W .trip .inside)) i (W .since) (W .until)) ∙ W .closes .run (i - a) (omega (arith, W .since, W .until, n))
 
-  -- its speed and its step can be chosen for
-  its-pace : Pace (at vs i) (pos (at vs (i + 1)) -ℤ pos (at vs i))
-  its-pace = record {
-    v-to = W .trip .speed-to i (W .since) (W .until);
-    d-in = rw (← rise-here vs i (omega (arith, W .until, W .trip .inside))) (W .trip .step-to i (W .since) (W .until));
-  }
+  -- its speed with the one that follows: D of the two is its own
+  module _ {v next : ℕ} (here : v ≡ at vs i) (after : next ≡ at vs (i + 1)) where
+    one-rise : rise (v ∷ next ∷ []) 0 ≡ rise vs i
+    one-rise = rise-here (v ∷ next ∷ []) 0 (lit< tt) ∙ rw (here, after) (sym (rise-here vs i (omega (arith, W .until, W .trip .inside))))
 
-  pub way-pace : {v next : ℕ} → v ≡ at vs i → next ≡ at vs (i + 1) → Pace v (pos next -ℤ pos v)
-  way-pace {v} {next} e f = subst (λ (x : ℕ). Pace x (pos next -ℤ pos x)) (sym e) (subst (λ (x : ℕ). Pace (at vs i) (pos x -ℤ pos (at vs i))) (sym f) its-pace)
+    -- so that they can be chosen for
+    pub one-paced : (h : ℕ) → Paced (v ∷ next ∷ []) (h ∷ [])
+    one-paced h = record {
+      speed = λ j l. let z : j ≡ 0 = omega arith in rw (z, here) (W .trip .speed-to i (W .since) (W .until));
+      step = λ j l. let z : j ≡ 0 = omega arith in rw (z, one-rise) (W .trip .step-to i (W .since) (W .until));
+    }
 
   module _ (car : Vehicle) (ks : List ℕ) (same : length ks ≡ length hs) {before : ℕ} (last : (i ≡ a → ⊥) → before ≡ first-at car vs ks (i - 1)) where
     -- what it is in its trip
@@ -109,22 +128,13 @@ module _ {vs hs : List ℕ} {a b run i : ℕ} (W : OnWay vs hs a b run i) where
         (λ l. rw (s, closes-here, ← last (λ z. omega arith)))
         (λ l. let e : i ≡ a = omega (arith, W .since) in rw (s, eq-eqb i a e))
 
-    -- so that the choice for it is its first choice
-    chosen : {r : ℕ} → r ≡ first-of car (place-of car (eqb i a) (leb run (i - a)) before) (at vs i) (pos (at vs (i + 1)) -ℤ pos (at vs i)) (at ks i)
-        → r ≡ first-at car vs ks i
-    unfolding first-of
-    chosen e =
-        e ∙ rw (place-here, ← rise-here vs i (omega (arith, W .until, W .trip .inside)))
+    -- so that going through this one second gives its first choice
+    pub way-choice : {v next held left : ℕ} → v ≡ at vs i → next ≡ at vs (i + 1) → held ≡ at ks i → left ≡ run - (i - a) → {one : List ℕ}
+        → one ≡ pass (on-way car (v ∷ next ∷ []) (held ∷ []) (eqb i a) left before) 1 (0 ∷ []) → at one 0 ≡ first-at car vs ks i
+    unfolding pass on-way first-of
+    way-choice here after held left e =
+        rw (e, and-yes (eqb i a), left, left-none run (i - a), one-rise here after, here, held, place-here)
         (sym (first-at-is car vs ks (same ∙ W .rooms) i (W .trip .moves i (W .since) (W .until))))
-
-    pub way-choice : {r v next held : ℕ} → v ≡ at vs i → next ≡ at vs (i + 1) → held ≡ at ks i
-        → r ≡ first-of car (place-of car (eqb i a) (leb run (i - a)) before) v (pos next -ℤ pos v) held → r ≡ first-at car vs ks i
-    way-choice {r} {v} {next} {held} e f g is =
-        let here = place-of car (eqb i a) (leb run (i - a)) before in
-        chosen
-        (is ∙ ap (λ (x : ℕ). first-of car here x (pos next -ℤ pos x) held) e
-        ∙ ap (λ (x : ℕ). first-of car here (at vs i) (pos x -ℤ pos (at vs i)) held) f
-        ∙ ap (first-of car here (at vs i) (pos (at vs (i + 1)) -ℤ pos (at vs i))) g)
 
 -- ---- the seconds of a trip
 

@@ -22,7 +22,7 @@ pub fn check_mended_gears<'a>(
     k: Numbers,
     ratio: &'a [u16; 10],
     n: &'a [u16; 64],
-    p: &'a [u16; 64],
+    p: &'a [u32; 64],
     speeds: &'a [u16],
     holds: &'a [u8],
     sample: Sample,

@@ -18,7 +18,7 @@ pub fn check_span<'a>(
     k: Numbers,
     ratio: &'a [u16; 10],
     n: &'a [u16; 64],
-    p: &'a [u16; 64],
+    p: &'a [u32; 64],
     speeds: &'a [u16],
     holds: &'a [u8],
     hold: Hold,

@@ -22,7 +22,6 @@ use crate::mended_trips::stop_with;
 use crate::seconds::hold_at;
 use crate::seconds::speed_at;
 use gears::Numbers;
-use gears::choice_after;
 use gears::engine;
 use gears::minimum;
 use gears::top;
@@ -31,6 +30,7 @@ use rules::MOVING;
 use rules::Place;
 use rules::Refusal;
 use rules::STEEPEST;
+use trips::first_choices;
 
 // A trip's first second is one step above a standing one, so its speed is at most this.
 const FIRST_FASTEST: u16 = MOVING + STEEPEST - 1;
@@ -79,12 +79,23 @@ pub fn no_gap(k: Numbers, ratio: &[u16; 10], most: u16) -> bool
     covered(k, ratio)
 }
 
-// The first choice of second i of a trip, given where its closing run begins and the first choice before. Nothing is stored.
+// How far off the closing run is, seen from the trip's second `done`; 0 where it has begun.
+fn run_left(run: usize, done: usize) -> usize
+    ensures { λ r. ⌜ r ≡ run - done ⌝ }
+{
+    if run <= done {
+        return 0;
+    }
+    run - done
+}
+
+// The first choice of second i of a trip, given where its closing run begins and the first choice before: the working's own step, for one second. Nothing
+// that is lent is written.
 fn choice_in<'a>(
     k: Numbers,
     ratio: &'a [u16; 10],
     n: &'a [u16; 64],
-    p: &'a [u16; 64],
+    p: &'a [u32; 64],
     speeds: &'a [u16],
     holds: &'a [u8],
     sample: Sample,
@@ -97,11 +108,16 @@ fn choice_in<'a>(
     requires { ⌜ Parts k (now ratio) (now n) (now p) × OnWay (set (now speeds) (sample .second) (sample .speed)) (now holds) (trip .lo) (trip .hi) run i ⌝ }
     ensures { λ r. ⌜ ((car : Vehicle) → Lent car k (now (ratio .entry)) (now (n .entry)) (now (p .entry)) → ((i ≡ trip .lo → ⊥) → before ≡ first-at car (set (now (speeds .entry)) (sample .second) (sample .speed)) (set (now (holds .entry)) (hold .second) (hold .gear)) (i - 1)) → r ≡ first-at car (set (now (speeds .entry)) (sample .second) (sample .speed)) (set (now (holds .entry)) (hold .second) (hold .gear)) i) ⌝ }
 {
-    let a = trip.lo;
     let v = speed_at(speeds, sample, i);
     let next = speed_at(speeds, sample, i + 1);
     let held = hold_at(holds, hold, i);
-    choice_after(k, ratio, n, p, i == a, run <= i - a, before, v, next, held)
+    let a = trip.lo;
+    let left = run_left(run, i - a);
+    let us = [v, next];
+    let hs = [held];
+    let mut one = [0u8; 1];
+    first_choices(k, ratio, n, p, &us, &hs, i == a, left, before, &mut one);
+    one[0]
 }
 
 // The first second of a trip at which no gear fits and none is held, by a dry run of its first choices; the trip's end where there is none.
@@ -109,7 +125,7 @@ fn wanting<'a>(
     k: Numbers,
     ratio: &'a [u16; 10],
     n: &'a [u16; 64],
-    p: &'a [u16; 64],
+    p: &'a [u32; 64],
     speeds: &'a [u16],
     holds: &'a [u8],
     sample: Sample,
@@ -153,7 +169,7 @@ pub fn judge_gears<'a>(
     k: Numbers,
     ratio: &'a [u16; 10],
     n: &'a [u16; 64],
-    p: &'a [u16; 64],
+    p: &'a [u32; 64],
     speeds: &'a [u16],
     holds: &'a [u8],
     sample: Sample,
@@ -181,7 +197,7 @@ pub fn check_gears<'a>(
     k: Numbers,
     ratio: &'a [u16; 10],
     n: &'a [u16; 64],
-    p: &'a [u16; 64],
+    p: &'a [u32; 64],
     speeds: &'a [u16],
     holds: &'a [u8],
     hold: Hold,

@@ -30,7 +30,7 @@ use Rattle.gears.specs.Choosing.{power-of, PowerSized, enough-for, suits
 use Rattle.gears.proofs.Powers.{turning-of, turning-enough, sized-of}
 use Rattle.gears.proofs.Speeds.{fits-not, fits-under}
 use Rattle.gears.proofs.Down.{Down, drops, again}
-use Rattle.gears.proofs.Parts.{low-is, margin-of, engine-of}
+use Rattle.gears.proofs.Parts.{low-is, engine-of}
 
 -- the strongest of the gears up to g, by whether g beats the one of those below
 step : (car : Vehicle) (here : Place) (v g : ℕ) → 1 ≤ g
@@ -42,9 +42,9 @@ step car here v (suc k) h = let e : suc k - 1 ≡ k = omega arith in rw e
 module _ {car : Vehicle} {k : Numbers} {ratio n p : List ℕ} (L : Lent car k ratio n p) (here : Place) (v g : ℕ) where
   -- a gear that fits suits if its power is enough
   pub suits-power : {r : Bool} (e : ℤ) (a : code.Power) → fits car here v g ≡ true → power-of a ≡ power car v g
-      → r ≡ enough-for (k .margin) (power-of a) e → r ≡ suits-for car here v e g
+      → r ≡ enough-for (power-of a) e → r ≡ suits-for car here v e g
   unfolding suits-for _and_
-  suits-power e a f q h = h ∙ rw (f, q, margin-of (L .has .counts))
+  suits-power e a f q h = h ∙ rw (f, q)
 
   -- or if E is at most 0
   pub suits-none : (d : InGear k g) (e : ℤ) → fits car here v g ≡ true → leZ e (pos 0) ≡ true → true ≡ suits-for car here v e g

@@ -24,6 +24,8 @@ use Rattle.gears.proofs.bounds.check_vehicle.Kinds as check-vehicle-kin
 use Rattle.gears.proofs.bounds.check_vehicle.Reads as check-vehicle-reads
 use Rattle.gears.proofs.numbers_of.Kinds as numbers-of-kinds
 use Rattle.gears.proofs.numbers_of.Reads as numbers-of-reads
+use Rattle.gears.proofs.curve.derate.Kinds as derate-kinds
+use Rattle.gears.proofs.curve.derate.Reads as derate-reads
 use Rattle.gears.proofs.curve.segment.Kinds as segment-kinds
 use Rattle.gears.proofs.curve.segment.Reads as segment-reads
 use Rattle.gears.proofs.curve.power_at.Kinds as power-at-kinds
@@ -67,6 +69,9 @@ check-vehicle κs a asked z z′ ws ws′ p q = (said-once z z′ (p ∙ sym q),
 
 pub numbers-of : Determined numbers-of-kinds.ps numbers-of-kinds.r numbers-of-reads.Asked numbers-of-reads.Learnt
 numbers-of κs a asked z z′ ws ws′ p q = (p ∙ sym q, refl)
+
+pub derate : Determined derate-kinds.ps derate-kinds.r derate-reads.Asked derate-reads.Learnt
+derate κs a asked z z′ ws ws′ p q = (p ∙ sym q, refl)
 
 pub segment : Determined segment-kinds.ps segment-kinds.r segment-reads.Asked segment-reads.Learnt
 segment κs a asked z z′ ws ws′ p q = (p ∙ sym q, refl)

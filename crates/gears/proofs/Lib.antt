@@ -5,5 +5,6 @@ pub mod Fields
 pub mod Determined
 pub mod Halving
 pub mod Powers
+pub mod Derating
 pub mod Choices
 pub mod Down

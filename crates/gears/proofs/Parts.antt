@@ -31,9 +31,6 @@ module _ {car : Vehicle} {k : Numbers} (C : Counts car k) where
   pub nmax-of : car .nmax ≡ k .nmax
   nmax-of = ap (λ (x : Numbers). x .nmax) (C .numbers)
 
-  pub margin-of : car .margin ≡ k .margin
-  margin-of = ap (λ (x : Numbers). x .margin) (C .numbers)
-
   pub points-of : car .points ≡ k .points
   points-of = ap (λ (x : Numbers). x .points) (C .numbers)
 
@@ -72,10 +69,11 @@ built k ratio = record {
   f1 = k .f1;
   f2 = k .f2;
   tm = k .tm;
-  margin = k .margin;
+  margin = 0;
   points = k .points;
   n = [];
   p = [];
+  m = [];
 }
 
 pub built-has : (k : Numbers) (ratio : List ℕ) → Has (built k ratio) k ratio

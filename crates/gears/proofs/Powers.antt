@@ -36,9 +36,9 @@ Q-pos p1 p2 w t h =
     ∙ sym (+ℤ-assoc (pos a) (pos (p2 * t)) (negℤ (pos (p1 * t))))
     ∙ pos-sub (a + p2 * t) (p1 * t) (omega arith)
 
--- where w is positive and neither Q nor 100 - M is negative, an E of at most 0 is met
-enough-none : (e : ℤ) → leZ e (pos 0) ≡ true → (w m q : ℕ) → 0 < w → leZ (e *ℤ pos w) (pos m *ℤ pos q *ℤ pos 3240000) ≡ true
-enough-none e h w m q l = leZ-trans (e *ℤ pos w) (pos 0 *ℤ pos w) (pos (m * q * 3240000)) (leZ-scale e (pos 0) w l ∙ h) (le-leb (0 * w) (m * q * 3240000) (omega arith))
+-- where w is positive and Q is not negative, an E of at most 0 is met
+enough-none : (e : ℤ) → leZ e (pos 0) ≡ true → (w q : ℕ) → 0 < w → leZ (e *ℤ pos w) (pos q *ℤ pos 3240000) ≡ true
+enough-none e h w q l = leZ-trans (e *ℤ pos w) (pos 0 *ℤ pos w) (pos (q * 3240000)) (leZ-scale e (pos 0) w l ∙ h) (le-leb (0 * w) (q * 3240000) (omega arith))
 
 module _ {car : Vehicle} {k : Numbers} {ratio n p : List ℕ} (L : Lent car k ratio n p) (v g : ℕ) where
   -- the engine speed at which power is read
@@ -48,12 +48,6 @@ module _ {car : Vehicle} {k : Numbers} {ratio n p : List ℕ} (L : Lent car k ra
 
   segment-of : (x : ℕ) → segment car x ≡ segment-in n (k .points) x
   segment-of x = segment-parts car x ∙ rw (L .speeds, points-of (L .has .counts))
-
-  -- the power on the segment found is the gear's
-  pub power-is : {x s : ℕ} → x ≡ power-speed car v g → s ≡ segment-in n (k .points) x
-      → between (at n s) (at p s) (at n (suc s)) (at p (suc s)) x ≡ power car v g
-  unfolding power on-segment
-  power-is e f = rw (f, ← e, segment-of, L .speeds, L .powers)
 
   module _ (t : Turning k ratio v g) where
     -- that speed is at most nmax
@@ -65,6 +59,15 @@ module _ {car : Vehicle} {k : Numbers} {ratio n p : List ℕ} (L : Lent car k ra
     pub turning-on : OnSegment car (power-speed car v g) (segment car (power-speed car v g))
     unfolding power-speed
     turning-on = segment-holds car (L .bounds) (power-speed car v g) (le-max-right (engine car g v) (1000 * car .idle)) speed-to
+
+    -- the power on the segment found is the gear's
+    pub power-is : {x s : ℕ} → x ≡ power-speed car v g → s ≡ segment-in n (k .points) x
+        → between (at n s) (pos (at p s)) (at n (suc s)) (pos (at p (suc s))) x ≡ power car v g
+    unfolding power on-segment
+    power-is {x} {s} e f =
+        let on = turning-on in
+        let here : s ≡ segment car (power-speed car v g) = f ∙ rw (← segment-of, e) in
+        rw (here, e, ← L .speeds, ← L .powers (segment car (power-speed car v g)) (omega (arith, on .next-point)), ← L .powers (suc (segment car (power-speed car v g))) (on .next-point))
 
     -- the search can be made
     pub turning-curve : {x : ℕ} → x ≡ power-speed car v g → Curve n (k .points) x
@@ -87,12 +90,12 @@ module _ {car : Vehicle} {k : Numbers} {ratio n p : List ℕ} (L : Lent car k ra
     sized-of a e =
         let x = power-speed car v g in
         record {
-          q-in = subst (λ (z : Power). natAbs (z .Q) ≤ 10000000000) (sym e) (Q-size car (L .bounds) x (segment car x) turning-on);
+          q-in = subst (λ (z : Power). natAbs (z .Q) ≤ 1000000000000) (sym e) (Q-size car (L .bounds) x (segment car x) turning-on);
           w-in = subst (λ (z : Power). natAbs (z .w) ≤ 1000) (sym e) (w-size car (L .bounds) x (segment car x) turning-on);
         }
 
     -- no power is too little for an E of at most 0
-    pub turning-enough : (e : ℤ) → leZ e (pos 0) ≡ true → enough-for (car .margin) (power car v g) e ≡ true
+    pub turning-enough : (e : ℤ) → leZ e (pos 0) ≡ true → enough-for (power car v g) e ≡ true
     unfolding enough-for power on-segment between
     turning-enough e h =
         let x = power-speed car v g in
@@ -100,11 +103,12 @@ module _ {car : Vehicle} {k : Numbers} {ratio n p : List ℕ} (L : Lent car k ra
         let on = turning-on in
         let rise = L .bounds .n-rises s (on .next-point) in
         rw (
-          pos-sub 100 (car .margin) (omega (arith, L .bounds .margin-to)),
+          L .powers s (omega (arith, on .next-point)),
+          L .powers (suc s) (on .next-point),
           pos-sub (at (car .n) (suc s)) (at (car .n) s) (omega arith),
           pos-sub x (1000 * at (car .n) s) (on .from),
-          Q-pos (at (car .p) s) (at (car .p) (suc s)) (at (car .n) (suc s) - at (car .n) s) (x - 1000 * at (car .n) s) (omega (arith, on .to)),
-        ) (enough-none e h _ _ _ (omega arith))
+          Q-pos (at p s) (at p (suc s)) (at (car .n) (suc s) - at (car .n) s) (x - 1000 * at (car .n) s) (omega (arith, on .to)),
+        ) (enough-none e h _ _ (omega arith))
 
 -- a gear that fits turns the engine no faster than nmax
 pub turning-of : {car : Vehicle} {k : Numbers} {ratio : List ℕ} → Has car k ratio → (here : Place) (v g : ℕ) → InGear k g → fits car here v g ≡ true → Turning k ratio v g

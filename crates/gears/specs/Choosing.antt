@@ -7,12 +7,13 @@ use mathlib.Core.Bool.{Bool, true}
 use mathlib.Core.List.{List}
 use mathlib.Core.Option.{Option·getD}
 use lib.Dec.{leb, eqb}
-use lib.IntN.{ℤ, pos, natAbs, _-ℤ_, _*ℤ_}
+use lib.ListN.{replicate}
+use lib.IntN.{ℤ, pos, natAbs, _*ℤ_}
 use lib.Signed.{leZ}
 use Rattle.rules.specs.declared.Vehicle.{Vehicle}
 use Rattle.rules.specs.declared.Place.{Place}
 use Rattle.rules.specs.declared.Place.the-variants.{First}
-use Rattle.rules.specs.Words.{if_then_else_, _and_, _or_, at, first}
+use Rattle.rules.specs.Words.{if_then_else_, _and_, _or_, at, first, pass}
 use Rattle.rules.specs.Gears.{Power, fits, power, strongest, choose, reaches, segment}
 use Rattle.rules.specs.Units.{fastest, steepest, rise}
 use Rattle.rules.specs.Corrections.{here, first-choice}
@@ -22,10 +23,14 @@ use Rattle.gears.specs.declared.Best.{Best}
 
 -- ---- the curve
 
--- r is the whole number x, of 16 bits, with a sign
-pub record Signed (x : ℕ) (r : ℤ) : Type 0 where
+-- the available power of each point, p x (100 - M - m), of points so many, and 0 past them
+unfoldable pub available : ℕ → List ℕ → List ℕ → ℕ → List ℕ
+available margin p m points = pass (λ i done. at p i * (100 - margin - at m i)) points (replicate 64 0)
+
+-- r is the whole number x, at most so large, with a sign
+pub record Signed (bound x : ℕ) (r : ℤ) : Type 0 where
   pub same : r ≡ pos x
-  pub most : x ≤ 65535
+  pub most : x ≤ bound
 
 -- the segment of x, from the curve's engine speeds and the number of its points
 unfoldable pub segment-in : List ℕ → ℕ → ℕ → ℕ
@@ -62,26 +67,25 @@ pub record Turning (k : Numbers) (ratio : List ℕ) (v g : ℕ) : Type 0 where
 
 -- a power within its bounds
 pub record PowerSized (r : code.Power) : Type 0 where
-  pub q-in : natAbs (r .q) ≤ 10000000000
+  pub q-in : natAbs (r .q) ≤ 1000000000000
   pub w-in : natAbs (r .w) ≤ 1000
 
 -- the largest E of a vehicle in bounds
 abbrev pub most-E : ℕ
 most-E = 4890000000000000
 
--- a margin, a power and an E within their bounds
-pub record Weighed (margin : ℕ) (a : code.Power) (e : ℤ) : Type 0 where
-  pub margin-to : margin ≤ 50
+-- a power and an E within their bounds
+pub record Weighed (a : code.Power) (e : ℤ) : Type 0 where
   pub sized : PowerSized a
   pub e-in : natAbs e ≤ most-E
 
 -- a power is enough for E
-unfoldable pub enough-for : ℕ → Power → ℤ → Bool
-enough-for margin a e = leZ (e *ℤ a .w) ((pos 100 -ℤ pos margin) *ℤ a .Q *ℤ pos 3240000)
+unfoldable pub enough-for : Power → ℤ → Bool
+enough-for a e = leZ (e *ℤ a .w) (a .Q *ℤ pos 3240000)
 
 -- a gear fits and has enough power for E
 unfoldable pub suits-for : Vehicle → Place → ℕ → ℤ → ℕ → Bool
-suits-for car here v e g = fits car here v g and enough-for (car .margin) (power car v g) e
+suits-for car here v e g = fits car here v g and enough-for (power car v g) e
 
 -- one of the gears
 pub record InGear (k : Numbers) (g : ℕ) : Type 0 where

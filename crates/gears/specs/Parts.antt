@@ -1,10 +1,13 @@
 -- A vehicle in parts: what its numbers and its lent arrays say of it. A contract that does not look at a part holds for every vehicle that has the
 -- others.
 -- Assumes nothing.
-use Prim.Native.Nat.{ℕ}
+use Prim.Native.Nat.{ℕ, _<_}
 use mathlib.Core.Path.{_≡_}
 use mathlib.Core.List.{List}
+use lib.IntN.{pos}
 use Rattle.rules.specs.declared.Vehicle.{Vehicle}
+use Rattle.rules.specs.Words.{at}
+use Rattle.rules.specs.Gears.{derated}
 use Rattle.rules.specs.Vocabulary.{InBounds}
 use Rattle.gears.specs.declared.Numbers.{Numbers}
 
@@ -19,7 +22,6 @@ numbers-of car = record {
   f1 = car .f1;
   f2 = car .f2;
   tm = car .tm;
-  margin = car .margin;
   points = car .points;
 }
 
@@ -32,11 +34,11 @@ pub record Has (car : Vehicle) (k : Numbers) (ratio : List ℕ) : Type 0 where
   pub counts : Counts car k
   pub ratios : car .ratio ≡ ratio
 
--- a vehicle in bounds that has these numbers, ratios and points
+-- a vehicle in bounds that has these numbers, ratios and points, p their available powers
 pub record Lent (car : Vehicle) (k : Numbers) (ratio n p : List ℕ) : Type 0 where
   pub has : Has car k ratio
   pub speeds : car .n ≡ n
-  pub powers : car .p ≡ p
+  pub powers : (i : ℕ) → i < car .points → derated car i ≡ pos (at p i)
   pub bounds : InBounds car
 
 -- these are the parts of a vehicle in bounds

@@ -1,7 +1,11 @@
 -- What the functions of one second ask of their arguments.
 -- Assumes nothing.
-use Prim.Native.Nat.{ℕ, _≤_}
+use Prim.Native.Nat.{ℕ, _+_, _≤_, _<_}
+use mathlib.Core.Path.{_≡_}
+use mathlib.Core.List.{List}
 use lib.IntN.{ℤ, natAbs}
+use Rattle.rules.specs.declared.Vehicle.{Vehicle}
+use Rattle.rules.specs.Words.{at}
 use Rattle.rules.specs.Units.{fastest, steepest}
 use Rattle.gears.specs.declared.Numbers.{Numbers}
 
@@ -30,6 +34,18 @@ pub record Geared (k : Numbers) : Type 0 where
 pub record Points (count : ℕ) : Type 0 where
   pub from : 1 ≤ count
   pub to : count ≤ 64
+
+-- the vehicle has this curve, and this margin M
+pub record CurveOf (car : Vehicle) (n p m : List ℕ) (margin : ℕ) : Type 0 where
+  pub speeds : car .n ≡ n
+  pub powers : car .p ≡ p
+  pub margins : car .m ≡ m
+  pub margin-is : car .margin ≡ margin
+
+-- points that the curve's arrays have places for, and margins that leave something of their power
+pub record Derates (margin : ℕ) (m : List ℕ) (points : ℕ) : Type 0 where
+  pub to : points ≤ 64
+  pub left : (i : ℕ) → i < points → margin + at m i ≤ 90
 
 -- a vehicle's road load, a speed and a step in bounds
 pub record Load (k : Numbers) (v : ℕ) (d : ℤ) : Type 0 where

@@ -8,7 +8,7 @@ ghost use Rattle.rules.specs.Words.{_and_, _or_, within, at, every};
 ghost use Rattle.rules.specs.Units.{ratio-good, point-good};
 ghost use Rattle.rules.specs.Refusals.{said, vehicle-fault};
 ghost use Rattle.rules.specs.declared.Vehicle.{Vehicle};
-ghost use Rattle.gears.specs.Second.{Gear, Points};
+ghost use Rattle.gears.specs.Second.{Gear, Points, CurveOf};
 use rules::Answer;
 use rules::Refusal;
 use rules::Vehicle;
@@ -70,10 +70,27 @@ fn point_rises(n: &[u16; 64], k: usize) -> bool
     x - lower <= 1000
 }
 
-// A point's n is 1 to 16,000 and rises, and its p is at most 5,000.
-fn point_good<'a>(n: &'a [u16; 64], p: &'a [u16; 64], k: usize) -> bool
-    requires { ⌜ k < 64 ⌝ }
-    ensures { λ r. ⌜ ((car : Vehicle) → car .n ≡ now (n .entry) → car .p ≡ now (p .entry) → r ≡ point-good car k) ⌝ }
+// A point's margin is at most 50, and at most 90 with M.
+fn margin_good(margin: u16, m: u16) -> bool
+    requires { ⌜ margin ≤ 50 ⌝ }
+    ensures { λ r. ⌜ r ≡ (leb m 50 and leb (margin + m) 90) ⌝ }
+{
+    if m > 50 {
+        return false;
+    }
+    margin + m <= 90
+}
+
+// A point's n is 1 to 16,000 and rises, its p is at most 5,000, and its margin is good.
+fn point_good<'a>(
+    n: &'a [u16; 64],
+    p: &'a [u16; 64],
+    m: &'a [u16; 64],
+    margin: u16,
+    k: usize,
+) -> bool
+    requires { ⌜ (k < 64) × (margin ≤ 50) ⌝ }
+    ensures { λ r. ⌜ ((car : Vehicle) → CurveOf car (now (n .entry)) (now (p .entry)) (now (m .entry)) margin → r ≡ point-good car k) ⌝ }
 {
     if !within(1, 16000, n[k]) {
         return false;
@@ -81,18 +98,27 @@ fn point_good<'a>(n: &'a [u16; 64], p: &'a [u16; 64], k: usize) -> bool
     if !point_rises(n, k) {
         return false;
     }
-    p[k] <= 5000
+    if p[k] > 5000 {
+        return false;
+    }
+    margin_good(margin, m[k])
 }
 
 // So are the points 0 to points - 1.
-fn points_good<'a>(n: &'a [u16; 64], p: &'a [u16; 64], points: u16) -> bool
-    requires { ⌜ points ≤ 64 ⌝ }
-    ensures { λ r. ⌜ ((car : Vehicle) → car .n ≡ now (n .entry) → car .p ≡ now (p .entry) → r ≡ every (point-good car) 0 points) ⌝ }
+fn points_good<'a>(
+    n: &'a [u16; 64],
+    p: &'a [u16; 64],
+    m: &'a [u16; 64],
+    margin: u16,
+    points: u16,
+) -> bool
+    requires { ⌜ (points ≤ 64) × (margin ≤ 50) ⌝ }
+    ensures { λ r. ⌜ ((car : Vehicle) → CurveOf car (now (n .entry)) (now (p .entry)) (now (m .entry)) margin → r ≡ every (point-good car) 0 points) ⌝ }
 {
     let end = points as usize;
     let mut k: usize = 0;
     while k < end {
-        if !point_good(n, p, k) {
+        if !point_good(n, p, m, margin, k) {
             return false;
         }
         k += 1;
@@ -169,7 +195,7 @@ pub fn check_vehicle(car: Vehicle) -> Answer
     if !within(2, 64, car.points) {
         return Answer::Refused(Refusal::VehicleField(11));
     }
-    if !points_good(&car.n, &car.p, car.points) {
+    if !points_good(&car.n, &car.p, &car.m, car.margin, car.points) {
         return Answer::Refused(Refusal::VehicleField(12));
     }
     if !ends_good(&car.n, car.points, car.idle, car.nmax) {

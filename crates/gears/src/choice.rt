@@ -25,11 +25,11 @@ use crate::second::top;
 use rules::Place;
 
 // Whether a power is enough for E. E keeps its sign: negative while braking.
-pub fn enough(margin: u16, a: Power, e: i64) -> bool
-    requires { ⌜ Weighed margin a e ⌝ }
-    ensures { λ r. ⌜ r ≡ enough-for margin (power-of a) e ⌝ }
+pub fn enough(a: Power, e: i64) -> bool
+    requires { ⌜ Weighed a e ⌝ }
+    ensures { λ r. ⌜ r ≡ enough-for (power-of a) e ⌝ }
 {
-    (100 - margin as i64) * a.q * 3_240_000 >= e * a.w
+    a.q * 3_240_000 >= e * a.w
 }
 
 // Whether the first of two powers is more than the second.
@@ -60,7 +60,7 @@ fn suits<'a>(
     k: Numbers,
     ratio: &'a [u16; 10],
     n: &'a [u16; 64],
-    p: &'a [u16; 64],
+    p: &'a [u32; 64],
     here: Place,
     v: u16,
     e: i64,
@@ -76,7 +76,7 @@ fn suits<'a>(
             return true;
         }
         let a = power_at(k, ratio, n, p, v, g);
-        return enough(k.margin, a, e);
+        return enough(a, e);
     }
     false
 }
@@ -87,7 +87,7 @@ fn stronger<'a>(
     k: Numbers,
     ratio: &'a [u16; 10],
     n: &'a [u16; 64],
-    p: &'a [u16; 64],
+    p: &'a [u32; 64],
     here: Place,
     v: u16,
     g: usize,
@@ -114,7 +114,7 @@ pub fn strongest<'a>(
     k: Numbers,
     ratio: &'a [u16; 10],
     n: &'a [u16; 64],
-    p: &'a [u16; 64],
+    p: &'a [u32; 64],
     here: Place,
     v: u16,
 ) -> usize
@@ -163,7 +163,7 @@ pub fn choose<'a>(
     k: Numbers,
     ratio: &'a [u16; 10],
     n: &'a [u16; 64],
-    p: &'a [u16; 64],
+    p: &'a [u32; 64],
     here: Place,
     v: u16,
     d: i64,
@@ -194,7 +194,7 @@ pub fn first_choice<'a>(
     k: Numbers,
     ratio: &'a [u16; 10],
     n: &'a [u16; 64],
-    p: &'a [u16; 64],
+    p: &'a [u32; 64],
     here: Place,
     v: u16,
     d: i64,
@@ -231,7 +231,7 @@ pub fn choice_after<'a>(
     k: Numbers,
     ratio: &'a [u16; 10],
     n: &'a [u16; 64],
-    p: &'a [u16; 64],
+    p: &'a [u32; 64],
     begins: bool,
     closes: bool,
     before: u8,

@@ -1,11 +1,13 @@
-// The full-load power curve: the segment of an engine speed, and the power there.
+// The power curve: the available power of its points, the segment of an engine speed, and the power there.
 ghost use mathlib.Core.Path.{_≡_};
-ghost use Prim.Native.Nat.{suc, _*_, _≤_, max};
+ghost use Prim.Native.Nat.{suc, _+_, _-_, _*_, _≤_, max};
 ghost use Rattle.rules.specs.Words.{at};
 ghost use Rattle.rules.specs.Gears.{between, power};
+ghost use lib.IntN.{pos};
 ghost use Rattle.rules.specs.declared.Vehicle.{Vehicle};
 ghost use Rattle.gears.specs.Parts.{Lent, Parts};
-ghost use Rattle.gears.specs.Choosing.{Signed, segment-in, Curve, Segment, power-of, Turning};
+ghost use Rattle.gears.specs.Second.{Derates};
+ghost use Rattle.gears.specs.Choosing.{available, Signed, segment-in, Curve, Segment, power-of, Turning};
 use crate::Numbers;
 use crate::Power;
 use crate::second::engine;
@@ -19,9 +21,39 @@ fn thousandths(x: u16) -> u64
 
 // A number of the record with a sign.
 fn signed(x: u16) -> i64
-    ensures { λ r. ⌜ Signed x r ⌝ }
+    ensures { λ r. ⌜ Signed 65535 x r ⌝ }
 {
     x as i64
+}
+
+// An available power with a sign.
+fn signed_power(x: u32) -> i64
+    ensures { λ r. ⌜ Signed 4294967295 x r ⌝ }
+{
+    x as i64
+}
+
+// The available power of a point: p x (100 - M - m).
+fn derated(margin: u16, p: u16, m: u16) -> u32
+    requires { ⌜ margin + m ≤ 90 ⌝ }
+    ensures { λ r. ⌜ r ≡ p * (100 - margin - m) ⌝ }
+{
+    (p as u32) * ((100 - margin - m) as u32)
+}
+
+// The available power of each point; places past the points are 0. It is worked out once a call, and lent on in place of p.
+pub fn derate<'a>(margin: u16, p: &'a [u16; 64], m: &'a [u16; 64], points: u16) -> [u32; 64]
+    requires { ⌜ Derates margin (now m) points ⌝ }
+    ensures { λ r. ⌜ r ≡ available margin (now (p .entry)) (now (m .entry)) points ⌝ }
+{
+    let mut powers = [0u32; 64];
+    let end = points as usize;
+    let mut i: usize = 0;
+    while i < end {
+        powers[i] = derated(margin, p[i], m[i]);
+        i += 1;
+    }
+    powers
 }
 
 // The segment of x, found by halving: the segment is from lo up to hi.
@@ -43,14 +75,14 @@ pub fn segment(n: &[u16; 64], points: u16, x: u64) -> usize
 }
 
 // The power at x on a segment.
-fn on_segment<'a>(n: &'a [u16; 64], p: &'a [u16; 64], x: u64, s: usize) -> Power
+fn on_segment<'a>(n: &'a [u16; 64], p: &'a [u32; 64], x: u64, s: usize) -> Power
     requires { ⌜ Segment x s ⌝ }
-    ensures { λ r. ⌜ power-of r ≡ between (at (now (n .entry)) s) (at (now (p .entry)) s) (at (now (n .entry)) (suc s)) (at (now (p .entry)) (suc s)) x ⌝ }
+    ensures { λ r. ⌜ power-of r ≡ between (at (now (n .entry)) s) (pos (at (now (p .entry)) s)) (at (now (n .entry)) (suc s)) (pos (at (now (p .entry)) (suc s))) x ⌝ }
 {
     let n1 = signed(n[s]);
-    let p1 = signed(p[s]);
+    let p1 = signed_power(p[s]);
     let w = signed(n[s + 1]) - n1;
-    let q = 1000 * p1 * w + (signed(p[s + 1]) - p1) * (x as i64 - 1000 * n1);
+    let q = 1000 * p1 * w + (signed_power(p[s + 1]) - p1) * (x as i64 - 1000 * n1);
     Power { q: q, w: w }
 }
 
@@ -67,7 +99,7 @@ pub fn power_at<'a>(
     k: Numbers,
     ratio: &'a [u16; 10],
     n: &'a [u16; 64],
-    p: &'a [u16; 64],
+    p: &'a [u32; 64],
     v: u16,
     g: usize,
 ) -> Power

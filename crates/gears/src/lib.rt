@@ -10,6 +10,7 @@ mod second;
 
 pub use bounds::check_vehicle;
 pub use choice::choice_after;
+pub use curve::derate;
 use rules::Vehicle;
 pub use second::engine;
 pub use second::floor;
@@ -27,11 +28,10 @@ pub struct Numbers {
     pub f1: i32,
     pub f2: u16,
     pub tm: u16,
-    pub margin: u16,
     pub points: u16,
 }
 
-// The power at a gear: Q/(1000 w) tenths of kW.
+// The available power at a gear: Q/(100,000 w) tenths of kW.
 pub struct Power {
     pub q: i64,
     pub w: i64,
@@ -56,7 +56,6 @@ pub fn numbers_of(car: Vehicle) -> Numbers
         f1: car.f1,
         f2: car.f2,
         tm: car.tm,
-        margin: car.margin,
         points: car.points,
     }
 }

@@ -30,22 +30,22 @@ said-done a e = said-once a Done e
 
 -- ---- what is written reads back as the same job
 
--- a job that was read: done, this vehicle, these speeds and holds at the start of the rooms
-pub record SameJob (car : Vehicle) (vs hs s₀ h₀ : List ℕ) (r : Reading) (s h : List ℕ) : Type 0 where
+-- a job that was read: done, this version and vehicle, these speeds and holds at the start of the rooms
+pub record SameJob (v : ℕ) (car : Vehicle) (vs hs s₀ h₀ : List ℕ) (r : Reading) (s h : List ℕ) : Type 0 where
   pub done : r .answer ≡ Done
-  pub version : r .version ≡ 1
+  pub version : r .version ≡ v
   pub vehicle : r .vehicle ≡ cleared car
   pub count : r .count ≡ length vs
   pub speeds : s ≡ filled s₀ vs
   pub holds : h ≡ filled h₀ hs
 
-pub written-then-read : {car : Vehicle} {vs hs room : List ℕ} {w : Written} {room′ : List ℕ} → WriteAs car vs hs room w room′ → w .answer ≡ Done
+pub written-then-read : {v : ℕ} {car : Vehicle} {vs hs room : List ℕ} {w : Written} {room′ : List ℕ} → WriteAs v car vs hs room w room′ → w .answer ≡ Done
     → {s₀ h₀ s h : List ℕ} {r : Reading} → length vs ≤ length s₀ → length vs ≤ length h₀ → ReadAs (take (w .length) room′) s₀ h₀ r s h
-    → SameJob car vs hs s₀ h₀ r s h
+    → SameJob v car vs hs s₀ h₀ r s h
 unfolding reading write-room job-from read-fault job-of
-written-then-read {car} {vs} {hs} {room} {w} {room′} a d {s₀} {h₀} x y b =
-    let start : take (w .length) room′ ≡ written car vs hs room = rw (a .room-left) (filled-start room (written car vs hs room) (w .length) (a .the-length) .1) in
-    let e = ap (λ (l : List ℕ). job-read l (length s₀) (length h₀)) start ∙ written-reads-back car vs hs room (none-refused (a .answered) d) (length s₀) (length h₀) x y in
+written-then-read {v} {car} {vs} {hs} {room} {w} {room′} a d {s₀} {h₀} x y b =
+    let start : take (w .length) room′ ≡ written v car vs hs room = rw (a .room-left) (filled-start room (written v car vs hs room) (w .length) (a .the-length) .1) in
+    let e = ap (λ (l : List ℕ). job-read l (length s₀) (length h₀)) start ∙ written-reads-back v car vs hs room (none-refused (a .answered) d) (length s₀) (length h₀) x y in
     record {
       done = said-done _ (b .answered ∙ rw e);
       version = b .the-version ∙ rw e;
@@ -55,7 +55,7 @@ written-then-read {car} {vs} {hs} {room} {w} {room′} a d {s₀} {h₀} x y b =
       holds = b .holds-left ∙ rw e;
     }
 
--- ---- a job that the reader accepts and that passes checks 1 to 9 is written as the same bytes
+-- ---- a job that the reader accepts and that passes checks 1 to 9 is written, in its own version, as the same bytes
 
 -- it was read
 was-read : (m : Read Job) → read-fault m ≡ none → (end : ℕ) × (m ≡ got (job-of m) end)
@@ -71,14 +71,14 @@ pub record SameBytes (bytes room : List ℕ) (w : Written) (room′ : List ℕ) 
 
 pub read-then-written : {bytes s₀ h₀ s h : List ℕ} {r : Reading} → Bytes bytes → ReadAs bytes s₀ h₀ r s h → r .answer ≡ Done
     → job-fault (r .vehicle) (take (r .count) s) (take (r .count) h) ≡ none
-    → {room : List ℕ} {w : Written} {room′ : List ℕ} → length bytes ≤ length room → WriteAs (r .vehicle) (take (r .count) s) (take (r .count) h) room w room′
+    → {room : List ℕ} {w : Written} {room′ : List ℕ} → length bytes ≤ length room → WriteAs (r .version) (r .vehicle) (take (r .count) s) (take (r .count) h) room w room′
     → SameBytes bytes room w room′
 unfolding reading write-room
 read-then-written {bytes} {s₀} {h₀} {s} {h} {r} all-bytes a d ok {room} {w} {room′} l b =
     let m = was-read (reading bytes s₀ h₀) (none-refused (a .answered) d) in
     let q = rooms a in
     let ok′ = rw (q .speeds-are, q .holds-are, a .the-vehicle) at ok in
-    let b′ = rw (q .speeds-are, q .holds-are, a .the-vehicle) at b in
+    let b′ = rw (q .speeds-are, q .holds-are, a .the-vehicle, a .the-version) at b in
     let t = read-writes-back bytes all-bytes (length s₀) (length h₀) (m .1) ok′ room l in
     record {
       done = said-done _ (b′ .answered ∙ t .0);

@@ -42,32 +42,32 @@ module _ {job speeds holds : List ℕ} {r : Reading} {speeds′ holds′ : List 
       (R .speeds-left ∙ fills-none speeds (n .0), R .holds-left ∙ fills-none holds (n .1))
 
 -- where writing is refused there are no bytes to put
-nothing-written : (car : Vehicle) (vs hs room : List ℕ) (q : Fault) → write-fault car vs hs room ≡ some q → written car vs hs room ≡ []
+nothing-written : (v : ℕ) (car : Vehicle) (vs hs room : List ℕ) (q : Fault) → write-fault v car vs hs room ≡ some q → written v car vs hs room ≡ []
 unfolding written left
-nothing-written car vs hs room q e = rw e
+nothing-written v car vs hs room q e = rw e
 
-module _ {car : Vehicle} {vs hs room : List ℕ} {w : Written} {room′ : List ℕ} (W : WriteAs car vs hs room w room′) where
-  -- ---- Demand 1, of the writer: 1 to 9 as in the working, then 17, and a refusal writes nothing
+module _ {v : ℕ} {car : Vehicle} {vs hs room : List ℕ} {w : Written} {room′ : List ℕ} (W : WriteAs v car vs hs room w room′) where
+  -- ---- Demand 1, of the writer: 14, 1 to 9 as in the working, then 17, and a refusal writes nothing
 
-  pub demand-1-table-write : said (w .answer) ≡ write-fault car vs hs room
+  pub demand-1-table-write : said (w .answer) ≡ write-fault v car vs hs room
   demand-1-table-write = W .answered
 
   pub demand-1-untouched-write : (q : Fault) → said (w .answer) ≡ some q → (room′ ≡ room) × (w .length ≡ 0)
   unfolding write-room
   demand-1-untouched-write q e =
-      let n = nothing-written car vs hs room q (sym (W .answered) ∙ e) in
+      let n = nothing-written v car vs hs room q (sym (W .answered) ∙ e) in
       (W .room-left ∙ fills-none room n, W .the-length ∙ ap length n)
 
 -- ---- Demand 2. From request One on it speaks of both directions: what is written reads back as the same job, and a job that is read and passes the working's
--- checks is written as the same bytes
+-- checks is written as the same bytes; from request Six on of both versions
 
-module _ {car : Vehicle} {vs hs room : List ℕ} {w : Written} {room′ : List ℕ} (W : WriteAs car vs hs room w room′) where
+module _ {v : ℕ} {car : Vehicle} {vs hs room : List ℕ} {w : Written} {room′ : List ℕ} (W : WriteAs v car vs hs room w room′) where
   pub demand-2-reads-back : w .answer ≡ Done → {s₀ h₀ s h : List ℕ} {r : Reading} → length vs ≤ length s₀ → length vs ≤ length h₀ → ReadAs (take (w .length) room′) s₀ h₀ r s h
-      → SameJob car vs hs s₀ h₀ r s h
+      → SameJob v car vs hs s₀ h₀ r s h
   demand-2-reads-back = written-then-read W
 
 module _ {bytes s₀ h₀ s h : List ℕ} {r : Reading} (R : ReadAs bytes s₀ h₀ r s h) where
   pub demand-2-writes-back : Bytes bytes → r .answer ≡ Done → job-fault (r .vehicle) (take (r .count) s) (take (r .count) h) ≡ none
-      → {room : List ℕ} {w : Written} {room′ : List ℕ} → length bytes ≤ length room → WriteAs (r .vehicle) (take (r .count) s) (take (r .count) h) room w room′
+      → {room : List ℕ} {w : Written} {room′ : List ℕ} → length bytes ≤ length room → WriteAs (r .version) (r .vehicle) (take (r .count) s) (take (r .count) h) room w room′
       → SameBytes bytes room w room′
   demand-2-writes-back all-bytes = read-then-written all-bytes R

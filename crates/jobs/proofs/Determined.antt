@@ -42,5 +42,5 @@ write κs a asked z z′ ws ws′ p q = (
     answer = said-once (z .answer) (z′ .answer) (p .answered ∙ sym (q .answered)) i;
     length = (p .the-length ∙ sym (q .the-length)) i;
   },
-  λ i. (tt, (tt, (tt, ((p .room-left ∙ sym (q .room-left)) i, tt)))),
+  λ i. (tt, (tt, (tt, (tt, ((p .room-left ∙ sym (q .room-left)) i, tt))))),
 )

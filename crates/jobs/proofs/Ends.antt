@@ -16,7 +16,7 @@ use Rattle.rules.specs.declared.Answer.{Answer}
 use Rattle.rules.specs.declared.Answer.the-variants.{Done, Refused}
 use Rattle.rules.specs.Refusals.{Fault, number, place, said, refuse-at, _orelse_, when, left}
 use Rattle.rules.specs.Job.{filled}
-use Rattle.rules.specs.Write.{job-bytes, job-fault, short-fault, write-fault, written, write-room}
+use Rattle.rules.specs.Write.{job-bytes, checks-fault, short-fault, write-fault, written, write-room}
 use Rattle.rules.proofs.Laws.Writes.{enough-room}
 use Rattle.jobs.specs.declared.Written.{Written}
 use Rattle.jobs.specs.Writing.{Put, BytesAs, WriteAs}
@@ -41,17 +41,17 @@ bytes-as bytes room p =
       room-left = rw t (p .now-is ∙ (sets-eq bytes room 0 (omega arith) ∙ rw zero-add));
     }
 
-module _ (car : Vehicle) (vs hs room : List ℕ) where
-  -- checks 1 to 9 passed, so only the room is left to be refused
-  pub write-as : {r : Written} {room′ : List ℕ} → job-fault car vs hs ≡ none → BytesAs (job-bytes car vs hs) room r room′ → WriteAs car vs hs room r room′
+module _ (v : ℕ) (car : Vehicle) (vs hs room : List ℕ) where
+  -- 14 and checks 1 to 9 passed, so only the room is left to be refused
+  pub write-as : {r : Written} {room′ : List ℕ} → checks-fault v car vs hs ≡ none → BytesAs (job-bytes v car vs hs) room r room′ → WriteAs v car vs hs room r room′
   unfolding write-fault written write-room _orelse_
   write-as e b = record { answered = rw e (b .answered); the-length = rw e (b .the-length); room-left = rw e (b .room-left) }
 
   -- they refuse: nothing is written
-  pub refused-as : {a : Answer} {q : Refusal} → said a ≡ job-fault car vs hs → a ≡ Refused q → WriteAs car vs hs room (record { answer = a; length = 0 }) room
+  pub refused-as : {a : Answer} {q : Refusal} → said a ≡ checks-fault v car vs hs → a ≡ Refused q → WriteAs v car vs hs room (record { answer = a; length = 0 }) room
   unfolding said write-fault written write-room _orelse_ left filled
   refused-as {a} {q} s d =
-      let e : job-fault car vs hs ≡ some (record { no = number q; spot = place q }) = sym s ∙ rw d in
+      let e : checks-fault v car vs hs ≡ some (record { no = number q; spot = place q }) = sym s ∙ rw d in
       record { answered = rw e (s ∙ e); the-length = rw e; room-left = rw e }
 
 -- they are done: nothing is refused

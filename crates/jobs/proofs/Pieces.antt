@@ -3,18 +3,20 @@
 use Prim.Native.Nat.{ℕ, suc, _+_, _-_, _≤_, _<_}
 use native.Mathlib.Nat.{add-zero}
 use native.Mathlib.Omega.{arith}
+use Prim.{Unit, tt}
+use mathlib.Core.Bool.{true, false}
 use mathlib.Core.Path.{_≡_, refl, sym, ap, _∙_}
 use mathlib.Core.List.{List, [], _∷_, _++_, append-nil, append-assoc}
 use lib.ListN.{length, drop, set, length-append, drop-of-length-le}
 use lib.Seq.{sets, length-sets, drop-cons, getD-drop, drop-drop}
-use lib.Dec.{eqb}
+use lib.Dec.{leb, eqb}
 use Rattle.rules.specs.Words.{at, table}
 use Rattle.rules.specs.Groups.{form}
-use Rattle.rules.specs.Forms.{value, _then_, row-write, row, many}
+use Rattle.rules.specs.Forms.{value, known, only-if, _then_, row-write, row, many}
 use Rattle.rules.specs.Job.{point, points-of, gather}
 use Rattle.rules.proofs.Laws.Words.{by-test}
 use Rattle.rules.proofs.Laws.Groups.{form-size}
-use Rattle.jobs.specs.Writing.{values-bytes, pairs-bytes, hold-bytes, held-one, Put}
+use Rattle.jobs.specs.Writing.{values-bytes, pair, pairs-bytes, margin, margins-bytes, points-bytes, hold-bytes, held-one, Put}
 
 -- ---- one piece after another
 
@@ -99,7 +101,7 @@ values-begin room start vs k h = said-as (sym (values-all vs k)) (all-left room 
 -- ---- pairs in a row
 
 pub pair-more : (x : ℕ × ℕ) (l : List (ℕ × ℕ)) → pairs-bytes (x ∷ l) ≡ form (x .0) ++ (form (x .1) ++ pairs-bytes l)
-unfolding many row row-write point _then_ value
+unfolding many row row-write pair _then_ value
 pair-more x l = rw append-assoc
 
 pub pair-none : pairs-bytes [] ≡ []
@@ -107,26 +109,73 @@ unfolding many row row-write
 pair-none = refl
 
 -- points, of which i are put
-abbrev pub points-left : List ℕ → List ℕ → ℕ → ℕ → List ℕ
-points-left ns ps k i = pairs-bytes (points-of (k - i) (drop i ns) (drop i ps))
+point-more : (v : ℕ) (x : ℕ × (ℕ × ℕ)) (l : List (ℕ × (ℕ × ℕ))) → points-bytes v (x ∷ l) ≡ form (x .0) ++ (form (x .1 .0) ++ (margin v .write (x .1 .1) ++ points-bytes v l))
+unfolding many row row-write point _then_ value
+point-more v x l = rw (append-assoc, append-assoc)
 
-pub points-more : (ns ps : List ℕ) (k i : ℕ) → i < k → points-left ns ps k i ≡ form (at ns i) ++ (form (at ps i) ++ points-left ns ps k (suc i))
+point-none : (v : ℕ) → points-bytes v [] ≡ []
+unfolding many row row-write
+point-none v = refl
+
+abbrev pub points-left : ℕ → List ℕ → List ℕ → List ℕ → ℕ → ℕ → List ℕ
+points-left v ns ps ms k i = points-bytes v (points-of (k - i) (drop i ns) (drop i ps) (drop i ms))
+
+pub points-more : (v : ℕ) (ns ps ms : List ℕ) (k i : ℕ) → i < k
+    → points-left v ns ps ms k i ≡ form (at ns i) ++ (form (at ps i) ++ (margin v .write (at ms i) ++ points-left v ns ps ms k (suc i)))
 unfolding points-of
-points-more ns ps k i h =
+points-more v ns ps ms k i h =
     let z : k - i ≡ suc (k - suc i) = omega arith in
     let e : i + 1 ≡ suc i = omega arith in
     let o : i + 0 ≡ i = omega arith in
-    rw (z, pair-more, getD-drop i ns 0 0, getD-drop i ps 0 0, o, drop-drop 1 i ns, drop-drop 1 i ps, e)
+    rw (z, point-more, getD-drop i ns 0 0, getD-drop i ps 0 0, getD-drop i ms 0 0, o, drop-drop 1 i ns, drop-drop 1 i ps, drop-drop 1 i ms, e)
 
-pub points-none : (ns ps : List ℕ) (k i : ℕ) → k ≤ i → points-left ns ps k i ≡ []
+pub points-none : (v : ℕ) (ns ps ms : List ℕ) (k i : ℕ) → k ≤ i → points-left v ns ps ms k i ≡ []
 unfolding points-of
-points-none ns ps k i h = let z : k - i ≡ 0 = omega arith in rw z pair-none
+points-none v ns ps ms k i h = let z : k - i ≡ 0 = omega arith in rw z (point-none v)
 
-pub points-begin : (room : List ℕ) (start : ℕ) (ns ps : List ℕ) (k : ℕ) → start + length (pairs-bytes (points-of k ns ps)) ≤ length room
-    → Left room start (pairs-bytes (points-of k ns ps)) room start (points-left ns ps k 0)
-points-begin room start ns ps k h =
+pub points-begin : (v : ℕ) (room : List ℕ) (start : ℕ) (ns ps ms : List ℕ) (k : ℕ) → start + length (points-bytes v (points-of k ns ps ms)) ≤ length room
+    → Left room start (points-bytes v (points-of k ns ps ms)) room start (points-left v ns ps ms k 0)
+points-begin v room start ns ps ms k h =
     let z : k - 0 ≡ k = omega arith in
-    said-as (ap (λ (m : ℕ). pairs-bytes (points-of m ns ps)) (sym z)) (all-left room start (pairs-bytes (points-of k ns ps)) h)
+    said-as (ap (λ (j : ℕ). points-bytes v (points-of j ns ps ms)) (sym z)) (all-left room start (points-bytes v (points-of k ns ps ms)) h)
+
+-- margins in a row, of which i are measured
+abbrev pub margins-left : ℕ → List ℕ → ℕ → ℕ → List ℕ
+margins-left v ms k i = many (margin v) k .write (table (at ms) i (k - i))
+
+pub margins-more : (v : ℕ) (ms : List ℕ) (k i : ℕ) → i < k → margins-left v ms k i ≡ margin v .write (at ms i) ++ margins-left v ms k (suc i)
+unfolding many row row-write table
+margins-more v ms k i h = let z : k - i ≡ suc (k - suc i) = omega arith in rw z
+
+pub margins-none : (v : ℕ) (ms : List ℕ) (k i : ℕ) → k ≤ i → margins-left v ms k i ≡ []
+unfolding many row row-write table
+margins-none v ms k i h = let z : k - i ≡ 0 = omega arith in rw z
+
+pub margins-all : (v : ℕ) (ms : List ℕ) (k : ℕ) → margins-left v ms k 0 ≡ margins-bytes v ms k
+margins-all v ms k = let z : k - 0 ≡ k = omega arith in ap (λ (j : ℕ). many (margin v) k .write (table (at ms) 0 j)) z
+
+-- from version 2 on they are values, before they are nothing
+pub margins-late : (v : ℕ) (ms : List ℕ) (k : ℕ) → leb 2 v ≡ true → margins-bytes v ms k ≡ values-bytes ms k
+unfolding only-if many row
+margins-late v ms k e = rw e
+
+no-bytes : (l : List ℕ) → row-write (λ (s : Unit {0}). known 0) (λ s a. s) tt l ≡ []
+unfolding row-write known
+no-bytes [] = refl
+no-bytes (x ∷ l) = no-bytes l
+
+pub margins-early : (v : ℕ) (ms : List ℕ) (k : ℕ) → leb 2 v ≡ false → margins-bytes v ms k ≡ []
+unfolding only-if many row
+margins-early v ms k e = rw e (no-bytes (table (at ms) 0 k))
+
+-- a margin alone
+pub margin-late : (v m : ℕ) → leb 2 v ≡ true → margin v .write m ≡ form m
+unfolding only-if value
+margin-late v m e = rw e
+
+pub margin-early : (v m : ℕ) → leb 2 v ≡ false → margin v .write m ≡ []
+unfolding only-if known
+margin-early v m e = rw e
 
 -- holds, of which those of the seconds before i are put
 abbrev pub held-left : List ℕ → ℕ → List (ℕ × ℕ)

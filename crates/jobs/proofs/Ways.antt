@@ -14,7 +14,7 @@ use Rattle.rules.specs.declared.Vehicle.{Vehicle}
 use Rattle.rules.specs.Words.{_and_, within, at}
 use Rattle.rules.specs.Refusals.{Fault}
 use Rattle.rules.specs.Groups.{Read, got, refused, hand-on, _>>=_, give, demand, early, group-if, group}
-use Rattle.rules.specs.Forms.{Form, value, checked, bounded, _then_, seen, many, counted}
+use Rattle.rules.specs.Forms.{Form, value, known, only-if, checked, bounded, _then_, seen, many, counted}
 use Rattle.rules.specs.Job.{version, gearbox, numbers, point, curve, hold, padded, vehicle-of, vehicle}
 use Rattle.rules.proofs.Laws.Reading.{ends-first, ends-second, two-bad, ends-third, three-of, good, three-if}
 use Rattle.rules.proofs.Laws.Words.{by-test, by-order, and-left, and-right}
@@ -131,19 +131,33 @@ module _ (job : List ℕ) (next count i : ℕ) (some-second : 1 ≤ count) where
 
 -- ---- a point
 
-module _ (job : List ℕ) (i : ℕ) where
-  pub n-stops : {f : Fault} → refused f ≡ group job i → refused f ≡ point .read job i
+module _ (job : List ℕ) (v i : ℕ) where
+  pub no-margin : v < 2 → got 0 i ≡ only-if (leb 2 v) 0 value .read job i
+  unfolding only-if known
+  no-margin h = rw (lt-leb 2 v h)
+
+  pub a-margin : 2 ≤ v → {r : Read ℕ} → r ≡ group job i → r ≡ only-if (leb 2 v) 0 value .read job i
+  unfolding only-if value
+  a-margin h e = rw (le-leb 2 v h) e
+
+module _ (job : List ℕ) (v i : ℕ) where
+  pub n-stops : {f : Fault} → refused f ≡ group job i → refused f ≡ point v .read job i
   unfolding point _then_ value hand-on
   n-stops e = rw (← e)
 
   module _ {n j : ℕ} (e : got n j ≡ group job i) where
-    pub p-stops : {f : Fault} → refused f ≡ group job j → refused f ≡ point .read job i
+    pub p-stops : {f : Fault} → refused f ≡ group job j → refused f ≡ point v .read job i
     unfolding point _then_ value hand-on
     p-stops g = rw (← e, ← g)
 
-    pub point-gives : {p k : ℕ} → got p k ≡ group job j → got (n, p) k ≡ point .read job i
-    unfolding point _then_ value hand-on
-    point-gives g = rw (← e, ← g)
+    module _ {p k : ℕ} (g : got p k ≡ group job j) where
+      pub m-stops : {f : Fault} → refused f ≡ only-if (leb 2 v) 0 value .read job k → refused f ≡ point v .read job i
+      unfolding point _then_ value hand-on
+      m-stops h = rw (← e, ← g, ← h)
+
+      pub point-gives : {m l : ℕ} → got m l ≡ only-if (leb 2 v) 0 value .read job k → got (n, (p, m)) l ≡ point v .read job i
+      unfolding point _then_ value hand-on
+      point-gives h = rw (← e, ← g, ← h)
 
 -- ---- what is read into zeros
 
@@ -200,39 +214,39 @@ module _ (job : List ℕ) (i : ℕ) where
       counted-reached _ value job i gears e value-sound (sets (replicate 10 0) 0) (λ x. (v, x))
       (λ l n. rw (into-zeros 10 l (omega arith), n)) p room h
 
-  pub curve-stops : {f : Fault} → refused f ≡ bounded 2 64 3 11 .read job i → refused f ≡ used columns curve job i
+  pub curve-stops : (w : ℕ) {f : Fault} → refused f ≡ bounded 2 64 3 11 .read job i → refused f ≡ used columns (curve w) job i
   unfolding curve
-  curve-stops e = counted-stops _ point job i columns e
+  curve-stops w e = counted-stops _ (point w) job i columns e
 
-  pub curve-on : {v j : ℕ} → got v j ≡ bounded 2 64 3 11 .read job i → (p : Came) (rooms : List ℕ × List ℕ)
-      → reached p rooms ≡ used (into (replicate 64 0) (replicate 64 0) 0) (many point v) job j → reached p (v, rooms) ≡ used columns curve job i
+  pub curve-on : (w : ℕ) {v j : ℕ} → got v j ≡ bounded 2 64 3 11 .read job i → (p : Came) (rooms : List ℕ × (List ℕ × List ℕ))
+      → reached p rooms ≡ used (into (replicate 64 0) (replicate 64 0) (replicate 64 0) 0) (many (point w) v) job j → reached p (v, rooms) ≡ used columns (curve w) job i
   unfolding curve
-  curve-on {v} e p rooms h =
+  curve-on w {v} e p rooms h =
       let few = bounded-in job 2 64 3 11 i e .1 in
-      counted-reached _ point job i columns e point-sound (into (replicate 64 0) (replicate 64 0) 0) (λ x. (v, x))
-      (λ l n. rw (into-zeros 64 (map (λ x. x .0) l) (rw length-map (omega arith)), into-zeros 64 (map (λ x. x .1) l) (rw length-map (omega arith)), n)) p rooms h
+      counted-reached _ (point w) job i columns e (point-sound w) (into (replicate 64 0) (replicate 64 0) (replicate 64 0) 0) (λ x. (v, x))
+      (λ l n. rw (into-zeros 64 (map (λ x. x .0) l) (rw length-map (omega arith)), into-zeros 64 (map (λ x. x .1 .0) l) (rw length-map (omega arith)), into-zeros 64 (map (λ x. x .1 .1) l) (rw length-map (omega arith)), n)) p rooms h
 
 -- ---- the version and the vehicle
 
 abbrev pub head : Form (ℕ × Vehicle)
-head = version then λ v. vehicle
+head = version then λ v. vehicle v
 
 eight-filled : (job : List ℕ) (i : ℕ) → used (sets (replicate 8 0) 0) (many value 8) job i ≡ numbers .read job i
 unfolding numbers
 eight-filled job i = use-as-is (many value 8) job i (λ l k come. all-filled (replicate 8 0) l (many-length value-sound job 8 i come))
 
 -- the vehicle as its parts are read
-vehicle-is : (job : List ℕ) (i : ℕ) → vehicle .read job i
-    ≡ hand-on (used gears gearbox job i) (λ b j. hand-on (numbers .read job j) (λ ns k. hand-on (used columns curve job k) (λ c. give (car-of b ns c))))
+vehicle-is : (w : ℕ) (job : List ℕ) (i : ℕ) → vehicle w .read job i
+    ≡ hand-on (used gears gearbox job i) (λ b j. hand-on (numbers .read job j) (λ ns k. hand-on (used columns (curve w) job k) (λ c. give (car-of b ns c))))
 unfolding vehicle vehicle-of seen _then_ used hand-on
-vehicle-is job i = simp joined
+vehicle-is w job i = simp joined
 
 module _ (job : List ℕ) (i : ℕ) where
-  pub version-stops : {f : Fault} → refused f ≡ bounded 1 1 14 0 .read job i → refused f ≡ head .read job i
+  pub version-stops : {f : Fault} → refused f ≡ bounded 1 2 14 0 .read job i → refused f ≡ head .read job i
   unfolding version _then_ hand-on
   version-stops e = rw (← e)
 
-  module _ {v j : ℕ} (e : got v j ≡ bounded 1 1 14 0 .read job i) where
+  module _ {v j : ℕ} (e : got v j ≡ bounded 1 2 14 0 .read job i) where
     pub gears-stop : {f : Fault} → refused f ≡ used gears gearbox job j → refused f ≡ head .read job i
     unfolding version _then_ hand-on
     gears-stop g = rw (← e, vehicle-is, ← g)
@@ -242,7 +256,7 @@ module _ (job : List ℕ) (i : ℕ) where
       unfolding version _then_ hand-on
       numbers-stop n = rw (← e, vehicle-is, ← g, ← eight-filled, ← n)
 
-      pub car-on : {ns : List ℕ} {l : ℕ} → got ns l ≡ used (sets (replicate 8 0) 0) (many value 8) job k → (p : Came) (c : ℕ × (List ℕ × List ℕ))
-          → reached p c ≡ used columns curve job l → reached p (v, car-of b ns c) ≡ head .read job i
+      pub car-on : {ns : List ℕ} {l : ℕ} → got ns l ≡ used (sets (replicate 8 0) 0) (many value 8) job k → (p : Came) (c : ℕ × (List ℕ × (List ℕ × List ℕ)))
+          → reached p c ≡ used columns (curve v) job l → reached p (v, car-of b ns c) ≡ head .read job i
       unfolding version _then_ hand-on
       car-on {ns} n p c h = rw (← e, vehicle-is, ← g, ← eight-filled, ← n) (reached-on p c (λ x. (v, car-of b ns x)) h ∙ simp joined)

@@ -55,19 +55,22 @@ used f part job = do
   a ← part .read job
   give (f a)
 
--- n and p of points, from place i of two rooms on
-abbrev pub into : List ℕ → List ℕ → ℕ → List (ℕ × ℕ) → List ℕ × List ℕ
-into ns ps i l = (sets ns i (map (λ x. x .0) l), sets ps i (map (λ x. x .1) l))
+-- n, p and m of points, from place i of three rooms on
+abbrev pub into : List ℕ → List ℕ → List ℕ → ℕ → List (ℕ × (ℕ × ℕ)) → List ℕ × (List ℕ × List ℕ)
+into ns ps ms i l = (sets ns i (map (λ x. x .0) l), (sets ps i (map (λ x. x .1 .0) l), sets ms i (map (λ x. x .1 .1) l)))
 
--- gear count and ratios, and point count, n and p, as the vehicle has them
+-- gear count and ratios, and point count, n, p and m, as the vehicle has them
 abbrev pub gears : List ℕ → ℕ × List ℕ
 gears ratios = (length ratios, padded most-gears ratios)
 
-abbrev pub columns : List (ℕ × ℕ) → ℕ × (List ℕ × List ℕ)
-columns points = (length points, (padded most-points (map (λ x. x .0) points), padded most-points (map (λ x. x .1) points)))
+abbrev pub columns : List (ℕ × (ℕ × ℕ)) → ℕ × (List ℕ × (List ℕ × List ℕ))
+columns points = (
+  length points,
+  (padded most-points (map (λ x. x .0) points), (padded most-points (map (λ x. x .1 .0) points), padded most-points (map (λ x. x .1 .1) points))),
+)
 
 -- the vehicle of these gears, of the eight numbers between, F1 with 5,000 added, and of these columns
-abbrev pub car-of : ℕ × List ℕ → List ℕ → ℕ × (List ℕ × List ℕ) → Vehicle
+abbrev pub car-of : ℕ × List ℕ → List ℕ → ℕ × (List ℕ × (List ℕ × List ℕ)) → Vehicle
 car-of gearbox numbers curve = record {
   ng = gearbox .0;
   ratio = gearbox .1;
@@ -81,5 +84,6 @@ car-of gearbox numbers curve = record {
   margin = at numbers 7;
   points = curve .0;
   n = curve .1 .0;
-  p = curve .1 .1;
+  p = curve .1 .1 .0;
+  m = curve .1 .1 .1;
 }

@@ -2,25 +2,39 @@
 -- Assumes nothing.
 use Prim.Native.Nat.{ℕ, _+_, _≤_, _<_}
 use mathlib.Core.Path.{_≡_}
+use mathlib.Core.Option.{Option, none, some}
 use mathlib.Core.List.{List, [], _++_}
 use lib.ListN.{length}
-use lib.Dec.{eqb}
+use lib.Dec.{leb, ltb, eqb}
 use lib.Seq.{sets}
 use Rattle.rules.specs.declared.Vehicle.{Vehicle}
 use Rattle.rules.specs.Words.{if_then_else_, at, table}
-use Rattle.rules.specs.Refusals.{said, left}
+use Rattle.rules.specs.Refusals.{Fault, said, _orelse_, trace-fault, left}
 use Rattle.rules.specs.Groups.{form}
-use Rattle.rules.specs.Forms.{value, many}
+use Rattle.rules.specs.Forms.{Form, value, only-if, _then_, many}
 use Rattle.rules.specs.Job.{point, filled}
-use Rattle.rules.specs.Write.{short-fault, write-fault, written, write-room}
+use Rattle.rules.specs.Write.{version-fault, holds-fault, fields-fault, short-fault, write-fault, written, write-room}
 use Rattle.jobs.specs.declared.Written.{Written}
 
 -- the first k values, and pairs of values in a row, as bytes
 abbrev pub values-bytes : List ℕ → ℕ → List ℕ
 values-bytes vs k = many value k .write (table (at vs) 0 k)
 
+unfoldable pub pair : Form (ℕ × ℕ)
+pair = value then λ a. value
+
 abbrev pub pairs-bytes : List (ℕ × ℕ) → List ℕ
-pairs-bytes l = many point (length l) .write l
+pairs-bytes l = many pair (length l) .write l
+
+-- the first k margins, from version 2 on; and points in a row
+abbrev pub margin : ℕ → Form ℕ
+margin v = only-if (leb 2 v) 0 value
+
+abbrev pub margins-bytes : ℕ → List ℕ → ℕ → List ℕ
+margins-bytes v ms k = many (margin v) k .write (table (at ms) 0 k)
+
+abbrev pub points-bytes : ℕ → List (ℕ × (ℕ × ℕ)) → List ℕ
+points-bytes v l = many (point v) (length l) .write l
 
 -- second and gear of a hold, nothing where there is none; and how many holds that is
 unfoldable pub hold-bytes : ℕ → ℕ → List ℕ
@@ -39,6 +53,15 @@ pub record Put (bytes room : List ℕ) (at r : ℕ) (room′ : List ℕ) : Type 
   pub inside : r ≤ length room
   pub now-is : room′ ≡ sets room at bytes
 
+-- 14, and 1 to 3 in a version: the checks before those of the seconds
+unfoldable pub told-fault : ℕ → Vehicle → List ℕ → List ℕ → Option Fault
+told-fault v car vs hs = version-fault v orelse trace-fault vs orelse holds-fault vs hs orelse fields-fault v car
+
+-- what is refused where a margin has no place: field 12, or what comes before it
+unfoldable pub before-margin : Option Fault → Option Fault
+before-margin none = some (record { no = 3; spot = 12 })
+before-margin (some f) = if ltb 12 (f .spot) then some (record { no = 3; spot = 12 }) else some f
+
 -- these bytes, which passed the checks before, are written, or the room is too short for them
 pub record BytesAs (bytes room : List ℕ) (r : Written) (room′ : List ℕ) : Type 0 where
   pub answered : said (r .answer) ≡ short-fault bytes room
@@ -46,7 +69,7 @@ pub record BytesAs (bytes room : List ℕ) (r : Written) (room′ : List ℕ) : 
   pub room-left : room′ ≡ filled room (left (short-fault bytes room) [] bytes)
 
 -- the answer r, and the room as it is left, are what is written: in a refusal no bytes, and the room as it was
-pub record WriteAs (car : Vehicle) (vs hs room : List ℕ) (r : Written) (room′ : List ℕ) : Type 0 where
-  pub answered : said (r .answer) ≡ write-fault car vs hs room
-  pub the-length : r .length ≡ length (written car vs hs room)
-  pub room-left : room′ ≡ write-room car vs hs room
+pub record WriteAs (v : ℕ) (car : Vehicle) (vs hs room : List ℕ) (r : Written) (room′ : List ℕ) : Type 0 where
+  pub answered : said (r .answer) ≡ write-fault v car vs hs room
+  pub the-length : r .length ≡ length (written v car vs hs room)
+  pub room-left : room′ ≡ write-room v car vs hs room

@@ -67,6 +67,7 @@ struct Curve {
     points: u16,
     n: [u16; 64],
     p: [u16; 64],
+    m: [u16; 64],
 }
 
 struct Car {

@@ -6,7 +6,7 @@ ghost use lib.ListN.{length};
 ghost use Rattle.rules.specs.Groups.{form};
 ghost use Rattle.rules.specs.Job.{points-of, gather, vehicle};
 ghost use Rattle.rules.specs.Vocabulary.{InBounds};
-ghost use Rattle.jobs.specs.Writing.{values-bytes, pairs-bytes, hold-bytes, Short, Put};
+ghost use Rattle.jobs.specs.Writing.{values-bytes, pairs-bytes, margin, points-bytes, hold-bytes, Put, Short};
 use crate::numbers::numbers_of;
 use rules::Vehicle;
 
@@ -99,16 +99,36 @@ pub fn put_trace(room: &mut [u8], at: usize, speeds: &[u16]) -> usize
     put_speeds(room, first, speeds)
 }
 
-// n and p of so many points in turn.
-fn put_points<'a>(room: &mut [u8], at: usize, count: usize, ns: &'a [u16], ps: &'a [u16]) -> usize
-    requires { ⌜ (count ≤ length (now ns)) × (count ≤ length (now ps)) × (at + length (pairs-bytes (points-of count (now ns) (now ps))) ≤ length (now room)) ⌝ }
-    ensures { λ r. ⌜ Put (pairs-bytes (points-of count (now (ns .entry)) (now (ps .entry)))) (now (room .entry)) at r (now (room .exit)) ⌝ }
+// A point's margin, from version 2 on; nothing before.
+fn put_margin(room: &mut [u8], at: usize, version: u16, m: u16) -> usize
+    requires { ⌜ at + length (margin version .write m) ≤ length (now room) ⌝ }
+    ensures { λ r. ⌜ Put (margin version .write m) (now (room .entry)) at r (now (room .exit)) ⌝ }
+{
+    if version < 2 {
+        return at;
+    }
+    put_group(room, at, m)
+}
+
+// n, p and m of so many points in turn.
+fn put_points<'a>(
+    room: &mut [u8],
+    at: usize,
+    version: u16,
+    count: usize,
+    ns: &'a [u16],
+    ps: &'a [u16],
+    ms: &'a [u16],
+) -> usize
+    requires { ⌜ (count ≤ length (now ns)) × (count ≤ length (now ps)) × (count ≤ length (now ms)) × (at + length (points-bytes version (points-of count (now ns) (now ps) (now ms))) ≤ length (now room)) ⌝ }
+    ensures { λ r. ⌜ Put (points-bytes version (points-of count (now (ns .entry)) (now (ps .entry)) (now (ms .entry)))) (now (room .entry)) at r (now (room .exit)) ⌝ }
 {
     let mut next = at;
     let mut i = 0;
     while i < count {
         let then = put_group(room, next, ns[i]);
-        next = put_group(room, then, ps[i]);
+        let last = put_group(room, then, ps[i]);
+        next = put_margin(room, last, version, ms[i]);
         i += 1;
     }
     next
@@ -144,13 +164,21 @@ pub fn put_held(room: &mut [u8], at: usize, holds: &[u8], count: u16) -> usize
 }
 
 // The vehicle: the gears, the eight numbers, the curve.
-pub fn put_vehicle(room: &mut [u8], at: usize, car: Vehicle) -> usize
-    requires { ⌜ InBounds car × (at + length (vehicle .write car) ≤ length (now room)) ⌝ }
-    ensures { λ r. ⌜ Put (vehicle .write car) (now (room .entry)) at r (now (room .exit)) ⌝ }
+pub fn put_vehicle(room: &mut [u8], at: usize, version: u16, car: Vehicle) -> usize
+    requires { ⌜ InBounds car × (at + length (vehicle version .write car) ≤ length (now room)) ⌝ }
+    ensures { λ r. ⌜ Put (vehicle version .write car) (now (room .entry)) at r (now (room .exit)) ⌝ }
 {
     let numbers = numbers_of(car);
     let middle = put_counted(room, at, &car.ratio, car.ng);
     let curve = put_values(room, middle, &numbers, 8);
     let first = put_group(room, curve, car.points);
-    put_points(room, first, car.points as usize, &car.n, &car.p)
+    put_points(
+        room,
+        first,
+        version,
+        car.points as usize,
+        &car.n,
+        &car.p,
+        &car.m,
+    )
 }

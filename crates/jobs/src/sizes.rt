@@ -5,7 +5,7 @@ ghost use lib.ListN.{length};
 ghost use Rattle.rules.specs.Groups.{form};
 ghost use Rattle.rules.specs.Job.{gather, vehicle};
 ghost use Rattle.rules.specs.Vocabulary.{InBounds};
-ghost use Rattle.jobs.specs.Writing.{values-bytes, pairs-bytes, hold-bytes, held-one};
+ghost use Rattle.jobs.specs.Writing.{values-bytes, pairs-bytes, margins-bytes, hold-bytes, held-one};
 use crate::Tally;
 use crate::numbers::numbers_of;
 use rules::Vehicle;
@@ -105,15 +105,27 @@ pub fn tally(holds: &[u8]) -> Tally
     Tally { count, bytes }
 }
 
+// The bytes of the first so many margins, from version 2 on; none before.
+fn margins_size(version: u16, margins: &[u16], count: usize) -> usize
+    requires { ⌜ (count ≤ length (now margins)) × (count ≤ 16384) ⌝ }
+    ensures { λ r. ⌜ r ≡ length (margins-bytes version (now (margins .entry)) count) ⌝ }
+{
+    if version < 2 {
+        return 0;
+    }
+    values_size(margins, count)
+}
+
 // The bytes of the vehicle.
-pub fn vehicle_size(car: Vehicle) -> usize
+pub fn vehicle_size(version: u16, car: Vehicle) -> usize
     requires { ⌜ InBounds car ⌝ }
-    ensures { λ r. ⌜ r ≡ length (vehicle .write car) ⌝ }
+    ensures { λ r. ⌜ r ≡ length (vehicle version .write car) ⌝ }
 {
     let numbers = numbers_of(car);
     let gears = car.ng as usize;
     let points = car.points as usize;
     let gearbox = group_size(car.ng) + values_size(&car.ratio, gears);
     let curve = group_size(car.points) + values_size(&car.n, points) + values_size(&car.p, points);
-    gearbox + values_size(&numbers, 8) + curve
+    let margins = margins_size(version, &car.m, points);
+    gearbox + values_size(&numbers, 8) + curve + margins
 }

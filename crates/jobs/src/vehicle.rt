@@ -3,8 +3,10 @@ ghost use mathlib.Core.Path.{_≡_};
 ghost use Prim.Native.Nat.{_≤_};
 ghost use lib.ListN.{length};
 ghost use lib.IntN.{pos, _-ℤ_};
-ghost use Rattle.rules.specs.Forms.{_then_, many};
+ghost use lib.Dec.{leb};
+ghost use Rattle.rules.specs.Forms.{_then_, value, only-if, many};
 ghost use Rattle.rules.specs.Job.{version, gearbox, point, curve, vehicle, blank};
+ghost use Rattle.jobs.specs.Reader.{told};
 ghost use Rattle.jobs.specs.Stages.{reached, used, into, gears, columns, car-of};
 use crate::Came;
 use crate::Car;
@@ -46,6 +48,7 @@ pub fn blank() -> Vehicle
         points: 0,
         n: [0u16; 64],
         p: [0u16; 64],
+        m: [0u16; 64],
     }
 }
 
@@ -66,10 +69,28 @@ fn gearbox_at(job: &[u8], at: usize) -> Gearbox
     Gearbox { at: end, ng, ratio }
 }
 
-// So many points, n and p of each in turn, into the starts of two rooms of the reader's own.
-fn fill_points(job: &[u8], at: usize, count: usize, ns: &mut [u16], ps: &mut [u16]) -> Came
-    requires { ⌜ (count ≤ length (now ns)) × (count ≤ length (now ps)) ⌝ }
-    ensures { λ r. ⌜ reached r (now (ns .exit), now (ps .exit)) ≡ used (into (now (ns .entry)) (now (ps .entry)) 0) (many point count) (now (job .entry)) at ⌝ }
+// A point's margin, from version 2 on; before, it is 0 and no group.
+fn margin_at(job: &[u8], at: usize, version: u16) -> Group
+    ensures { λ r. ⌜ told r ≡ only-if (leb 2 version) 0 value .read (now (job .entry)) at ⌝ }
+{
+    if version < 2 {
+        return Group::Value(0, at);
+    }
+    group_at(job, at)
+}
+
+// So many points, n, p and m of each in turn, into the starts of three rooms of the reader's own.
+fn fill_points(
+    job: &[u8],
+    at: usize,
+    version: u16,
+    count: usize,
+    ns: &mut [u16],
+    ps: &mut [u16],
+    ms: &mut [u16],
+) -> Came
+    requires { ⌜ (count ≤ length (now ns)) × (count ≤ length (now ps)) × (count ≤ length (now ms)) ⌝ }
+    ensures { λ r. ⌜ reached r (now (ns .exit), (now (ps .exit), now (ms .exit))) ≡ used (into (now (ns .entry)) (now (ps .entry)) (now (ms .entry)) 0) (many (point version) count) (now (job .entry)) at ⌝ }
 {
     let mut next = at;
     let mut i = 0;
@@ -79,11 +100,16 @@ fn fill_points(job: &[u8], at: usize, count: usize, ns: &mut [u16], ps: &mut [u1
             return g.came();
         };
         let h = group_at(job, then);
-        let Group::Value(p, after) = h else {
+        let Group::Value(p, last) = h else {
             return h.came();
+        };
+        let k = margin_at(job, last, version);
+        let Group::Value(m, after) = k else {
+            return k.came();
         };
         ns[i] = n;
         ps[i] = p;
+        ms[i] = m;
         next = after;
         i += 1;
     }
@@ -91,11 +117,12 @@ fn fill_points(job: &[u8], at: usize, count: usize, ns: &mut [u16], ps: &mut [u1
 }
 
 // The point count and the points; places past the points stay 0.
-fn curve_at(job: &[u8], at: usize) -> Curve
-    ensures { λ r. ⌜ reached (r .at) (r .points, (r .n, r .p)) ≡ used columns curve (now (job .entry)) at ⌝ }
+fn curve_at(job: &[u8], at: usize, version: u16) -> Curve
+    ensures { λ r. ⌜ reached (r .at) (r .points, (r .n, (r .p, r .m))) ≡ used columns (curve version) (now (job .entry)) at ⌝ }
 {
     let mut n = [0u16; 64];
     let mut p = [0u16; 64];
+    let mut m = [0u16; 64];
     let count = bounded(
         job,
         at,
@@ -109,24 +136,27 @@ fn curve_at(job: &[u8], at: usize) -> Curve
             points: 0,
             n,
             p,
+            m,
         };
     };
-    let end = fill_points(job, next, points as usize, &mut n, &mut p);
+    let end = fill_points(job, next, version, points as usize, &mut n, &mut p, &mut m);
     Curve {
         at: end,
         points,
         n,
         p,
+        m,
     }
 }
 
 // The vehicle of its parts; the numbers are idle, rated, nmax, F0, F1, F2, TM and M.
 fn vehicle_of(gearbox: Gearbox, numbers: [u16; 8], curve: Curve) -> Vehicle
-    ensures { λ r. ⌜ r ≡ car-of (gearbox .ng, gearbox .ratio) numbers (curve .points, (curve .n, curve .p)) ⌝ }
+    ensures { λ r. ⌜ r ≡ car-of (gearbox .ng, gearbox .ratio) numbers (curve .points, (curve .n, (curve .p, curve .m))) ⌝ }
 {
     let ratio = gearbox.ratio;
     let n = curve.n;
     let p = curve.p;
+    let m = curve.m;
     Vehicle {
         ng: gearbox.ng,
         ratio,
@@ -141,6 +171,7 @@ fn vehicle_of(gearbox: Gearbox, numbers: [u16; 8], curve: Curve) -> Vehicle
         points: curve.points,
         n,
         p,
+        m,
     }
 }
 
@@ -157,9 +188,9 @@ fn no_car(at: Came) -> Car
 
 // The version and the vehicle.
 pub fn car_at(job: &[u8]) -> Car
-    ensures { λ r. ⌜ reached (r .at) (r .version, r .vehicle) ≡ (version then λ v. vehicle) .read (now (job .entry)) 0 ⌝ }
+    ensures { λ r. ⌜ reached (r .at) (r .version, r .vehicle) ≡ (version then λ v. vehicle v) .read (now (job .entry)) 0 ⌝ }
 {
-    let version = bounded(job, 0, 1, 1, Refusal::BadVersion);
+    let version = bounded(job, 0, 1, 2, Refusal::BadVersion);
     let Group::Value(v, at) = version else {
         return no_car(version.came());
     };
@@ -173,7 +204,7 @@ pub fn car_at(job: &[u8]) -> Car
     let Came::To(at) = eight else {
         return no_car(eight);
     };
-    let curve = curve_at(job, at);
+    let curve = curve_at(job, at, v);
     let end = curve.at;
     Car {
         at: end,

@@ -1,14 +1,18 @@
-// The job writer of document 02, request One. Its length is measured first, so a room that is too short is refused with nothing written.
+// The job writer of document 02, requests One and Six. Its length is measured first, so a room that is too short is refused with nothing written.
 ghost use mathlib.Core.Path.{_≡_};
+ghost use mathlib.Core.Bool.{not};
+ghost use mathlib.Core.List.{List};
 ghost use mathlib.Core.Option.{none};
-ghost use Prim.Native.Nat.{_+_, _*_, _≤_};
+ghost use Prim.Native.Nat.{ℕ, _+_, _*_, _≤_};
+ghost use lib.Dec.{eqb};
 ghost use lib.ListN.{length};
+ghost use Rattle.rules.specs.Words.{at, every};
 ghost use Rattle.rules.specs.Refusals.{said};
 ghost use Rattle.rules.specs.Groups.{form};
 ghost use Rattle.rules.specs.Job.{gather, vehicle};
 ghost use Rattle.rules.specs.Vocabulary.{InBounds};
-ghost use Rattle.rules.specs.Write.{job-bytes, job-fault};
-ghost use Rattle.jobs.specs.Writing.{values-bytes, Put, BytesAs, WriteAs};
+ghost use Rattle.rules.specs.Write.{job-bytes, checks-fault};
+ghost use Rattle.jobs.specs.Writing.{values-bytes, Put, before-margin, told-fault, BytesAs, WriteAs};
 use crate::Tally;
 use crate::Written;
 use crate::puts::put_group;
@@ -28,69 +32,72 @@ use rules::Answer;
 use rules::Refusal;
 use rules::Vehicle;
 
-// The bytes of the whole job: the version, which is 1, the vehicle, the trace and the holds.
-fn job_size(car: Vehicle, speeds: &[u16], held: Tally) -> usize
+// The bytes of the whole job: the version, which is one byte, the vehicle, the trace and the holds.
+fn job_size(version: u16, car: Vehicle, speeds: &[u16], held: Tally) -> usize
     requires { ⌜ InBounds car × (length (now speeds) ≤ 16384) × (held .bytes ≤ 6 * 65535) ⌝ }
-    ensures { λ r. ⌜ r ≡ 1 + length (vehicle .write car) + (length (form (length (now (speeds .entry)))) + length (values-bytes (now (speeds .entry)) (length (now (speeds .entry))))) + length (form (held .count)) + held .bytes ⌝ }
+    ensures { λ r. ⌜ r ≡ 1 + length (vehicle version .write car) + (length (form (length (now (speeds .entry)))) + length (values-bytes (now (speeds .entry)) (length (now (speeds .entry))))) + length (form (held .count)) + held .bytes ⌝ }
 {
     let trace = group_size(speeds.len() as u16) + values_size(speeds, speeds.len());
-    1 + vehicle_size(car) + trace + group_size(held.count) + held.bytes
+    1 + vehicle_size(version, car) + trace + group_size(held.count) + held.bytes
 }
 
 // Puts the whole job at the start of a room that has space for it.
 fn put_job<'a>(
     room: &mut [u8],
+    version: u16,
     car: Vehicle,
     speeds: &'a [u16],
     holds: &'a [u8],
     count: u16,
 ) -> usize
-    requires { ⌜ (job-fault car (now speeds) (now holds) ≡ none) × (count ≡ length (gather 0 (now holds))) × (length (job-bytes car (now speeds) (now holds)) ≤ length (now room)) ⌝ }
-    ensures { λ r. ⌜ Put (job-bytes car (now (speeds .entry)) (now (holds .entry))) (now (room .entry)) 0 r (now (room .exit)) ⌝ }
+    requires { ⌜ (checks-fault version car (now speeds) (now holds) ≡ none) × (count ≡ length (gather 0 (now holds))) × (length (job-bytes version car (now speeds) (now holds)) ≤ length (now room)) ⌝ }
+    ensures { λ r. ⌜ Put (job-bytes version car (now (speeds .entry)) (now (holds .entry))) (now (room .entry)) 0 r (now (room .exit)) ⌝ }
 {
-    let at = put_group(room, 0, 1);
-    let at = put_vehicle(room, at, car);
+    let at = put_group(room, 0, version);
+    let at = put_vehicle(room, at, version, car);
     let at = put_trace(room, at, speeds);
     let at = put_group(room, at, count);
     put_held(room, at, holds, count)
 }
 
-// Writes a job that passed checks 1 to 9.
+// Writes a job that passed 14 and checks 1 to 9.
 fn write_checked<'a>(
+    version: u16,
     vehicle: Vehicle,
     speeds: &'a [u16],
     holds: &'a [u8],
     room: &mut [u8],
 ) -> Written
-    requires { ⌜ job-fault vehicle (now speeds) (now holds) ≡ none ⌝ }
-    ensures { λ r. ⌜ BytesAs (job-bytes vehicle (now (speeds .entry)) (now (holds .entry))) (now (room .entry)) r (now (room .exit)) ⌝ }
+    requires { ⌜ checks-fault version vehicle (now speeds) (now holds) ≡ none ⌝ }
+    ensures { λ r. ⌜ BytesAs (job-bytes version vehicle (now (speeds .entry)) (now (holds .entry))) (now (room .entry)) r (now (room .exit)) ⌝ }
 {
     let held = tally(holds);
     let count = held.count;
-    let need = job_size(vehicle, speeds, held);
+    let need = job_size(version, vehicle, speeds, held);
     if room.len() < need {
         return Written {
             answer: Answer::Refused(Refusal::RoomShort(need)),
             length: 0,
         };
     }
-    let length = put_job(room, vehicle, speeds, holds, count);
+    let length = put_job(room, version, vehicle, speeds, holds, count);
     Written {
         answer: Answer::Done,
         length,
     }
 }
 
-// Writes a job for which checks 1 to 9 gave this answer; a refusal is handed up, and nothing written.
+// Writes a job for which 14 and checks 1 to 9 gave this answer; a refusal is handed up, and nothing written.
 fn write_if<'a>(
     checked: Answer,
+    version: u16,
     vehicle: Vehicle,
     speeds: &'a [u16],
     holds: &'a [u8],
     room: &mut [u8],
 ) -> Written
-    requires { ⌜ said checked ≡ job-fault vehicle (now speeds) (now holds) ⌝ }
-    ensures { λ r. ⌜ WriteAs vehicle (now (speeds .entry)) (now (holds .entry)) (now (room .entry)) r (now (room .exit)) ⌝ }
+    requires { ⌜ said checked ≡ checks-fault version vehicle (now speeds) (now holds) ⌝ }
+    ensures { λ r. ⌜ WriteAs version vehicle (now (speeds .entry)) (now (holds .entry)) (now (room .entry)) r (now (room .exit)) ⌝ }
 {
     let Answer::Done = checked else {
         return Written {
@@ -98,17 +105,68 @@ fn write_if<'a>(
             length: 0,
         };
     };
-    write_checked(vehicle, speeds, holds, room)
+    write_checked(version, vehicle, speeds, holds, room)
 }
 
-// Checks 1 to 9 of a whole job, as in the working; there is no card, so the trace itself stands for one of the right length.
-fn check_job<'a>(vehicle: Vehicle, speeds: &'a [u16], holds: &'a [u8]) -> Answer
-    ensures { λ r. ⌜ said r ≡ job-fault vehicle (now (speeds .entry)) (now (holds .entry)) ⌝ }
+// Whether a point that counts has a margin above 0.
+fn marked(m: &[u16], points: u16) -> bool
+    ensures { λ r. ⌜ r ≡ not (every (λ k. eqb (at (now (m .entry)) k) 0) 0 points) ⌝ }
+{
+    let end = points as usize;
+    let mut k = 0;
+    while k < end {
+        if m.len() <= k {
+            return false;
+        }
+        if m[k] != 0 {
+            return true;
+        }
+        k += 1;
+    }
+    false
+}
+
+// What 1 to 3 answer where a margin has no place: field 12, but for a refusal that comes before it.
+fn before_margin(opening: Answer) -> Answer
+    ensures { λ r. ⌜ said r ≡ before-margin (said opening) ⌝ }
+{
+    let Answer::Done = opening else {
+        if 12 < opening.place() {
+            return Answer::Refused(Refusal::VehicleField(12));
+        }
+        return opening;
+    };
+    Answer::Refused(Refusal::VehicleField(12))
+}
+
+// 14 before everything else; then 1 to 3, of a trace and holds of these lengths. Version 1 has no place for a margin.
+fn check_told(version: u16, vehicle: Vehicle, seconds: usize, holds: usize) -> Answer
+    ensures { λ r. ⌜ ((vs hs : List ℕ) → length vs ≡ seconds → length hs ≡ holds → said r ≡ told-fault version vehicle vs hs) ⌝ }
+{
+    if version < 1 {
+        return Answer::Refused(Refusal::BadVersion);
+    }
+    if 2 < version {
+        return Answer::Refused(Refusal::BadVersion);
+    }
+    // there is no card, so the trace itself stands for one of the right length
+    let opening = check_opening(vehicle, seconds, holds, seconds);
+    if version < 2 {
+        if marked(&vehicle.m, vehicle.points) {
+            return before_margin(opening);
+        }
+    }
+    opening
+}
+
+// 14, and checks 1 to 9 of a whole job, as in the working.
+fn check_job<'a>(version: u16, vehicle: Vehicle, speeds: &'a [u16], holds: &'a [u8]) -> Answer
+    ensures { λ r. ⌜ said r ≡ checks-fault version vehicle (now (speeds .entry)) (now (holds .entry)) ⌝ }
 {
     let seconds = speeds.len();
-    let opening = check_opening(vehicle, seconds, holds.len(), seconds);
-    let Answer::Done = opening else {
-        return opening;
+    let told = check_told(version, vehicle, seconds, holds.len());
+    let Answer::Done = told else {
+        return told;
     };
     let k = numbers_of(vehicle);
     let all = Span { lo: 0, hi: seconds };
@@ -120,10 +178,16 @@ fn check_job<'a>(vehicle: Vehicle, speeds: &'a [u16], holds: &'a [u8]) -> Answer
     check_seconds(k, &vehicle.ratio, speeds, holds, none, all)
 }
 
-// Writes a job into the start of the room: 1 to 9 as in the working, then 17, and nothing written where one refuses.
-pub fn write<'a>(vehicle: Vehicle, speeds: &'a [u16], holds: &'a [u8], room: &mut [u8]) -> Written
-    ensures { λ r. ⌜ WriteAs vehicle (now (speeds .entry)) (now (holds .entry)) (now (room .entry)) r (now (room .exit)) ⌝ }
+// Writes a job of a version into the start of the room: 14, 1 to 9 as in the working, then 17, and nothing written where one refuses.
+pub fn write<'a>(
+    version: u16,
+    vehicle: Vehicle,
+    speeds: &'a [u16],
+    holds: &'a [u8],
+    room: &mut [u8],
+) -> Written
+    ensures { λ r. ⌜ WriteAs version vehicle (now (speeds .entry)) (now (holds .entry)) (now (room .entry)) r (now (room .exit)) ⌝ }
 {
-    let checked = check_job(vehicle, speeds, holds);
-    write_if(checked, vehicle, speeds, holds, room)
+    let checked = check_job(version, vehicle, speeds, holds);
+    write_if(checked, version, vehicle, speeds, holds, room)
 }

@@ -283,7 +283,7 @@ fn changed_three(at: usize, one: u8, two: u8, three: u8)
 // Each refusal of the reader but 12, 15 and 16, which have lines of their own.
 fn refusals() {
     say(b"refusals:");
-    changed(0, 2);
+    changed(0, 3);
     changed(1, 1);
     changed(1, 11);
     changed(27, 1);
@@ -422,7 +422,7 @@ fn say_written(w: Written) {
 
 // Car Z written, with these speeds and holds.
 fn write_into<'a>(speeds: &'a [u16], holds: &'a [u8], room: &mut [u8]) {
-    say_written(jobs::write(runs::car_z(), speeds, holds, room));
+    say_written(jobs::write(1, runs::car_z(), speeds, holds, room));
 }
 
 // Car Z's job, with room beyond as it was; then with gear 3 held at second 2, the hold at its end.
@@ -469,6 +469,33 @@ fn not_written() {
     say(b"\n");
 }
 
+// Car Z with margins at two points: version 1 has no place for them, version 2 puts each behind its p, and reads it back with them; versions 0 and 3 are
+// none, before everything else.
+fn margins() {
+    let speeds = [0u16, 50, 150, 100, 0];
+    let none = [0u8; 5];
+    let mut car = runs::car_z();
+    car.m[1] = 50;
+    car.m[6] = 2;
+    let mut room = [7u8; 71];
+    say(b"margins:");
+    say_written(jobs::write(1, car, &speeds, &none, &mut room));
+    say_written(jobs::write(0, car, &speeds, start(&none, 4), &mut room));
+    say_written(jobs::write(3, car, &speeds, &none, &mut room));
+    say_written(jobs::write(2, car, &speeds, &none, &mut room));
+    say_bytes(&room);
+    let mut vs = [7u16; 5];
+    let mut hs = [7u8; 5];
+    let reading = jobs::read(start(&room, 70), &mut vs, &mut hs);
+    say_value(reading.version);
+    let back = reading.vehicle;
+    say_value(back.m[0]);
+    say_value(back.m[1]);
+    say_value(back.m[6]);
+    say_value(back.m[7]);
+    say(b"\n");
+}
+
 fn main() {
     groups();
     bad_groups();
@@ -482,4 +509,5 @@ fn main() {
     holds();
     written();
     not_written();
+    margins();
 }

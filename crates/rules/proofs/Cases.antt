@@ -5,28 +5,28 @@ use mathlib.Core.Path.{_≡_, refl}
 use mathlib.Core.Bool.{Bool, true, false}
 use mathlib.Core.Option.{Option, none, some}
 use mathlib.Core.List.{List, [], _∷_, _++_}
-use lib.IntN.{ℤ, pos, negℤ}
+use lib.IntN.{ℤ, pos, negℤ, _*ℤ_}
 use lib.ListN.{replicate, drop, set, take}
 use Rattle.rules.specs.declared.Vehicle.{Vehicle}
 use Rattle.rules.specs.declared.Place.{Place}
 use Rattle.rules.specs.declared.Place.the-variants.{First, Closing, AfterLow, Inner}
-use Rattle.rules.specs.Words.{if_then_else_, _and_, _or_, within, every, first, highest, pass, table, patch}
-use Rattle.rules.specs.Units.{ratio-of, ratio-good, point-good, bounds, first-failed, bad-field, low, longest, moving, rise, start, run, stop}
-use Rattle.rules.specs.Gears.{is-first, engine, next-minimum, minimum-of, minimum, under-nmax, over-minimum, allowed, fits, required, between, on-segment, reaches, segment, power-speed, power, enough, more, suits, beats, strongest, choose}
+use Rattle.rules.specs.Words.{if_then_else_, _and_, _or_, within, every, first, highest, pass, table, patch, part}
+use Rattle.rules.specs.Units.{ratio-of, ratio-good, point-good, bounds, first-failed, bad-field, low, longest, moving, rise, start, run, stop, margin-good}
+use Rattle.rules.specs.Gears.{is-first, engine, next-minimum, minimum-of, minimum, under-nmax, over-minimum, allowed, fits, required, between, on-segment, reaches, segment, power-speed, power, enough, more, suits, beats, strongest, choose, derated}
 use Rattle.rules.specs.Corrections.{floor, closing, ceiling, here, first-choice, free, is-peak, peak, too-high, rising, too-low, slowing, firsts, after-A, after-B, gears, trip-speeds, trip-holds, first-at, gear-at, clutch, byte, card-at, card, place-at, place-of}
 use Rattle.rules.specs.Refusals.{Fault, refuse-at, _orelse_, when, trace-fault, room-fault, vehicle-fault, check-number, checks, last-check, bad, fault-of, seconds-fault, gear-fault, span-fault, work-fault, left, second-fault, edit-fault}
 use Rattle.rules.specs.Quick.{span-lo, span-hi, standing-fault, own-fault, quick-fault, reworked, quick-holds, quick-card}
 use Rattle.rules.specs.Holds.{asked, hold-fault, hold-holds, hold-card, release-holds, release-card}
 use Rattle.rules.specs.Groups.{Read, got, refused, hand-on, demand, early, group-if, group, form}
-use Rattle.rules.specs.Forms.{value, checked, bounded, _then_, seen, row-read, row as in-a-row, many, counted, whole, row-write}
-use Rattle.rules.specs.Job.{version, gearbox, numbers as eight-numbers, point, curve, seconds, trace as speeds, hold, rising as rising-holds, padded, vehicle-of, vehicle, put, holds, packed, stages, job, job-read, points-of, parts-of, gather, fields, read-fault}
-use Rattle.rules.specs.Write.{job-from, job-bytes}
+use Rattle.rules.specs.Forms.{value, checked, bounded, _then_, seen, row-read, row as in-a-row, many, counted, whole, row-write, known, only-if}
+use Rattle.rules.specs.Job.{version, gearbox, numbers as eight-numbers, point, curve, seconds, trace as speeds, hold, rising as rising-holds, padded, vehicle-of, vehicle, put, holds, packed, stages, job, job-read, points-of, parts-of, gather, fields, read-fault, job-of}
+use Rattle.rules.specs.Write.{job-from, job-bytes, job-fault, holds-fault, version-fault, margin-field, lower-field, fields-fault, checks-fault}
 use Rattle.rules.specs.Mend.{mend-lo, mend-hi, mend-end, mended-fault, mended-card, mend-fault, mend-speeds, mend-card}
 use Rattle.rules.specs.Text.{digits, decimal, heading, pedal, line, lines, card-text, refusal-text, worked-text, read-text, printed, program-room, printed-fault}
 
--- car Z, with its first ratio, its idle and rated speeds and its F0
-car-with : ℕ → ℕ → ℕ → ℕ → Vehicle
-car-with ratio idle rated f0 = record {
+-- car Z, with its first ratio, its margins, its idle and rated speeds and its F0
+vehicle-with : ℕ → ℕ → List ℕ → ℕ → ℕ → ℕ → Vehicle
+vehicle-with ratio margin margins idle rated f0 = record {
   ng = 5;
   ratio = ratio ∷ 7000 ∷ 4500 ∷ 3500 ∷ 2800 ∷ 0 ∷ 0 ∷ 0 ∷ 0 ∷ 0 ∷ [];
   idle = idle;
@@ -36,11 +36,16 @@ car-with ratio idle rated f0 = record {
   f1 = pos 0;
   f2 = 4000;
   tm = 1500;
-  margin = 10;
+  margin = margin;
   points = 7;
   n = 800 ∷ 1800 ∷ 2800 ∷ 3800 ∷ 4800 ∷ 5600 ∷ 6000 ∷ [];
   p = 100 ∷ 300 ∷ 500 ∷ 700 ∷ 850 ∷ 900 ∷ 880 ∷ [];
+  m = margins;
 }
+
+-- with no margin at a point
+car-with : ℕ → ℕ → ℕ → ℕ → Vehicle
+car-with ratio = vehicle-with ratio 10 (replicate 64 0)
 
 car-of : ℕ → ℕ → ℕ → Vehicle
 car-of = car-with 12000
@@ -62,6 +67,10 @@ halves-after = car-of 810 5600 1000
 -- from V 121 on gear 1 turns past nmax, and up to V 131 gear 2 turns below 1.15 times idle
 gap : Vehicle
 gap = car-with 50000 800 5600 1000
+
+-- car Z with M and a margin at each point
+margins-Z : ℕ → List ℕ → Vehicle
+margins-Z margin margins = vehicle-with 12000 margin margins 800 5600 1000
 
 -- a second that is not its trip's first, not in the closing run and not after gear 1
 inside : Place
@@ -148,6 +157,10 @@ firsts-of car vs hs n = numbers (table (first-at car vs hs) 1 n)
 no-gear-at : ℕ → Value
 no-gear-at i = refusal (some (record { no = 10; spot = i }))
 
+-- a job's version, and the margins of its first eight places
+margins-read : List ℕ → List ℕ
+margins-read bytes = let j = job-of (job-read bytes 9 9) in j .version ∷ take 8 (j .vehicle .m)
+
 rows : List Row
 rows =
     -- car Z minimum speeds
@@ -161,11 +174,11 @@ rows =
     -- V 499, D 0
     ∷ row (test (fits Z inside 499 5)) (test false)
     ∷ row (choice 499 (pos 0)) (numbers (4 ∷ []))
-    -- V 500, D 36
+    -- V 500, D 36; the Q of available power is 100 - M times the paper's
     ∷ row (scaled (required Z 500 (pos 36))) (scaled (pos 78525000000000))
-    ∷ row (scaled (power Z 500 5 .Q)) (scaled (pos 220000000))
+    ∷ row (scaled (power Z 500 5 .Q)) (scaled (pos 90 *ℤ pos 220000000))
     ∷ row (test (enough Z 500 (pos 36) 5)) (test false)
-    ∷ row (scaled (power Z 500 4 .Q)) (scaled (pos 290000000))
+    ∷ row (scaled (power Z 500 4 .Q)) (scaled (pos 90 *ℤ pos 290000000))
     ∷ row (test (enough Z 500 (pos 36) 4)) (test true)
     ∷ row (choice 500 (pos 36)) (numbers (4 ∷ []))
     -- pass A, no holds, floor 1
@@ -187,6 +200,7 @@ rows =
     ∷ row (choice 500 (negℤ (pos 36))) (numbers (5 ∷ []))
     ∷ row (numbers (choose (car-Z 927) inside 1139 (pos 34) ∷ [])) (numbers (4 ∷ []))
     ∷ row (numbers (choose (car-Z 928) inside 1309 (pos 29) ∷ [])) (numbers (3 ∷ []))
+    ∷ row (numbers (choose (car-Z 7886) inside 602 (pos 13) ∷ [])) (numbers (4 ∷ []))
     -- minimum speeds round halves up: X 742,000 is too low for gear 2, X 1,400,000 for gear 5
     ∷ row (numbers (minimum halves Inner 1 ∷ minimum halves Inner 2 ∷ minimum halves Inner 3 ∷ [])) (numbers (825 ∷ 743 ∷ 1401 ∷ []))
     ∷ row (numbers (choose halves inside 106 (pos 0) ∷ [])) (numbers (1 ∷ []))
@@ -229,10 +243,19 @@ rows =
     ∷ row (refusal (hold-fault Z (0 ∷ 50 ∷ 2001 ∷ 50 ∷ 0 ∷ []) (replicate 5 0) (replicate 5 0) 1 0)) (refusal (some (record { no = 4; spot = 2 })))
     ∷ row (refusal (hold-fault Z (0 ∷ 50 ∷ 201 ∷ 100 ∷ 0 ∷ []) (replicate 5 0) (replicate 5 0) 1 0)) (refusal (some (record { no = 5; spot = 2 })))
     ∷ row (refusal (hold-fault Z (50 ∷ 50 ∷ 50 ∷ 0 ∷ 0 ∷ []) (replicate 5 0) (replicate 5 0) 2 0)) (refusal (some (record { no = 6; spot = 0 })))
+    -- request Six: derated at the points first, interpolated after that
+    ∷ row (scaled (power (margins-Z 10 (0 ∷ 50 ∷ 0 ∷ 0 ∷ 0 ∷ 0 ∷ 0 ∷ [])) 500 5 .Q)) (scaled (pos 10800000000))
+    -- enough power, and most power, are judged on it: 4 and 1 without a margin
+    ∷ row (numbers (choose (margins-Z 10 (0 ∷ 10 ∷ 0 ∷ 0 ∷ 0 ∷ 0 ∷ 0 ∷ [])) inside 500 (pos 36) ∷ [])) (numbers (3 ∷ []))
+    ∷ row (numbers (choose Z inside 500 (pos 150) ∷ choose (margins-Z 10 (0 ∷ 0 ∷ 0 ∷ 0 ∷ 0 ∷ 0 ∷ 50 ∷ [])) inside 500 (pos 150) ∷ [])) (numbers (1 ∷ 2 ∷ []))
+    -- a margin is at most 50, and 90 with M; past the point count nothing looks
+    ∷ row (refusal (vehicle-fault (margins-Z 10 (0 ∷ 0 ∷ 0 ∷ 51 ∷ 0 ∷ 0 ∷ 0 ∷ [])))) (refusal (some (record { no = 3; spot = 12 })))
+    ∷ row (refusal (vehicle-fault (margins-Z 41 (0 ∷ 0 ∷ 0 ∷ 50 ∷ 0 ∷ 0 ∷ 0 ∷ [])))) (refusal (some (record { no = 3; spot = 12 })))
+    ∷ row (refusal (vehicle-fault (margins-Z 40 (0 ∷ 0 ∷ 0 ∷ 50 ∷ 0 ∷ 0 ∷ 0 ∷ 99 ∷ [])))) (refusal none)
     -- car Z and these speeds are written as their job
-    ∷ row (numbers (job-bytes Z trace (replicate 5 0))) (numbers job-Z)
+    ∷ row (numbers (job-bytes 1 Z trace (replicate 5 0))) (numbers job-Z)
     -- with gear 3 held at second 2: one hold, of second 2 and gear 3, at the end
-    ∷ row (numbers (drop 62 (job-bytes Z trace (0 ∷ 0 ∷ 3 ∷ 0 ∷ 0 ∷ [])))) (numbers (1 ∷ 2 ∷ 3 ∷ []))
+    ∷ row (numbers (drop 62 (job-bytes 1 Z trace (0 ∷ 0 ∷ 3 ∷ 0 ∷ 0 ∷ [])))) (numbers (1 ∷ 2 ∷ 3 ∷ []))
     -- a sample mended, and the speeds that are left
     ∷ row (numbers (mend-card Z trace (replicate 5 0) (17 ∷ 1 ∷ 2 ∷ 18 ∷ 0 ∷ []) 2 110)) (numbers (17 ∷ 1 ∷ 18 ∷ 18 ∷ 0 ∷ []))
     ∷ row (numbers (mend-speeds Z trace (replicate 5 0) (17 ∷ 1 ∷ 2 ∷ 18 ∷ 0 ∷ []) 2 110)) (numbers (0 ∷ 50 ∷ 110 ∷ 100 ∷ 0 ∷ []))
@@ -262,6 +285,19 @@ rows =
     -- callers with their own memory read on where the count is 16,384, and are refused by 1 where it is 16,385
     ∷ row (refusal (read-fault (job-read (counting (form 16384)) 16384 16384))) (refusal (some (record { no = 12; spot = 58 })))
     ∷ row (refusal (read-fault (job-read (counting (form 16385)) 65535 65535))) (refusal (some (record { no = 1; spot = 0 })))
+    -- request Six: version 2 has a margin behind each p; read back, the job has its version and its margins
+    ∷ row (numbers (part (job-bytes 2 (margins-Z 10 (0 ∷ 50 ∷ 0 ∷ 1 ∷ 0 ∷ 0 ∷ 2 ∷ [])) trace (replicate 5 0)) 28 41)) (numbers (160 ∷ 6 ∷ 100 ∷ 0 ∷ 136 ∷ 14 ∷ 172 ∷ 2 ∷ 50 ∷ 240 ∷ 21 ∷ 244 ∷ 3 ∷ []))
+    ∷ row (numbers (margins-read (job-bytes 2 (margins-Z 10 (0 ∷ 50 ∷ 0 ∷ 1 ∷ 0 ∷ 0 ∷ 2 ∷ [])) trace (replicate 5 0)))) (numbers (2 ∷ 0 ∷ 50 ∷ 0 ∷ 1 ∷ 0 ∷ 0 ∷ 2 ∷ 0 ∷ []))
+    ∷ row (numbers (margins-read job-Z)) (numbers (1 ∷ 0 ∷ 0 ∷ 0 ∷ 0 ∷ 0 ∷ 0 ∷ 0 ∷ 0 ∷ []))
+    -- the writer: 14 before everything else; a margin in version 1 is 3 at field 12, after 11 and before 13
+    ∷ row (refusal (checks-fault 3 Z [] [])) (refusal (some (record { no = 14; spot = 0 })))
+    ∷ row (refusal (checks-fault 0 Z [] [])) (refusal (some (record { no = 14; spot = 0 })))
+    ∷ row (refusal (checks-fault 1 (margins-Z 10 (0 ∷ 0 ∷ 0 ∷ 0 ∷ 0 ∷ 0 ∷ 1 ∷ [])) trace (replicate 5 0))) (refusal (some (record { no = 3; spot = 12 })))
+    ∷ row (refusal (checks-fault 1 (margins-Z 51 (0 ∷ 0 ∷ 0 ∷ 0 ∷ 0 ∷ 0 ∷ 1 ∷ [])) trace (replicate 5 0))) (refusal (some (record { no = 3; spot = 10 })))
+    ∷ row (refusal (checks-fault 1 (vehicle-with 12000 10 (1 ∷ []) 799 5600 1000) trace (replicate 5 0))) (refusal (some (record { no = 3; spot = 12 })))
+    ∷ row (refusal (checks-fault 2 (vehicle-with 12000 10 (1 ∷ []) 799 5600 1000) trace (replicate 5 0))) (refusal (some (record { no = 3; spot = 13 })))
+    ∷ row (refusal (checks-fault 1 (margins-Z 10 (0 ∷ 0 ∷ 0 ∷ 0 ∷ 0 ∷ 0 ∷ 0 ∷ 9 ∷ [])) trace (replicate 5 0))) (refusal none)
+    ∷ row (refusal (checks-fault 2 (margins-Z 10 (0 ∷ 0 ∷ 0 ∷ 0 ∷ 0 ∷ 0 ∷ 1 ∷ [])) trace (replicate 5 0))) (refusal none)
     -- what the card program prints of car Z's job
     ∷ row (numbers (printed job-Z)) (numbers (
     115 ∷ 101 ∷ 99 ∷ 111 ∷ 110 ∷ 100 ∷ 32 ∷ 115 ∷ 112 ∷ 101 ∷ 101 ∷ 100 ∷ 32 ∷ 103 ∷ 101 ∷ 97 ∷ 114 ∷ 32 ∷ 99 ∷ 108 ∷ 117 ∷ 116 ∷ 99 ∷ 104 ∷ 10 ∷
@@ -279,5 +315,5 @@ papers [] = []
 papers (r ∷ rs) = r .paper ∷ papers rs
 
 sums-done-on-paper : sums rows ≡ papers rows
-unfolding sums papers rows row choice car-of car-Z Z halves inside free-trip steady up trace two-trips job-Z _and_ _or_ within every first highest pass table patch ratio-of ratio-good point-good bounds first-failed bad-field low longest moving rise start run stop engine minimum-of minimum under-nmax over-minimum allowed fits required between on-segment reaches segment power-speed power enough more suits beats strongest choose floor closing ceiling here first-choice free is-peak peak too-high rising too-low slowing firsts after-A after-B gears trip-speeds trip-holds first-at gear-at clutch byte card-at card refuse-at _orelse_ when trace-fault room-fault vehicle-fault check-number checks last-check bad fault-of seconds-fault gear-fault span-fault work-fault left second-fault edit-fault span-lo span-hi standing-fault own-fault quick-fault reworked quick-holds quick-card asked hold-fault hold-holds hold-card release-holds release-card hand-on demand early group-if group value checked bounded _then_ seen row-read in-a-row many counted whole version gearbox eight-numbers point curve seconds speeds hold rising-holds padded vehicle-of vehicle put holds packed stages job job-read digits decimal heading pedal line lines card-text refusal-text worked-text read-text printed form row-write points-of parts-of gather fields job-from job-bytes split mend-lo mend-hi mend-end mended-fault mended-card mend-fault mend-speeds mend-card next-minimums firsts-of no-gear-at car-with halves-after gap dip dip-closing slow-start is-first next-minimum place-at place-of counting too-long read-fault program-room printed-fault
+unfolding sums vehicle-with papers rows row choice car-of car-Z Z halves inside free-trip steady up trace two-trips job-Z _and_ _or_ within every first highest pass table patch ratio-of ratio-good point-good bounds first-failed bad-field low longest moving rise start run stop engine minimum-of minimum under-nmax over-minimum allowed fits required between on-segment reaches segment power-speed power enough more suits beats strongest choose floor closing ceiling here first-choice free is-peak peak too-high rising too-low slowing firsts after-A after-B gears trip-speeds trip-holds first-at gear-at clutch byte card-at card refuse-at _orelse_ when trace-fault room-fault vehicle-fault check-number checks last-check bad fault-of seconds-fault gear-fault span-fault work-fault left second-fault edit-fault span-lo span-hi standing-fault own-fault quick-fault reworked quick-holds quick-card asked hold-fault hold-holds hold-card release-holds release-card hand-on demand early group-if group value checked bounded _then_ seen row-read in-a-row many counted whole version gearbox eight-numbers point curve seconds speeds hold rising-holds padded vehicle-of vehicle put holds packed stages job job-read digits decimal heading pedal line lines card-text refusal-text worked-text read-text printed form row-write points-of parts-of gather fields job-from job-bytes split mend-lo mend-hi mend-end mended-fault mended-card mend-fault mend-speeds mend-card next-minimums firsts-of no-gear-at car-with halves-after gap dip dip-closing slow-start is-first next-minimum place-at place-of counting too-long read-fault program-room printed-fault margins-read job-of margins-Z margin-good derated known only-if job-fault holds-fault version-fault margin-field lower-field fields-fault checks-fault
 sums-done-on-paper = refl

@@ -10,6 +10,7 @@ pub mod Sizes
 pub mod Nested
 pub mod Strongest
 pub mod Minimum
+pub mod Margins
 pub mod Choice
 pub mod Closing
 pub mod Held

@@ -16,7 +16,7 @@ use Rattle.rules.specs.declared.Place.{Place}
 use Rattle.rules.specs.declared.Place.the-variants.{AfterLow}
 use Rattle.rules.specs.Words.{if_then_else_, _or_, at, first, pass, patch}
 use Rattle.rules.specs.Units.{bad-field, longest, fastest, steepest, moving, start, stop, rise}
-use Rattle.rules.specs.Gears.{engine, under-nmax, fits, required, Power, on-segment, segment, power-speed, choose, is-first, minimum}
+use Rattle.rules.specs.Gears.{engine, under-nmax, fits, required, Power, on-segment, segment, power-speed, choose, is-first, minimum, power, enough, more}
 use Rattle.rules.specs.Corrections.{peak, rising, slowing, gear-at, card-at, card, first-at, place-at}
 use Rattle.rules.specs.Refusals.{said, refuse-at, _orelse_, speed, step, ends, fault-of, span-fault, work-fault, left, work-card, edit-fault}
 use Rattle.rules.specs.Job.{most-groups, longest-job, Job, job-read, version, vehicle}
@@ -24,7 +24,7 @@ use Rattle.rules.specs.Text.{printed, refusal-text, program-room}
 use Rattle.rules.specs.Groups.{got, form, group}
 use Rattle.rules.specs.Quick.{span-lo, span-hi, own-fault, quick-fault, reworked, quick-holds, quick-card}
 use Rattle.rules.specs.Holds.{asked, hold-fault, hold-holds, hold-card, release-fault, release-holds, release-card}
-use Rattle.rules.specs.Vocabulary.{IsTrip, FirstChoice, OnSegment, Wanting, PassesOthers, Out, Edit, SameSpan, OneForm, _times_, In64, nested, nested-sum, engine-sum, idle-sum, required-sum, w-sum, Q-sum, margin-sum, Bytes, MayChange, Right, Run, Spares, Turns, Allowed}
+use Rattle.rules.specs.Vocabulary.{IsTrip, FirstChoice, OnSegment, Wanting, PassesOthers, Out, Edit, SameSpan, OneForm, _times_, In64, nested, nested-sum, engine-sum, idle-sum, required-sum, w-sum, Q-sum, Bytes, MayChange, Right, Run, Spares, Turns, Allowed, NoMargins, full-load, enough-before, choose-before, card-by, available-sum}
 use Rattle.rules.specs.Groups.{got}
 use Rattle.rules.specs.Write.{job-from, job-fault, write-fault, written, cleared}
 use Rattle.rules.specs.Mend.{mend-lo, mend-hi, mend-end, mended-fault, mended-card, mend-fault, mend-speeds, mend-card}
@@ -32,6 +32,7 @@ use Rattle.rules.proofs.Laws.Words.{by-order, pass-keeps}
 use Rattle.rules.proofs.Laws.Trips.{trip-of, trip-le, trip-start, trip-stop, start-before, stop-after, stop-in, moving-in}
 use Rattle.rules.proofs.Laws.Vehicle.{in-bounds}
 use Rattle.rules.proofs.Laws.Power.{gear-segment, same-power as shared-point}
+use Rattle.rules.proofs.Laws.Margins.{enough-none, more-none, choose-none, card-same}
 use Rattle.rules.proofs.Laws.Sizes.{comparison-in-64-bits, more-in-64-bits, speed-in-64-bits}
 use Rattle.rules.proofs.Laws.Nested.{required-nested, nested-inside}
 use Rattle.rules.proofs.Laws.Choice.{first-choice-plainly}
@@ -47,7 +48,7 @@ use Rattle.rules.proofs.Laws.Holds.{asked-gear, held-from-one, none-hel
 use Rattle.rules.proofs.Laws.Mend.{mend-whole, mend-same, lo-kept, hi-kept, bytes-kept, speeds-kept, may-change, mend-looks, mend-reworks, hold-wins}
 use Rattle.rules.proofs.Laws.Runs.{hold-stays, release-stays, mend-stays, run-right}
 use Rattle.rules.proofs.Laws.Groups.{one-form}
-use Rattle.rules.proofs.Laws.Writes.{writable, reads-written, writes-read, write-none, none-write}
+use Rattle.rules.proofs.Laws.Writes.{writable, reads-written, writes-read, write-none, none-write, read-passes}
 use Rattle.rules.proofs.Laws.Long.{long-job, too-long, two-bytes-most}
 use Rattle.rules.proofs.Laws.Refusals.{said-once}
 use Rattle.rules.proofs.Laws.Minimum.{minimum-most, fits-anywhere}
@@ -102,6 +103,28 @@ segment-found car e = gear-segment car (in-bounds car e)
 pub same-power : (car : Vehicle) (k : ℕ) → let x = 1000 * at (car .n) (suc k) in on-segment car x k .Q *ℤ on-segment car x (suc k) .w ≡ on-segment car x (suc k) .Q *ℤ on-segment car x k .w
 same-power = shared-point
 
+-- Request Six: where no point of the curve has a margin of its own, power is compared as in document 01, by full-load power and M alone
+
+module _ (car : Vehicle) (ok : bad-field car ≡ none) (none-own : NoMargins car) where
+  pub enough-by-M : (here : Place) (v g : ℕ) → fits car here v g ≡ true → (d : ℤ) → enough car v d g ≡ enough-before car v d g
+  enough-by-M = enough-none car (in-bounds car ok) none-own
+
+  pub most-by-full-load : (here : Place) (v g h : ℕ) → fits car here v g ≡ true → fits car here v h ≡ true
+      → more (power car v g) (power car v h) ≡ more (full-load car v g) (full-load car v h)
+  most-by-full-load = more-none car (in-bounds car ok) none-own
+
+  -- so the rules choose as document 01 chose
+  pub choice-by-M : (here : Place) (v : ℕ) (d : ℤ) → choose car here v d ≡ choose-before car here v d
+  choice-by-M = choose-none car (in-bounds car ok) none-own
+
+  -- and the card is the one that was
+  pub card-by-M : (vs hs : List ℕ) → card car vs hs ≡ card-by (choose-before car) car vs hs
+  card-by-M = card-same (choose-before car) car choice-by-M
+
+-- the card by another choice is the card with that choice in place of the rules': with the rules' own it is the card
+pub card-by-rules : (car : Vehicle) (vs hs : List ℕ) → card car vs hs ≡ card-by (choose car) car vs hs
+card-by-rules car = card-same (choose car) car (λ here v d. refl)
+
 -- ---- 4. Every product and sum of the power comparison, the engine speeds X and 1000 x idle among them, stays inside a signed 64-bit number
 
 pub speeds-in-64-bits : (car : Vehicle) → bad-field car ≡ none → (v : ℕ) → v ≤ fastest → (g : ℕ) → 1 ≤ g → g ≤ car .ng
@@ -110,7 +133,7 @@ speeds-in-64-bits car e = speed-in-64-bits car (in-bounds car e)
 
 pub enough-in-64-bits : (car : Vehicle) → bad-field car ≡ none → (v : ℕ) → v ≤ fastest → (d : ℤ) → natAbs d ≤ steepest → (x k : ℕ) → OnSegment car x k
     → In64 (required-sum car v d times w-sum car k) (required car v d *ℤ on-segment car x k .w)
-    × In64 (margin-sum car x k) ((pos 100 -ℤ pos (car .margin)) *ℤ on-segment car x k .Q *ℤ pos 3240000)
+    × In64 (available-sum car x k) (on-segment car x k .Q *ℤ pos 3240000)
 enough-in-64-bits car e = comparison-in-64-bits car (in-bounds car e)
 
 pub most-in-64-bits : (car : Vehicle) → bad-field car ≡ none → (x k : ℕ) → OnSegment car x k → (y j : ℕ) → OnSegment car y j
@@ -334,19 +357,19 @@ one-form-each = one-form
 
 -- ---- 9. The job, both ways
 
--- what is written reads back as the same job, in rooms that are long enough; places of the vehicle that are no part of a job as 0
-pub written-reads-back : (car : Vehicle) (vs hs room : List ℕ) → write-fault car vs hs room ≡ none → (a b : ℕ) → length vs ≤ a → length vs ≤ b
-    → job-read (written car vs hs room) a b ≡ got (job-from (cleared car) vs hs) (length (written car vs hs room))
-written-reads-back car vs hs room e a b x y = let w = write-none car vs hs room e in rw (w .1) (reads-written car vs hs (writable car vs hs (w .0)) a b x y)
+-- what is written reads back as the same job, its version too, in rooms that are long enough; places of the vehicle that are no part of a job as 0
+pub written-reads-back : (v : ℕ) (car : Vehicle) (vs hs room : List ℕ) → write-fault v car vs hs room ≡ none → (a b : ℕ) → length vs ≤ a → length vs ≤ b
+    → job-read (written v car vs hs room) a b ≡ got (job-from v (cleared car) vs hs) (length (written v car vs hs room))
+written-reads-back v car vs hs room e a b x y = let w = write-none v car vs hs room e in rw (w .1) (reads-written v car vs hs (writable v car vs hs (w .0)) a b x y)
 
--- a job that is read and passes checks 1 to 9 is written as the same bytes, in room that is long enough
+-- a job that is read and passes checks 1 to 9 is written, in its own version, as the same bytes, in room that is long enough
 pub read-writes-back : (bytes : List ℕ) → Bytes bytes → (a b : ℕ) {j : Job} {end : ℕ} → job-read bytes a b ≡ got j end
     → job-fault (j .vehicle) (j .speeds) (j .holds) ≡ none → (room : List ℕ) → length bytes ≤ length room
-    → (write-fault (j .vehicle) (j .speeds) (j .holds) room ≡ none) × (written (j .vehicle) (j .speeds) (j .holds) room ≡ bytes)
+    → (write-fault (j .version) (j .vehicle) (j .speeds) (j .holds) room ≡ none) × (written (j .version) (j .vehicle) (j .speeds) (j .holds) room ≡ bytes)
 read-writes-back bytes h a b {j} e ok room l =
     let same = writes-read bytes h a b e in
-    let f = none-write (j .vehicle) (j .speeds) (j .holds) room ok (rw same l) in
-    (f, write-none (j .vehicle) (j .speeds) (j .holds) room f .1 ∙ same)
+    let f = none-write (j .version) (j .vehicle) (j .speeds) (j .holds) room (read-passes bytes a b e ok) (rw same l) in
+    (f, write-none (j .version) (j .vehicle) (j .speeds) (j .holds) room f .1 ∙ same)
 
 -- ---- The card program: of an input that is longer than the longest job that it has room for, as many bytes as that job has and one more say all that
 -- is printed
@@ -354,14 +377,14 @@ read-writes-back bytes h a b {j} e ok room l =
 pub long-input : (bytes : List ℕ) → longest-job program-room < length bytes → printed (take (suc (longest-job program-room)) bytes) ≡ printed bytes
 long-input = long-job
 
--- and that is 37,318 bytes
-pub longest-job-is : suc (longest-job program-room) ≡ 37318
+-- and that is 37,510 bytes
+pub longest-job-is : suc (longest-job program-room) ≡ 37510
 unfolding longest-job most-groups program-room
 longest-job-is = refl
 
 -- Request Ten: where the version, the vehicle and then the sample count are read, and the count is more than it has room for, it prints "refused 1 at 0",
 -- be the count over the longest trace or not
-pub too-long-printed : (bytes : List ℕ) {v : ℕ} {car : Vehicle} {i j k n : ℕ} → version .read bytes 0 ≡ got v i → vehicle .read bytes i ≡ got car j → group bytes j ≡ got n k
+pub too-long-printed : (bytes : List ℕ) {v : ℕ} {car : Vehicle} {i j k n : ℕ} → version .read bytes 0 ≡ got v i → vehicle v .read bytes i ≡ got car j → group bytes j ≡ got n k
     → program-room < n → printed bytes ≡ refusal-text (record { no = 1; spot = 0 })
 too-long-printed = too-long
 

@@ -1,21 +1,23 @@
 -- The words of the theorems: what they say, as records of plain facts. A reader who has the definitions reads these, and then the theorems, without
 -- any law.
 -- Assumes nothing.
-use Prim.Native.Nat.{ℕ, suc, _+_, _-_, _*_, _^_, _≤_, _<_, _%_}
+use Prim.Native.Nat.{ℕ, suc, _+_, _-_, _*_, _^_, _≤_, _<_, _%_, zero}
 use mathlib.Core.Path.{_≡_}
 use mathlib.Core.Logic.{_≢_, _⊎_}
-use mathlib.Core.Bool.{Bool, true, false}
+use mathlib.Core.Bool.{Bool, true, false, not}
 use mathlib.Core.Option.{none}
 use mathlib.Core.List.{List, _++_}
-use lib.ListN.{length}
+use lib.ListN.{length, replicate}
+use lib.Dec.{eqb}
 use lib.IntN.{ℤ, pos, natAbs, _+ℤ_, _-ℤ_, _*ℤ_}
+use lib.Signed.{leZ}
 use Rattle.rules.specs.declared.Vehicle.{Vehicle}
 use Rattle.rules.specs.declared.Place.{Place}
-use Rattle.rules.specs.Words.{at}
-use Rattle.rules.specs.Units.{ratio-of, low, moving, start}
-use Rattle.rules.specs.Gears.{engine, minimum, fits, power, enough, more, suits}
+use Rattle.rules.specs.Words.{at, if_then_else_, _and_, _or_, highest, pass, table}
+use Rattle.rules.specs.Units.{ratio-of, low, moving, start, rise}
+use Rattle.rules.specs.Gears.{engine, minimum, fits, power, enough, more, suits, required, Power, between, segment, power-speed}
 use Rattle.rules.specs.Refusals.{trace-fault, room-fault, vehicle-fault, over-ng, over-rev, no-gear, bad, seconds-fault, work-fault}
-use Rattle.rules.specs.Corrections.{floor, card}
+use Rattle.rules.specs.Corrections.{floor, card, here, peak, rising, slowing, trip-speeds, trip-holds, byte}
 use Rattle.rules.specs.Holds.{hold-holds, hold-card, release-holds, release-card}
 use Rattle.rules.specs.Mend.{mend-speeds, mend-card}
 use Rattle.rules.specs.Groups.{got, group, form}
@@ -45,6 +47,8 @@ pub record InBounds (car : Vehicle) : Type 0 where
   pub n-rises : (k : ℕ) → suc k < car .points → at (car .n) k < at (car .n) (suc k)
   pub n-rises-by : (k : ℕ) → suc k < car .points → at (car .n) (suc k) ≤ at (car .n) k + 1000
   pub p-to : (k : ℕ) → k < car .points → at (car .p) k ≤ 5000
+  pub m-to : (k : ℕ) → k < car .points → at (car .m) k ≤ 50
+  pub margins-to : (k : ℕ) → k < car .points → car .margin + at (car .m) k ≤ 90
   pub first-point : at (car .n) 0 ≤ car .idle
   pub last-point : car .nmax ≤ at (car .n) (car .points - 1)
 
@@ -93,6 +97,64 @@ pub record OnSegment (car : Vehicle) (x k : ℕ) : Type 0 where
   pub next-point : suc k < car .points
   pub from : 1000 * at (car .n) k ≤ x
   pub to : x ≤ 1000 * at (car .n) (suc k)
+
+-- ---- document 01 before request Six: full-load power, and M alone
+
+-- no point of the curve has a margin of its own
+abbrev pub NoMargins : Vehicle → Type 0
+NoMargins car = (k : ℕ) → k < car .points → at (car .m) k ≡ 0
+
+-- full-load power at a gear: between neighbouring points (n1,p1) and (n2,p2)
+unfoldable pub full-load : Vehicle → ℕ → ℕ → Power
+full-load car v g =
+    let x = power-speed car v g in
+    let k = segment car x in
+    between (at (car .n) k) (pos (at (car .p) k)) (at (car .n) (suc k)) (pos (at (car .p) (suc k))) x
+
+-- the gear has enough power: (100 - M) x Q x 3,240,000 >= E x w
+unfoldable pub enough-before : Vehicle → ℕ → ℤ → ℕ → Bool
+enough-before car v d g =
+    leZ (required car v d *ℤ full-load car v g .w) ((pos 100 -ℤ pos (car .margin)) *ℤ full-load car v g .Q *ℤ pos 3240000)
+
+-- the rules' choice by these
+unfoldable pub suits-before : Vehicle → Place → ℕ → ℤ → ℕ → Bool
+suits-before car here v d g = fits car here v g and enough-before car v d g
+
+unfoldable pub beats-before : Vehicle → Place → ℕ → ℕ → ℕ → Bool
+beats-before car here v g r = fits car here v g and (eqb r 0 or not (more (full-load car v r) (full-load car v g)))
+
+unfoldable pub strongest-before : Vehicle → Place → ℕ → ℕ → ℕ
+strongest-before car here v zero = 0
+strongest-before car here v (suc k) =
+    let r = strongest-before car here v k in
+    if beats-before car here v (suc k) r then suc k else r
+
+unfoldable pub choose-before : Vehicle → Place → ℕ → ℤ → ℕ
+choose-before car here v d =
+    let g = highest (suits-before car here v d) (car .ng) in
+    if eqb g 0 then strongest-before car here v (car .ng) else g
+
+-- the card of a vehicle whose gears are chosen by `rule`, all else as in Corrections
+module _ (rule : Place → ℕ → ℤ → ℕ) (car : Vehicle) where
+  unfoldable pub first-by : List ℕ → List ℕ → ℕ → List ℕ → ℕ
+  first-by us hs j gs = if eqb (at hs j) 0 then rule (here car us hs j gs) (at us j) (rise us j) else at hs j
+
+  unfoldable pub gears-by : List ℕ → List ℕ → List ℕ
+  gears-by us hs =
+      let firsts = pass (first-by us hs) (length hs) (replicate (length hs) 0) in
+      let after-A = pass (peak car us hs) (length hs) firsts in
+      let after-B = pass (rising car us hs) (length hs) after-A in
+      pass (slowing car us hs) (length hs) after-B
+
+  unfoldable pub gear-by : List ℕ → List ℕ → ℕ → ℕ
+  gear-by vs hs i = at (gears-by (trip-speeds vs i) (trip-holds vs hs i)) (i - start vs i)
+
+  unfoldable pub card-by : List ℕ → List ℕ → List ℕ
+  card-by vs hs =
+      table
+      (λ i. if moving (at vs i) then byte car vs i (gear-by vs hs i)
+      else if moving (at vs (suc i)) then 16 + gear-by vs hs (suc i)
+      else 0) 0 (length vs)
 
 -- ---- every product stays inside a signed 64-bit number
 
@@ -159,15 +221,19 @@ w-sum car k = num (pos (at (car .n) (suc k))) less num (pos (at (car .n) k))
 unfoldable pub past-sum : Vehicle → ℕ → ℕ → Sum
 past-sum car x k = num (pos x) less num (pos 1000) times num (pos (at (car .n) k))
 
--- Q = 1000 p1 w + (p2 - p1)(x - 1000 n1)
+-- a = p x (100 - M - m)
+unfoldable pub derated-sum : Vehicle → ℕ → Sum
+derated-sum car k = num (pos (at (car .p) k)) times (num (pos 100) less num (pos (car .margin)) less num (pos (at (car .m) k)))
+
+-- Q = 1000 a1 w + (a2 - a1)(x - 1000 n1)
 unfoldable pub Q-sum : Vehicle → ℕ → ℕ → Sum
 Q-sum car x k =
-    num (pos 1000) times num (pos (at (car .p) k)) times w-sum car k
-    plus (num (pos (at (car .p) (suc k))) less num (pos (at (car .p) k))) times past-sum car x k
+    num (pos 1000) times derated-sum car k times w-sum car k
+    plus (derated-sum car (suc k) less derated-sum car k) times past-sum car x k
 
--- (100 - M) x Q x 3,240,000
-unfoldable pub margin-sum : Vehicle → ℕ → ℕ → Sum
-margin-sum car x k = (num (pos 100) less num (pos (car .margin))) times Q-sum car x k times num (pos 3240000)
+-- Q x 3,240,000
+unfoldable pub available-sum : Vehicle → ℕ → ℕ → Sum
+available-sum car x k = Q-sum car x k times num (pos 3240000)
 
 -- ---- refused for want of a gear
 

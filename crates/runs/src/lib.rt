@@ -41,6 +41,7 @@ pub fn car_z() -> Vehicle {
         points: 7,
         n: n,
         p: p,
+        m: [0u16; 64],
     }
 }
 

@@ -28,6 +28,7 @@ pub gearcard-read : Determined read-kinds.ps read-kinds.r read-reads.Asked read-
 gearcard-read κs a asked z z′ ws ws′ p q = (
   λ i. record {
     verdict = (p .answered ∙ sym (q .answered)) i;
+    version = (p .the-version ∙ sym (q .the-version)) i;
     vehicle = (p .the-vehicle ∙ sym (q .the-vehicle)) i;
     count = (p .the-count ∙ sym (q .the-count)) i;
   },
@@ -37,7 +38,7 @@ gearcard-read κs a asked z z′ ws ws′ p q = (
 pub gearcard-write : Determined write-kinds.ps write-kinds.r write-reads.Asked write-reads.Learnt
 gearcard-write κs a asked z z′ ws ws′ p q = (
   λ i. record { verdict = (p .answered ∙ sym (q .answered)) i; length = (p .the-length ∙ sym (q .the-length)) i },
-  λ i. (tt, (tt, (tt, ((p .room-left ∙ sym (q .room-left)) i, tt)))),
+  λ i. (tt, (tt, (tt, (tt, ((p .room-left ∙ sym (q .room-left)) i, tt))))),
 )
 
 pub gearcard-work : Determined work-kinds.ps work-kinds.r work-reads.Asked work-reads.Learnt

@@ -36,16 +36,17 @@ says-told (Refused r) f e = ap as-verdict e
 -- the answer r, and the rooms as they are left, are what is read
 pub record ScreenRead (job speeds holds : List ℕ) (r : screen.Job) (speeds′ holds′ : List ℕ) : Type 0 where
   pub answered : r .verdict ≡ as-verdict (read-fault (job-read job (length speeds) (length holds)))
+  pub the-version : r .version ≡ job-of (job-read job (length speeds) (length holds)) .version
   pub the-vehicle : r .vehicle ≡ job-of (job-read job (length speeds) (length holds)) .vehicle
   pub the-count : r .count ≡ length (job-of (job-read job (length speeds) (length holds)) .speeds)
   pub speeds-left : speeds′ ≡ filled speeds (job-of (job-read job (length speeds) (length holds)) .speeds)
   pub holds-left : holds′ ≡ filled holds (job-of (job-read job (length speeds) (length holds)) .holds)
 
 -- the answer r, and the room as it is left, are what is written
-pub record ScreenWrite (car : Vehicle) (vs hs room : List ℕ) (r : Written) (room′ : List ℕ) : Type 0 where
-  pub answered : r .verdict ≡ as-verdict (write-fault car vs hs room)
-  pub the-length : r .length ≡ length (written car vs hs room)
-  pub room-left : room′ ≡ write-room car vs hs room
+pub record ScreenWrite (v : ℕ) (car : Vehicle) (vs hs room : List ℕ) (r : Written) (room′ : List ℕ) : Type 0 where
+  pub answered : r .verdict ≡ as-verdict (write-fault v car vs hs room)
+  pub the-length : r .length ≡ length (written v car vs hs room)
+  pub room-left : room′ ≡ write-room v car vs hs room
 
 -- the answer r is what is read of the export; all 0 where it is refused
 pub record ScreenExport (bytes : List ℕ) (r : Coefficients) : Type 0 where

@@ -19,10 +19,11 @@ pub struct Verdict {
     pub place: usize,
 }
 
-// What the reader answers: where it refuses, the vehicle is all zeros and the count 0.
+// What the reader answers: where it refuses, the version is 0, the vehicle all zeros and the count 0.
 #[repr(C)]
 pub struct Job {
     pub verdict: Verdict,
+    pub version: u16,
     pub vehicle: Vehicle,
     pub count: usize,
 }
@@ -64,22 +65,24 @@ pub extern "C" fn gearcard_read(job: &[u8], speeds: &mut [u16], holds: &mut [u8]
     let verdict = verdict_of(answer);
     Job {
         verdict: verdict,
+        version: reading.version,
         vehicle: vehicle,
         count: reading.count,
     }
 }
 
-// Writes a job into the start of the lent room.
+// Writes a job of a version into the start of the lent room.
 #[no_mangle]
 pub extern "C" fn gearcard_write<'a>(
+    version: u16,
     vehicle: Vehicle,
     speeds: &'a [u16],
     holds: &'a [u8],
     room: &mut [u8],
 ) -> Written
-    ensures { λ r. ⌜ ScreenWrite vehicle (now (speeds .entry)) (now (holds .entry)) (now (room .entry)) r (now (room .exit)) ⌝ }
+    ensures { λ r. ⌜ ScreenWrite version vehicle (now (speeds .entry)) (now (holds .entry)) (now (room .entry)) r (now (room .exit)) ⌝ }
 {
-    let written = jobs::write(vehicle, speeds, holds, room);
+    let written = jobs::write(version, vehicle, speeds, holds, room);
     let said = written.answer;
     let verdict = verdict_of(said);
     Written {

@@ -59,7 +59,7 @@ pass-c κs a asked z z′ ws ws′ p q = let s = asked .speeds in let r = asked 
 
 -- the first choices of a trip
 pub first-choices : Determined first-choices-kinds.ps first-choices-kinds.r first-choices-reads.Asked first-choices-reads.Learnt
-first-choices κs a asked z z′ ws ws′ p q = let car = asked .0 .car in let L = asked .0 .lent in (refl, ap (λ (x : List ℕ). (tt, (tt, (tt, (tt, (tt, (tt, (tt, (x, tt))))))))) (p car L ∙ sym (q car L)))
+first-choices κs a asked z z′ ws ws′ p q = let car = asked .0 .car in let L = asked .0 .lent in (refl, ap (λ (x : List ℕ). (tt, (tt, (tt, (tt, (tt, (tt, (tt, (tt, (tt, (x, tt))))))))))) (p car L ∙ sym (q car L)))
 
 -- the work on a trip
 pub work-trip : Determined work-trip-kinds.ps work-trip-kinds.r work-trip-reads.Asked work-trip-reads.Learnt

@@ -45,6 +45,12 @@ pass-skip f gs (suc k) h = rw (pass-skip f gs k (λ j l. h j (omega arith)), h k
 pub pass-first : (f : ℕ → List ℕ → ℕ) (gs : List ℕ) (k : ℕ) → k ≤ 1 → at gs 0 ≡ f 0 gs → gs ≡ pass f k gs
 pass-first f gs k l h = sym (pass-skip f gs k (λ j m. let e : j ≡ 0 = omega arith in rw e (sym h)))
 
+-- rules that say the same of every place make the same of a list
+pub pass-same : (f g : ℕ → List ℕ → ℕ) (gs : List ℕ) (k : ℕ) → ((j : ℕ) (rs : List ℕ) → j < k → f j rs ≡ g j rs) → pass f k gs ≡ pass g k gs
+unfolding pass
+pass-same f g gs zero h = refl
+pass-same f g gs (suc k) h = rw (pass-same f g gs k (λ j rs l. h j rs (omega arith)), h k (pass g k gs) (omega arith))
+
 -- ---- what was there before
 
 -- the rule for a place looks at earlier places only

@@ -3,40 +3,49 @@
 use Prim.Native.Nat.{ℕ, suc, _-_, _≤_, _<_}
 use native.Mathlib.Omega.{arith}
 use mathlib.Core.Path.{_≡_, sym, ap, _∙_}
+use mathlib.Core.Bool.{Bool, true, false}
 use mathlib.Core.List.{List}
 use lib.Dec.{leb, eqb}
-use lib.IntN.{ℤ}
 use lib.ListN.{length, drop}
-use borrow.Author.Tests.{eq-eqb}
+use borrow.Author.Tests.{eq-eqb, ne-eqb}
 use Rattle.rules.specs.declared.Vehicle.{Vehicle}
-use Rattle.rules.specs.Words.{at, pass, table}
+use Rattle.rules.specs.Words.{if_then_else_, _and_, at, pass, table}
 use Rattle.rules.specs.Units.{rise}
 use Rattle.rules.specs.Corrections.{closing, place-of, here, first-choice, peak, rising, slowing, firsts, after-A, after-B, gears, byte}
 use Rattle.rules.proofs.Laws.Words.{by-order}
 use Rattle.rules.proofs.Laws.Held.{length-gears}
-use Rattle.trips.proofs.Passes.{gears-to}
+use Rattle.trips.proofs.Passes.{pass-same, firsts-fresh, gears-to}
 use Rattle.gears.specs.declared.Numbers.{Numbers}
 use Rattle.gears.specs.Parts.{Lent, Parts}
 use Rattle.gears.proofs.Parts.{ng-of}
 use Rattle.gears.specs.Choosing.{first-of, first-parts}
 use Rattle.trips.specs.Ready.{HasRoom, Ready}
-use Rattle.trips.specs.Trip.{AllMoving, RunFrom, trip-bytes}
+use Rattle.trips.specs.Trip.{AllMoving, RunFrom, on-way, trip-bytes}
 
 module _ (car : Vehicle) (us hs : List ℕ) where
-  -- what second j is, from where the closing run begins and from the first choice before, which is not asked for at the trip's first second
-  known : (run before j : ℕ) (gs : List ℕ) → closing (drop j us) ≡ leb run j → ((j ≡ 0 → ⊥) → before ≡ at gs (j - 1))
-      → place-of car (eqb j 0) (leb run j) before ≡ here car us hs j gs
-  unfolding here place-of
-  known run before j gs c b =
+  -- a trip's seconds in a row, from its first on: what second j is, and its first choice
+  known : (run j : ℕ) (gs : List ℕ) → closing (drop j us) ≡ leb run j
+      → place-of car (true and eqb j 0) (leb run j) (if eqb j 0 then 0 else at gs (j - 1)) ≡ here car us hs j gs
+  unfolding here place-of _and_
+  known run j gs c =
       by-order 0 j
-      (λ l. rw (c, ← b (λ z. omega arith)))
+      (λ l. rw (c, ne-eqb j 0 (λ z. omega arith)))
       (λ l. rw (eq-eqb j 0 (omega arith)))
 
-  -- the choice for it and for D is the first choice of second j
-  pub chosen : (run before j v : ℕ) {d : ℤ} → d ≡ rise us j → RunFrom us run → suc j < length us
-      → v ≡ first-of car (place-of car (eqb j 0) (leb run j) before) (at us j) d (at hs j)
-      → (gs : List ℕ) → ((j ≡ 0 → ⊥) → before ≡ at gs (j - 1)) → v ≡ first-choice car us hs j gs
-  chosen run before j v e R l h gs b = rw (h, e, known run before j gs (R .run j l) b) (sym (first-parts car us hs j gs))
+  on-way-is : (run : ℕ) → RunFrom us run → length us ≡ suc (length hs) → (j : ℕ) (gs : List ℕ) → j < length hs → on-way car us hs true run 0 j gs ≡ first-choice car us hs j gs
+  unfolding on-way
+  on-way-is run R n j gs l = rw (known run j gs (R .run j (omega arith))) (sym (first-parts car us hs j gs))
+
+  -- so that going through all of them gives the trip's first choices
+  pub way-firsts : (run : ℕ) → RunFrom us run → length us ≡ suc (length hs) → (gs : List ℕ) {f : List ℕ} → length gs ≡ length hs
+      → f ≡ pass (on-way car us hs true run 0) (length hs) gs → f ≡ firsts car us hs
+  way-firsts run R n gs m e = e ∙ pass-same (on-way car us hs true run 0) (first-choice car us hs) gs (length hs) (λ j rs l. on-way-is run R n j rs l) ∙ firsts-fresh car us hs gs m
+
+  -- one second of some in a row
+  pub way-step : (begins first : Bool) (run last before j : ℕ) (gs : List ℕ) {v : ℕ} → first ≡ (begins and eqb j 0) → before ≡ (if eqb j 0 then last else at gs (j - 1))
+      → v ≡ first-of car (place-of car first (leb run j) before) (at us j) (rise us j) (at hs j) → v ≡ on-way car us hs begins run last j gs
+  unfolding on-way
+  way-step begins first run last before j gs a b e = e ∙ rw (a, b)
 
   -- first choices, then the three passes: the trip's gears
   pub gears-is : {f a b g : List ℕ} → f ≡ firsts car us hs → a ≡ pass (peak car us hs) (length hs) f → b ≡ pass (rising car us hs) (length hs) a

@@ -6,4 +6,5 @@ mod slowing;
 mod work;
 
 pub use slowing::closing_from;
+pub use work::first_choices;
 pub use work::work_trip;

@@ -112,6 +112,13 @@ fn fields() {
     car.n[3] = 3801;
     five(b"field:", car, trace, none);
     car = car_z();
+    car.m[6] = 51;
+    five(b"field:", car, trace, none);
+    car = car_z();
+    car.margin = 41;
+    car.m[0] = 50;
+    five(b"field:", car, trace, none);
+    car = car_z();
     car.n[6] = 5999;
     five(b"field:", car, trace, none);
 }
@@ -182,6 +189,18 @@ fn seconds() {
         z,
         hill,
         [0, 5, 0, 0, 0, 0, 0, 0, 0],
+    );
+    let mut derated = car_z();
+    derated.m[1] = 50;
+    derated.m[2] = 50;
+    derated.m[3] = 50;
+    let climb = [0u16, 150, 300, 320, 350, 380, 300, 150, 0];
+    nine(b"slowly rising:", z, climb, free);
+    nine(
+        b"the same with margins at three points:",
+        derated,
+        climb,
+        free,
     );
     nine(b"two trips:", z, [0, 50, 0, 0, 60, 80, 70, 40, 0], free);
 }

@@ -237,7 +237,7 @@ fn read_case(library: &mut Library, r: &mut Rng) -> Outcome {
     let speeds: Vec<u16> = (0..rooms.0).map(|_| r.next() as u16).collect();
     let holds: Vec<u8> = (0..rooms.1).map(|_| r.next() as u8).collect();
     library.read(&Loan::new(r, &speeds, &holds, &bytes), &expected).map_err(|why| {
-        let told = expected.as_ref().map(|job| (&job.vehicle, &job.speeds, &job.holds));
+        let told = expected.as_ref().map(|job| (job.version, &job.vehicle, &job.speeds, &job.holds));
         format!("{why}\nrooms {rooms:?}\njob ({}) {bytes:?}\nreference: {told:?}", bytes.len())
     })?;
     Ok(number(&expected))
@@ -256,7 +256,8 @@ fn job(r: &mut Rng) -> (Vec<u8>, usize) {
         c.holds.iter_mut().filter(|gear| **gear != 0).for_each(|gear| *gear = r.range(1, 255) as u8);
     }
     let damages: Vec<i64> = (0..r.pick(&[0, 1, 1, 1, 2])).map(|_| r.range(0, jobs::DAMAGES)).collect();
-    let mut groups = jobs::groups(&c.vehicle, &c.speeds, &c.holds);
+    // A version 1 job has no place for margins: they are simply not there.
+    let mut groups = jobs::groups(r.pick(&[1, 2]), &c.vehicle, &c.speeds, &c.holds);
     damages.iter().filter(|kind| **kind <= jobs::GROUP_DAMAGES).for_each(|kind| jobs::damage_groups(r, &mut groups, *kind));
     let mut bytes = groups.all.concat();
     damages.iter().filter(|kind| **kind > jobs::GROUP_DAMAGES).for_each(|kind| jobs::damage_bytes(r, &mut bytes, *kind));
@@ -274,7 +275,7 @@ fn spoil_values(r: &mut Rng, c: &mut Setting) {
     v.f2 = r.next() as u16;
     v.tm = r.next() as u16;
     v.margin = r.next() as u16;
-    v.ratio.iter_mut().chain(&mut v.n).chain(&mut v.p).for_each(|x| *x = r.next() as u16);
+    v.ratio.iter_mut().chain(&mut v.n).chain(&mut v.p).chain(&mut v.m).for_each(|x| *x = r.next() as u16);
     c.speeds.iter_mut().for_each(|x| *x = r.next() as u16);
 }
 
@@ -304,36 +305,45 @@ fn export_case(library: &mut Library, r: &mut Rng) -> Outcome {
 // ---------------------------------------------------------------- the writer
 
 fn write_case(library: &mut Library, r: &mut Rng) -> Outcome {
-    let (c, was) = to_write(r);
-    let needed = paper::write(&c.vehicle, &c.speeds, &c.holds, usize::MAX).map_or(300, |bytes| bytes.len());
+    let (version, c, was) = to_write(r);
+    let needed = paper::write(version, &c.vehicle, &c.speeds, &c.holds, usize::MAX).map_or(300, |bytes| bytes.len());
     let room: Vec<u8> = (0..write_room(r, needed)).map(|_| r.next() as u8).collect();
-    let expected = paper::write(&c.vehicle, &c.speeds, &c.holds, room.len());
+    let expected = paper::write(version, &c.vehicle, &c.speeds, &c.holds, room.len());
     let loan = Loan::new(r, &c.speeds, &c.holds, &room);
-    let told = |why: String| format!("{why}\nroom {}\n{}\nreference: {expected:?}", room.len(), describe(&c));
-    library.write(&c.vehicle, &loan, &expected).map_err(told)?;
+    let told = |why: String| format!("{why}\nversion {version}, room {}\n{}\nreference: {expected:?}", room.len(), describe(&c));
+    library.write(version, &c.vehicle, &loan, &expected).map_err(told)?;
     if let Ok(bytes) = &expected {
         if room.len() == bytes.len() {
             note(Event::RoomExact);
         }
-        reads_back(library, r, &c, bytes).map_err(told)?;
+        reads_back(library, r, version, &c, bytes).map_err(told)?;
         written_as_read(bytes, was.as_deref()).map_err(told)?;
     }
     Ok(number(&expected))
 }
 
-/// What a screen has at hand, sound or spoiled; or what was read of a job, with that job's bytes.
-fn to_write(r: &mut Rng) -> (Setting, Option<Vec<u8>>) {
+/// A version, and what a screen has at hand, sound or spoiled; or what was read of a job, with that job's bytes.
+fn to_write(r: &mut Rng) -> (u16, Setting, Option<Vec<u8>>) {
     if r.chance(35) {
         let (bytes, _) = job(r);
         if let Ok(job) = paper::read(&bytes, paper::LONGEST, paper::LONGEST) {
-            return (Setting { vehicle: job.vehicle, speeds: job.speeds, holds: job.holds, card: Vec::new(), faults: Vec::new() }, Some(bytes));
+            return (job.version, Setting { vehicle: job.vehicle, speeds: job.speeds, holds: job.holds, card: Vec::new(), faults: Vec::new() }, Some(bytes));
         }
     }
     let mut c = sound(r);
     if r.chance(35) {
         spoil(r, &mut c);
     }
-    (c, None)
+    let version = match r.range(0, 99) {
+        0..=44 => 1,
+        45..=94 => 2,
+        _ => r.pick(&[0, 3, 256, 257, 65_535]),
+    };
+    // Mostly version 1 has no margin to tell.
+    if version == 1 && r.chance(70) {
+        c.vehicle.m[..(c.vehicle.points as usize).min(64)].fill(0);
+    }
+    (version, c, None)
 }
 
 /// Mostly room enough, by nothing or by some; often one byte too short, or far too short.
@@ -349,10 +359,10 @@ fn write_room(r: &mut Rng, needed: usize) -> usize {
 }
 
 /// What is written reads back, by the reference and by the library, as the same job; places that are no part of it as 0.
-fn reads_back(library: &mut Library, r: &mut Rng, c: &Setting, bytes: &[u8]) -> Result<(), String> {
+fn reads_back(library: &mut Library, r: &mut Rng, version: u16, c: &Setting, bytes: &[u8]) -> Result<(), String> {
     let rooms = (c.speeds.len() + r.below(9), c.speeds.len() + r.below(9));
     let expected = paper::read(bytes, rooms.0, rooms.1);
-    if !expected.as_ref().is_ok_and(|job| job.vehicle == cleared(&c.vehicle) && job.speeds == c.speeds && job.holds == c.holds) {
+    if !expected.as_ref().is_ok_and(|job| job.version == version && job.vehicle == cleared(&c.vehicle) && job.speeds == c.speeds && job.holds == c.holds) {
         return Err(String::from("the reference does not read back what it wrote"));
     }
     let (speeds, holds) = (vec![7; rooms.0], vec![7; rooms.1]);
@@ -361,10 +371,11 @@ fn reads_back(library: &mut Library, r: &mut Rng, c: &Setting, bytes: &[u8]) -> 
 
 fn cleared(v: &Vehicle) -> Vehicle {
     let (gears, points) = (v.ng as usize, v.points as usize);
-    let mut kept = Vehicle { ratio: ZERO.ratio, n: ZERO.n, p: ZERO.p, ..*v };
+    let mut kept = Vehicle { ratio: ZERO.ratio, n: ZERO.n, p: ZERO.p, m: ZERO.m, ..*v };
     kept.ratio[..gears].copy_from_slice(&v.ratio[..gears]);
     kept.n[..points].copy_from_slice(&v.n[..points]);
     kept.p[..points].copy_from_slice(&v.p[..points]);
+    kept.m[..points].copy_from_slice(&v.m[..points]);
     kept
 }
 

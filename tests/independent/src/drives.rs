@@ -155,7 +155,9 @@ impl Drive<'_> {
 
     /// The job of this drive, read back and written: what was put into it comes out.
     fn job(&mut self, holds: &[u8]) -> Result<(), String> {
-        let bytes = jobs::groups(self.vehicle, self.speeds, holds).all.concat();
+        // With margins at its points a drive's job is of version 2.
+        let version = if self.vehicle.m[..self.vehicle.points as usize].iter().any(|m| *m > 0) { 2 } else { 1 };
+        let bytes = jobs::groups(version, self.vehicle, self.speeds, holds).all.concat();
         let expected = paper::read(&bytes, self.speeds.len(), paper::LONGEST);
         let same = expected.as_ref().is_ok_and(|job| job.vehicle == *self.vehicle && job.speeds == self.speeds && job.holds == holds);
         if !same {
@@ -165,6 +167,6 @@ impl Drive<'_> {
         self.library.read(&loan, &expected).map_err(|why| format!("{why}\njob {bytes:?}"))?;
         let room: Vec<u8> = (0..bytes.len() + 5).map(|_| self.r.next() as u8).collect();
         let loan = Loan::new(self.r, self.speeds, holds, &room);
-        self.library.write(self.vehicle, &loan, &paper::write(self.vehicle, self.speeds, holds, room.len())).map_err(|why| format!("{why}\njob {bytes:?}"))
+        self.library.write(version, self.vehicle, &loan, &paper::write(version, self.vehicle, self.speeds, holds, room.len())).map_err(|why| format!("{why}\njob {bytes:?}"))
     }
 }

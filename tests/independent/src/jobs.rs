@@ -22,14 +22,18 @@ pub struct Groups {
     holds_at: usize,
 }
 
-pub fn groups(v: &Vehicle, speeds: &[u16], holds: &[u8]) -> Groups {
-    let mut values = vec![1, v.ng];
+pub fn groups(version: u16, v: &Vehicle, speeds: &[u16], holds: &[u8]) -> Groups {
+    let mut values = vec![version, v.ng];
     values.extend_from_slice(&v.ratio[..v.ng as usize]);
     values.extend([v.idle, v.rated, v.nmax, v.f0, (v.f1 + 5000) as u16, v.f2, v.tm, v.margin]);
     let points_at = values.len();
     values.push(v.points);
     for k in 0..v.points as usize {
         values.extend([v.n[k], v.p[k]]);
+        // Request Six: version 2 carries m after p.
+        if version == 2 {
+            values.push(v.m[k]);
+        }
     }
     let count_at = values.len();
     values.push(speeds.len() as u16);
@@ -56,7 +60,7 @@ pub fn damage_groups(r: &mut Rng, g: &mut Groups, kind: i64) {
         2 => g.all[1] = group(r.pick(&[0, 1, 11, 65_535])),
         3 => g.all[g.points_at] = group(r.pick(&[0, 1, 65, 65_535])),
         4 => g.all[g.count_at] = group(r.pick(&[0, 2_049, 16_384, 16_385, 65_535])),
-        5 => g.all[0] = group(r.pick(&[0, 2, 127, 128, 257, 65_535])),
+        5 => g.all[0] = group(r.pick(&[0, 1, 2, 3, 127, 128, 257, 65_535])),
         6 => g.all[g.holds_at] = group((held as i64 + r.range(-2, 2)).clamp(0, 65_535) as u16),
         7 => g.all[any] = group(r.next() as u16),
         _ => damage_hold(r, g, held),

@@ -52,6 +52,7 @@ fn put_vehicle(v: &Vehicle, to: &mut Vec<u8>) {
     put_all(&[v.f2, v.tm, v.margin, v.points], to);
     put_all(&v.n, to);
     put_all(&v.p, to);
+    put_all(&v.m, to);
 }
 
 fn get_vehicle(from: &mut impl Read) -> io::Result<Vehicle> {
@@ -67,6 +68,7 @@ fn get_vehicle(from: &mut impl Read) -> io::Result<Vehicle> {
     }
     get_all(&mut v.n, from)?;
     get_all(&mut v.p, from)?;
+    get_all(&mut v.m, from)?;
     Ok(v)
 }
 
@@ -168,8 +170,8 @@ struct Request<'a> {
 struct Answer {
     number: u32,
     place: u64,
-    /// With the count; of a read only.
-    vehicle: Option<(Vehicle, u64)>,
+    /// With the version before it and the count; of a read only.
+    vehicle: Option<(u16, Vehicle, u64)>,
     /// Of an export only.
     coefficients: Option<Coefficients>,
     /// Of a write only.
@@ -228,7 +230,7 @@ impl Library {
         let from = &mut self.from;
         let (number, place) = (u32::get(from)?, u64::get(from)?);
         let vehicle = match request.call {
-            Call::Read => Some((get_vehicle(from)?, u64::get(from)?)),
+            Call::Read => Some((u16::get(from)?, get_vehicle(from)?, u64::get(from)?)),
             _ => None,
         };
         let coefficients = match request.call {
@@ -334,12 +336,12 @@ impl Library {
     pub fn read(&mut self, loan: &Loan, expected: &Result<Job, Refusal>) -> Result<(), String> {
         let answer = self.call(&Request { call: Call::Read, vehicle: &ZERO, second: 0, gear: 0, loan })?;
         answer.compare(expected.as_ref().err().copied())?;
-        let (vehicle, speeds, holds): (Vehicle, &[u16], &[u8]) = match expected {
-            Ok(job) => (job.vehicle, &job.speeds, &job.holds),
-            Err(_) => (ZERO, &[], &[]),
+        let (version, vehicle, speeds, holds): (u16, Vehicle, &[u16], &[u8]) = match expected {
+            Ok(job) => (job.version, job.vehicle, &job.speeds, &job.holds),
+            Err(_) => (0, ZERO, &[], &[]),
         };
-        if answer.vehicle != Some((vehicle, speeds.len() as u64)) {
-            return Err(format!("vehicle and count: expected {vehicle:?} {}, library {:?}", speeds.len(), answer.vehicle));
+        if answer.vehicle != Some((version, vehicle, speeds.len() as u64)) {
+            return Err(format!("version, vehicle and count: expected {version} {vehicle:?} {}, library {:?}", speeds.len(), answer.vehicle));
         }
         loan.third.compare("job", &answer.loan.third, &[])?;
         loan.speeds.compare("speeds", &answer.loan.speeds, speeds)?;
@@ -347,8 +349,8 @@ impl Library {
     }
 
     /// `expected`: the bytes of the job.
-    pub fn write(&mut self, vehicle: &Vehicle, loan: &Loan, expected: &Result<Vec<u8>, Refusal>) -> Result<(), String> {
-        let answer = self.call(&Request { call: Call::Write, vehicle, second: 0, gear: 0, loan })?;
+    pub fn write(&mut self, version: u16, vehicle: &Vehicle, loan: &Loan, expected: &Result<Vec<u8>, Refusal>) -> Result<(), String> {
+        let answer = self.call(&Request { call: Call::Write, vehicle, second: version as usize, gear: 0, loan })?;
         answer.compare(expected.as_ref().err().copied())?;
         let bytes = expected.as_deref().unwrap_or(&[]);
         if answer.length != Some(bytes.len() as u64) {

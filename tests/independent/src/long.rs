@@ -110,7 +110,7 @@ impl Long<'_> {
     /// The job, into rooms that are just enough, one too small, and the card program's.
     fn read(&mut self, holds: &[u8]) -> Result<(), String> {
         let count = self.speeds.len();
-        let bytes = jobs::groups(self.vehicle, self.speeds, holds).all.concat();
+        let bytes = jobs::groups(1, self.vehicle, self.speeds, holds).all.concat();
         let mut answers: Vec<Option<Refusal>> = Vec::new();
         for (speeds_room, holds_room) in [(count, count), (count - 1, count), (count, count - 1), (paper::PROGRAM_ROOM, paper::PROGRAM_ROOM)] {
             let expected = paper::read(&bytes, speeds_room, holds_room);

@@ -1,4 +1,4 @@
-//! Compares the gear card library with a working of its own, written from docs/01-scope.md and requests One, Five and Eight of document 02 alone.
+//! Compares the gear card library with a working of its own, written from docs/01-scope.md and requests One, Five and Eight of document 02 alone; margins and versions from request Six.
 //!
 //!   independent [--seed S] [--cases N] [--cycles DIR] -- DRIVER..    the cycles of DIR, the built-in and the scaled cycle, the long traces, then N cases of each kind (read, work, hold, release, export, write, mend)
 //!   with --class-3 FILE: that job must have the speeds of the built-in cycle
@@ -39,7 +39,7 @@ type Counts = [[u64; 23]; cases::KINDS.len()];
 /// The numbers of refusal, those of an export and those of a write.
 const NUMBERS: [usize; 21] = [1, 2, 3, 4, 5, 6, 7, 8, 9, 10, 11, 12, 13, 14, 15, 16, 17, 19, 20, 21, 22];
 const OF_EXPORTS: [usize; 6] = [12, 16, 19, 20, 21, 22];
-const OF_WRITES: [usize; 10] = [1, 2, 3, 4, 5, 6, 7, 8, 9, 17];
+const OF_WRITES: [usize; 11] = [1, 2, 3, 4, 5, 6, 7, 8, 9, 14, 17];
 
 struct Options {
     seed: u64,

@@ -1,4 +1,4 @@
-//! The paper's rules, written out one by one from docs/01-scope.md and docs/02-change-requests.md with i128 throughout.
+//! The paper's rules, written out one by one from docs/01-scope.md, and the requests of docs/02-change-requests.md that have landed, and docs/02-change-requests.md with i128 throughout.
 //! Nothing here is meant to be quick: a rule reads as the paper words it.
 
 use crate::events::{note, Event};
@@ -33,7 +33,7 @@ fn field_good(v: &Vehicle, field: usize) -> bool {
         9 => (400..=4000).contains(&v.tm),
         10 => v.margin <= 50,
         11 => (2..=64).contains(&v.points),
-        12 => points_good(&v.n[..v.points as usize], &v.p[..v.points as usize]),
+        12 => points_good(&v.n[..v.points as usize], &v.p[..v.points as usize]) && v.m[..v.points as usize].iter().all(|m| margin_good(v.margin, *m)),
         _ => v.n[0] <= v.idle && v.n[v.points as usize - 1] >= v.nmax,
     }
 }
@@ -45,6 +45,11 @@ fn ratios_good(ratio: &[u16]) -> bool {
 fn points_good(n: &[u16], p: &[u16]) -> bool {
     let rise = |two: &[u16]| (1..=1000).contains(&(two[1] as i32 - two[0] as i32));
     n.iter().all(|x| (1..=16_000).contains(x)) && p.iter().all(|x| *x <= 5000) && n.windows(2).all(rise)
+}
+
+/// Request Six: a point's margin.
+fn margin_good(margin: u16, m: u16) -> bool {
+    m <= 50 && margin as u32 + m as u32 <= 90
 }
 
 // ---------------------------------------------------------------- one second, one gear
@@ -104,7 +109,7 @@ pub fn required(v: &Vehicle, speed: u16, d: i128) -> i128 {
     9_000_000 * v.f0 as i128 * s + 9_000 * v.f1 as i128 * s * s + 9 * v.f2 as i128 * s * s * s + 2_575_000 * d * s * v.tm as i128
 }
 
-/// Full-load power as the pair Q and w: Q/(1000 w) tenths of kW.
+/// Available power as the pair Q and w: Q/(100,000 w) tenths of kW.
 #[derive(Clone, Copy)]
 pub struct Power {
     pub q: i128,
@@ -113,7 +118,9 @@ pub struct Power {
 
 pub fn power(v: &Vehicle, gear: u8, speed: u16) -> Power {
     let x = engine(v, gear, speed).max(1000 * v.idle as i128);
-    let at = |k: usize| (v.n[k] as i128, v.p[k] as i128);
+    // Request Six: derated at the points first, interpolated after that.
+    let derated = |k: usize| v.p[k] as i128 * (100 - v.margin as i128 - v.m[k] as i128);
+    let at = |k: usize| (v.n[k] as i128, derated(k));
     for k in 0..v.points as usize - 1 {
         let ((n1, p1), (n2, p2)) = (at(k), at(k + 1));
         if 1000 * n1 <= x && x <= 1000 * n2 {
@@ -124,8 +131,8 @@ pub fn power(v: &Vehicle, gear: u8, speed: u16) -> Power {
     panic!("the reference was asked for power off the curve: {x} in {v:?}");
 }
 
-fn enough(v: &Vehicle, power: Power, e: i128) -> bool {
-    let given = (100 - v.margin as i128) * power.q * 3_240_000;
+fn enough(power: Power, e: i128) -> bool {
+    let given = power.q * 3_240_000;
     if given == e * power.w {
         note(Event::PowerEqual);
     }
@@ -174,7 +181,7 @@ fn fitting_gears(v: &Vehicle, speeds: &[u16], s: usize, lies: Lies) -> Vec<u8> {
 fn choice(v: &Vehicle, speeds: &[u16], s: usize, lies: Lies) -> Option<u8> {
     let e = required(v, speeds[s], change(speeds, s));
     let fitting = fitting_gears(v, speeds, s, lies);
-    let strong = fitting.iter().copied().filter(|&gear| enough(v, power(v, gear, speeds[s]), e)).max();
+    let strong = fitting.iter().copied().filter(|&gear| enough(power(v, gear, speeds[s]), e)).max();
     strong.or_else(|| strongest(v, &fitting, speeds[s]))
 }
 
@@ -523,6 +530,7 @@ fn note_mended(old: &[u16], new: &[u16], second: usize) {
 // ---------------------------------------------------------------- the reader
 
 pub struct Job {
+    pub version: u16,
     pub vehicle: Vehicle,
     pub speeds: Vec<u16>,
     pub holds: Vec<u8>,
@@ -554,10 +562,11 @@ impl Cursor<'_> {
 /// The first fault from left to right, or the job. The rooms are how many places are lent for speeds and for holds.
 pub fn read(bytes: &[u8], speeds_room: usize, holds_room: usize) -> Result<Job, Refusal> {
     let mut c = Cursor { bytes, at: 0 };
-    if c.group()? != 1 {
+    let version = c.group()?;
+    if version != 1 && version != 2 {
         return Err((14, 0));
     }
-    let vehicle = read_vehicle(&mut c)?;
+    let vehicle = read_vehicle(&mut c, version)?;
     let count = c.group()? as usize;
     if count == 0 || count > LONGEST {
         return Err((1, 0));
@@ -570,10 +579,10 @@ pub fn read(bytes: &[u8], speeds_room: usize, holds_room: usize) -> Result<Job, 
     if c.at < bytes.len() {
         return Err((16, c.at));
     }
-    Ok(Job { vehicle, speeds, holds })
+    Ok(Job { version, vehicle, speeds, holds })
 }
 
-fn read_vehicle(c: &mut Cursor) -> Result<Vehicle, Refusal> {
+fn read_vehicle(c: &mut Cursor, version: u16) -> Result<Vehicle, Refusal> {
     let mut v = ZERO;
     v.ng = c.group()?;
     if !(2..=10).contains(&v.ng) {
@@ -597,6 +606,9 @@ fn read_vehicle(c: &mut Cursor) -> Result<Vehicle, Refusal> {
     for k in 0..v.points as usize {
         v.n[k] = c.group()?;
         v.p[k] = c.group()?;
+        if version == 2 {
+            v.m[k] = c.group()?;
+        }
     }
     Ok(v)
 }
@@ -623,16 +635,28 @@ fn read_holds(c: &mut Cursor, count: usize) -> Result<Vec<u8>, Refusal> {
 
 // ---------------------------------------------------------------- the writer
 
-/// The bytes of the job, or the refusal: 1 to 9 as in the working, then 17 by the length needed.
-pub fn write(v: &Vehicle, speeds: &[u16], holds: &[u8], room: usize) -> Result<Vec<u8>, Refusal> {
+/// The bytes of the job, or the refusal: 14 first, 1 to 9 as in the working, then 17 by the length needed.
+pub fn write(version: u16, v: &Vehicle, speeds: &[u16], holds: &[u8], room: usize) -> Result<Vec<u8>, Refusal> {
+    if version != 1 && version != 2 {
+        return Err((14, 0));
+    }
     lengths_good(speeds.len(), holds.len(), speeds.len())?;
-    vehicle_good(v)?;
+    told_good(version, v)?;
     seconds_sound(v, speeds, holds, 0, speeds.len() - 1)?;
-    let bytes = jobs::groups(v, speeds, holds).all.concat();
+    let bytes = jobs::groups(version, v, speeds, holds).all.concat();
     if room < bytes.len() {
         return Err((17, bytes.len()));
     }
     Ok(bytes)
+}
+
+/// The first field that is out of bounds, or that its version cannot tell: in version 1 a margin at a point that counts, which is part of field 12.
+fn told_good(version: u16, v: &Vehicle) -> Result<(), Refusal> {
+    let untold = |field: usize| field == 12 && version == 1 && v.m[..v.points as usize].iter().any(|m| *m > 0);
+    match (1..=13).find(|&field| !field_good(v, field) || untold(field)) {
+        Some(field) => Err((3, field)),
+        None => Ok(()),
+    }
 }
 
 // ---------------------------------------------------------------- the card program

@@ -19,7 +19,11 @@ fn one_second() {
     assert_eq!(LIES.map(|lies| paper::minimum(&z, 2, lies)), [800, 920, 720]);
     assert_eq!(paper::required(&z, 500, 0), 9_000_000_000_000);
     assert_eq!(paper::required(&z, 500, 36), 78_525_000_000_000);
-    assert_eq!((paper::power(&z, 5, 500).q, paper::power(&z, 4, 500).q), (220_000_000, 290_000_000));
+    // 100 - M times the paper's Q, which are of full-load power.
+    assert_eq!((paper::power(&z, 5, 500).q, paper::power(&z, 4, 500).q), (90 * 220_000_000, 90 * 290_000_000));
+    let mut derated = z;
+    derated.m[1] = 50;
+    assert_eq!(paper::power(&derated, 5, 500).q, 10_800_000_000);
     let choice = |speeds: &[u16]| paper::first_choice(&z, speeds, &vec![0; speeds.len()], 2, Some(4));
     assert_eq!(choice(&[0, 400, 500, 500]), Some(5));
     assert_eq!(choice(&[0, 400, 499, 499]), Some(4));
@@ -71,21 +75,29 @@ fn groups() {
     assert_eq!(refusal(&[0x80, 0]), Some((13, 0)));
     assert_eq!(refusal(&[0x80, 0x80, 4]), Some((13, 0)));
     assert_eq!(refusal(&[0xFF, 0xFF, 3]), Some((14, 0)));
+    assert_eq!(refusal(&[3]), Some((14, 0)));
+    assert_eq!(refusal(&[2]), Some((12, 1)));
     assert_eq!(refusal(&[]), Some((12, 0)));
 }
 
 fn printed() {
-    let job = jobs::groups(&car_z(), &[0, 50, 150, 100, 0], &[0; 5]).all.concat();
+    let job = jobs::groups(1, &car_z(), &[0, 50, 150, 100, 0], &[0; 5]).all.concat();
     let text = "second speed gear clutch\n0 0.0 1 down\n1 5.0 1 up\n2 15.0 2 up\n3 10.0 2 down\n4 0.0 0 up\n";
     assert_eq!(paper::printed(&job), text);
 }
 
 fn written() {
     let (z, speeds) = (car_z(), [0, 50, 150, 100, 0]);
-    let bytes = paper::write(&z, &speeds, &[0; 5], 63).unwrap();
+    let bytes = paper::write(1, &z, &speeds, &[0; 5], 63).unwrap();
     assert_eq!((bytes.len(), &bytes[..6], &bytes[55..]), (63, &[1, 5, 0xE0, 0x5D, 0xD8, 0x36][..], &[5, 0, 50, 0x96, 1, 100, 0, 0][..]));
-    assert_eq!(paper::write(&z, &speeds, &[0; 5], 62), Err((17, 63)));
-    assert_eq!(paper::write(&z, &speeds, &[0, 0, 3, 0, 0], 65).unwrap()[62..], [1, 2, 3]);
-    assert_eq!(paper::write(&z, &speeds, &[0; 4], 0), Err((2, 0)));
-    assert_eq!(paper::write(&z, &[0, 151, 0], &[0; 3], 0), Err((5, 1)));
+    assert_eq!(paper::write(1, &z, &speeds, &[0; 5], 62), Err((17, 63)));
+    assert_eq!(paper::write(1, &z, &speeds, &[0, 0, 3, 0, 0], 65).unwrap()[62..], [1, 2, 3]);
+    assert_eq!(paper::write(1, &z, &speeds, &[0; 4], 0), Err((2, 0)));
+    assert_eq!(paper::write(1, &z, &[0, 151, 0], &[0; 3], 0), Err((5, 1)));
+    let mut marked = z;
+    marked.m[1] = 50;
+    assert_eq!(paper::write(3, &marked, &speeds, &[0; 4], 0), Err((14, 0)));
+    assert_eq!(paper::write(1, &marked, &speeds, &[0; 5], 100), Err((3, 12)));
+    let bytes = paper::write(2, &marked, &speeds, &[0; 5], 70).unwrap();
+    assert_eq!((bytes.len(), bytes[0], &bytes[28..37]), (70, 2, &[160, 6, 100, 0, 136, 14, 172, 2, 50][..]));
 }

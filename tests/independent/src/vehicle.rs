@@ -15,6 +15,7 @@ pub struct Vehicle {
     pub points: u16,
     pub n: [u16; 64],
     pub p: [u16; 64],
+    pub m: [u16; 64],
 }
 
 pub const ZERO: Vehicle = Vehicle {
@@ -31,6 +32,7 @@ pub const ZERO: Vehicle = Vehicle {
     points: 0,
     n: [0; 64],
     p: [0; 64],
+    m: [0; 64],
 };
 
 /// Car Z of the paper's sums.

@@ -24,6 +24,7 @@ fn fill_unused(r: &mut Rng, v: &mut Vehicle) {
     for k in v.points as usize..64 {
         v.n[k] = r.next() as u16;
         v.p[k] = r.next() as u16;
+        v.m[k] = r.next() as u16;
     }
 }
 
@@ -84,6 +85,9 @@ fn round(r: &mut Rng) -> Vehicle {
         let more = r.pick(&[0, 0, 1, 300]);
         let middle = v.idle + (v.nmax - v.idle) / 2;
         (0..v.points as usize).for_each(|k| v.p[k] = if v.n[k] > middle { level + more } else { level });
+        // Level margins keep power level.
+        let m = r.pick(&[0, 0, 10, 40]);
+        v.m[..v.points as usize].fill(m);
     }
     v
 }
@@ -170,6 +174,21 @@ fn curve(r: &mut Rng, v: &mut Vehicle) {
         v.n[k as usize] = here as u16;
     }
     powers(r, v);
+    margins(r, v);
+}
+
+/// Request Six: half of the vehicles have no margin at their points; the others one here and there, or as much as there can be.
+fn margins(r: &mut Rng, v: &mut Vehicle) {
+    let most = (90 - v.margin as i64).min(50);
+    let style = r.range(0, 5);
+    for k in 0..v.points as usize {
+        v.m[k] = match style {
+            0 => r.edge(0, most) as u16,
+            1 => if r.chance(30) { r.range(0, most) as u16 } else { 0 },
+            2 => most as u16,
+            _ => 0,
+        };
+    }
 }
 
 fn powers(r: &mut Rng, v: &mut Vehicle) {
@@ -221,7 +240,10 @@ fn break_ratio(r: &mut Rng, v: &mut Vehicle, gear: usize) {
 
 fn break_point(r: &mut Rng, v: &mut Vehicle, point: usize) {
     let last = v.points as usize - 1;
-    match r.range(0, 5) {
+    match r.range(0, 7) {
+        // One margin over what there may be.
+        7 => v.m[point] = if r.chance(15) { r.pick(&[100, 65_535]) } else { (91 - v.margin).min(51) },
+        6 => (0..=last).for_each(|k| v.m[k] = (91 - v.margin).min(51)),
         // The whole curve is moved up, so that its steps stay sound and only the last point is too high.
         5 => {
             let up = 16_001 - v.n[last].min(16_000);

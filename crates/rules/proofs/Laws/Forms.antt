@@ -13,7 +13,7 @@ use borrow.Author.Tests.{eqb-true, eq-eqb, ltb-true, leb-true}
 use Rattle.rules.specs.Words.{at}
 use Rattle.rules.specs.Refusals.{Fault}
 use Rattle.rules.specs.Groups.{Read, got, refused, Reader, hand-on, demand, early, group-if, form, group}
-use Rattle.rules.specs.Forms.{Form, value, checked, bounded, _then_, seen, row-read, row-write, RowTakes, row, many, counted, whole}
+use Rattle.rules.specs.Forms.{Form, value, known, only-if, checked, bounded, _then_, seen, row-read, row-write, RowTakes, row, many, counted, whole}
 use Rattle.rules.specs.Vocabulary.{Bytes}
 use Rattle.rules.proofs.Laws.Words.{if-ind, and-right}
 use Rattle.rules.proofs.Laws.Reading.{two-of, good}
@@ -126,6 +126,19 @@ value-sound = record {
 }
 
 module _ {A : Type 0} where
+  pub known-sound : (a : A) → Sound (known a)
+  unfolding known
+  known-sound a = record {
+    reads-back = λ {i} {j} t s. let e : j ≡ i = omega (arith, s .ends) in rw (e, t);
+    one-form = λ job i. told (record { taken = refl; stands = λ h. none-stand });
+    bytes = λ b t. no-byte;
+  }
+
+  pub only-if-sound : (t : Bool) (a : A) {part : Form A} → Sound part → Sound (only-if t a part)
+  unfolding only-if
+  only-if-sound true a s = s
+  only-if-sound false a s = known-sound a
+
   pub checked-sound : {part : Form A} → Sound part → (test : A → Bool) (n : ℕ) (spot : ℕ → ℕ) → Sound (checked part test n spot)
   unfolding checked hand-on demand
   checked-sound f test n spot = record {
@@ -211,7 +224,7 @@ unfolding bounded
 bounded-sound lo hi refusal spot = checked-sound value-sound _ _ _
 
 -- for `search`: a form that is put together from these keeps the law
-pub ruleset sounds = (value-sound, then-sound, checked-sound, bounded-sound, counted-many-sound, many-sound)
+pub ruleset sounds = (value-sound, then-sound, only-if-sound, checked-sound, bounded-sound, counted-many-sound, many-sound)
 
 -- ---- the whole of a job
 

@@ -27,11 +27,11 @@ cut k l =
     let r : List ℕ = replicate (k - length l) 0 in
     table-at (l ++ r) (length l) 0 (rw length-append (omega arith)) ∙ take-append-seam l r
 
--- n and p of points, whatever follows them
-points-back : (l : List (ℕ × ℕ)) (r s : List ℕ) → points-of (length l) (map (λ x. x .0) l ++ r) (map (λ x. x .1) l ++ s) ≡ l
+-- n, p and m of points, whatever follows them
+points-back : (l : List (ℕ × (ℕ × ℕ))) (r s t : List ℕ) → points-of (length l) (map (λ x. x .0) l ++ r) (map (λ x. x .1 .0) l ++ s) (map (λ x. x .1 .1) l ++ t) ≡ l
 unfolding points-of
-points-back [] r s = refl
-points-back (x ∷ l) r s = ap (λ (m : List (ℕ × ℕ)). x ∷ m) (points-back l r s)
+points-back [] r s t = refl
+points-back (x ∷ l) r s t = ap (λ (m : List (ℕ × (ℕ × ℕ))). x ∷ m) (points-back l r s t)
 
 -- a list of eight by its places
 eight : (l : List ℕ) → length l ≡ 8 → at l 0 ∷ at l 1 ∷ at l 2 ∷ at l 3 ∷ at l 4 ∷ at l 5 ∷ at l 6 ∷ at l 7 ∷ [] ≡ l
@@ -57,17 +57,17 @@ pub numbers-sound : Sound numbers
 unfolding numbers
 numbers-sound = search sounds
 
-pub point-sound : Sound point
+pub point-sound : (v : ℕ) → Sound (point v)
 unfolding point
-point-sound = search sounds
+point-sound v = search sounds
 
-pub curve-sound : Sound curve
+pub curve-sound : (v : ℕ) → Sound (curve v)
 unfolding curve
-curve-sound = search (sounds, point-sound)
+curve-sound v = search (sounds, point-sound)
 
-pub vehicle-sound : Sound vehicle
+pub vehicle-sound : (v : ℕ) → Sound (vehicle v)
 unfolding vehicle _then_ numbers many row
-vehicle-sound = seen-sound vehicle-of parts-of (search (sounds, gearbox-sound, numbers-sound, curve-sound)) (λ x t. parts-back x (t .1 .0 .1))
+vehicle-sound v = seen-sound vehicle-of parts-of (search (sounds, gearbox-sound, numbers-sound, curve-sound)) (λ x t. parts-back x (t .1 .0 .1))
 
 pub trace-sound : (speeds-room holds-room : ℕ) → Sound (trace speeds-room holds-room)
 unfolding trace seconds

@@ -20,7 +20,7 @@ use Rattle.rules.proofs.Laws.Forms.{says-now, value-sound, checked-soun
 use Rattle.rules.proofs.Laws.Takes.{takes-bounded}
 use Rattle.rules.proofs.Laws.Gathers.{takes-hold, hold-sound}
 use Rattle.rules.proofs.Laws.Jobs.{version-sound, gearbox-sound, numbers-sound, vehicle-sound, trace-sound, room-seconds, room-speeds}
-use Rattle.rules.proofs.Laws.Reach.{went, then-both, stop-both, Reach, group-both, value-reach, less, checked-reach, then-reach, seen-reach, many-reach, counted-reach, counted-many-reach, bounded-reach, long-whole}
+use Rattle.rules.proofs.Laws.Reach.{went, then-both, stop-both, Reach, group-both, value-reach, less, checked-reach, then-reach, seen-reach, many-reach, counted-reach, counted-many-reach, bounded-reach, long-whole, only-if-reach}
 
 -- ---- holds are two groups each, and their seconds rise: no more of them than seconds are left
 
@@ -71,7 +71,7 @@ holds-reach room count h = seen-reach _ _ (counted-reach value-sound value-reach
 
 version-reach : Reach version 1
 unfolding version
-version-reach = bounded-reach 1 1 14 0 (omega arith)
+version-reach = bounded-reach 1 2 14 0 (omega arith)
 
 gearbox-reach : Reach gearbox (1 + 10 * 3)
 unfolding gearbox
@@ -81,23 +81,27 @@ numbers-reach : Reach numbers (8 * 3)
 unfolding numbers
 numbers-reach = many-reach value-reach 8
 
-curve-reach : Reach curve (1 + 64 * (3 + 3))
-unfolding curve point
-curve-reach = counted-many-reach 64 (bounded-sound _ _ _ _) (bounded-reach 2 64 3 11 (omega arith)) (takes-bounded 2 64 3 11) (then-reach value-sound value-reach (λ n _. value-reach))
+point-reach : (v : ℕ) → Reach (point v) (3 + (3 + 3))
+unfolding point
+point-reach v = then-reach value-sound value-reach (λ n _. then-reach value-sound value-reach (λ p _. only-if-reach _ _ value-reach))
 
-vehicle-reach : Reach vehicle (31 + (24 + 385))
+curve-reach : (v : ℕ) → Reach (curve v) (1 + 64 * 9)
+unfolding curve
+curve-reach v = counted-many-reach 64 (bounded-sound _ _ _ _) (bounded-reach 2 64 3 11 (omega arith)) (takes-bounded 2 64 3 11) (point-reach v)
+
+vehicle-reach : (v : ℕ) → Reach (vehicle v) (31 + (24 + 577))
 unfolding vehicle
-vehicle-reach = seen-reach _ _ (then-reach gearbox-sound gearbox-reach (λ _ _. then-reach numbers-sound numbers-reach (λ _ _. curve-reach)))
+vehicle-reach v = seen-reach _ _ (then-reach gearbox-sound gearbox-reach (λ _ _. then-reach numbers-sound numbers-reach (λ _ _. curve-reach v)))
 
 trace-reach : (a b : ℕ) → Reach (trace a b) (3 + a * 3)
 unfolding trace seconds bounded
 trace-reach a b = counted-many-reach a (checked-sound (bounded-sound _ _ _ _) _ _ _) (checked-reach (checked-reach value-reach _ _ _) _ _ _) (room-seconds a b) value-reach
 
-stages-reach : (a b : ℕ) → Reach (stages a b) (1 + (440 + (3 + a * 3 + (3 + 6 * a))))
+stages-reach : (a b : ℕ) → Reach (stages a b) (1 + (632 + (3 + a * 3 + (3 + 6 * a))))
 unfolding stages
 stages-reach a b =
-    then-reach version-sound version-reach (λ _ _.
-    then-reach vehicle-sound vehicle-reach (λ _ _.
+    then-reach version-sound version-reach (λ v _.
+    then-reach (vehicle-sound v) (vehicle-reach v) (λ _ _.
     then-reach (trace-sound a b) (trace-reach a b) (λ vs t.
     holds-reach a (length vs) (room-speeds a b vs t))))
 
@@ -110,7 +114,7 @@ long-job bytes h = rw (long-whole (seen-reach _ _ (stages-reach program-room pro
 -- ---- request Ten: a trace that is longer than the card program has room for
 
 -- whether its count is over the longest trace or not, what is printed is 1 at 0
-pub too-long : (bytes : List ℕ) {v : ℕ} {car : Vehicle} {i j k n : ℕ} → version .read bytes 0 ≡ got v i → vehicle .read bytes i ≡ got car j → group bytes j ≡ got n k
+pub too-long : (bytes : List ℕ) {v : ℕ} {car : Vehicle} {i j k n : ℕ} → version .read bytes 0 ≡ got v i → vehicle v .read bytes i ≡ got car j → group bytes j ≡ got n k
     → program-room < n → printed bytes ≡ refusal-text (record { no = 1; spot = 0 })
 unfolding printed job-read whole job seen stages _then_ trace counted seconds checked bounded value hand-on demand within read-text printed-fault _and_
 too-long bytes {n} a b c h =

@@ -12,7 +12,7 @@ use borrow.Author.Tests.{leb-true, leb-false, lt-leb}
 use Rattle.rules.specs.declared.Vehicle.{Vehicle}
 use Rattle.rules.specs.declared.Place.{Place}
 use Rattle.rules.specs.Words.{_and_, _or_, at, first}
-use Rattle.rules.specs.Gears.{engine, under-nmax, fits, between, on-segment, reaches, segment, power-speed, power}
+use Rattle.rules.specs.Gears.{engine, under-nmax, fits, between, on-segment, reaches, segment, power-speed, power, derated}
 use Rattle.rules.specs.Vocabulary.{InBounds, OnSegment}
 use Rattle.rules.proofs.Laws.Words.{and-right, Found, first-found, none-first, first-skip}
 use Rattle.rules.proofs.Laws.Integers.{+ℤ-*ℤ, *ℤ-+ℤ, neg-*ℤ, *ℤ-neg, *ℤ-assoc, left-comm, add-back, pos-sub}
@@ -127,9 +127,9 @@ same-power car k =
     let n1 = pos (at (car .n) k) in
     let n2 = pos (at (car .n) (suc k)) in
     let n3 = pos (at (car .n) (suc (suc k))) in
-    let p1 = pos (at (car .p) k) in
-    let p2 = pos (at (car .p) (suc k)) in
-    let p3 = pos (at (car .p) (suc (suc k))) in
+    let p1 = derated car k in
+    let p2 = derated car (suc k) in
+    let p3 = derated car (suc (suc k)) in
     ap (λ z. z *ℤ (n3 -ℤ n2)) (upper-end n1 p1 n2 p2)
     ∙ *ℤ-assoc (pos 1000 *ℤ p2) (n2 -ℤ n1) (n3 -ℤ n2)
     ∙ ap (λ z. pos 1000 *ℤ p2 *ℤ z) (*ℤ-comm (n2 -ℤ n1) (n3 -ℤ n2))

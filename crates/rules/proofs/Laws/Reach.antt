@@ -13,7 +13,7 @@ use borrow.Author.Tests.{lt-leb, ltb-true, eqb-false, not-true, ne-eqb}
 use Rattle.rules.specs.Words.{_and_, within, at}
 use Rattle.rules.specs.Refusals.{Fault}
 use Rattle.rules.specs.Groups.{Read, got, refused, Reader, hand-on, demand, early, group-if, group}
-use Rattle.rules.specs.Forms.{Form, value, checked, bounded, _then_, seen, row-read, row, many, counted, whole}
+use Rattle.rules.specs.Forms.{Form, value, known, only-if, checked, bounded, _then_, seen, row-read, row, many, counted, whole}
 use Rattle.rules.proofs.Laws.Words.{if-ind, and-left, and-right}
 use Rattle.rules.proofs.Laws.Vehicle.{within-hi}
 use Rattle.rules.proofs.Laws.Forms.{says-now, Sound}
@@ -141,6 +141,15 @@ small-reach test refusal spot small = record {
 module _ {A : Type 0} where
   pub less : {part : Form A} {n m : ℕ} → n ≤ m → Reach part n → Reach part m
   less h r = record { reach = λ alike {i} {p} l room. farther (omega arith) (r .reach alike l (omega arith)) }
+
+  known-reach : (a : A) → Reach (known a) 0
+  unfolding known
+  known-reach a = record { reach = λ alike {i} {p} h room. let w : i ≤ p + 0 = omega arith in went w }
+
+  pub only-if-reach : (t : Bool) (a : A) {part : Form A} {n : ℕ} → Reach part n → Reach (only-if t a part) n
+  unfolding only-if
+  only-if-reach true a r = r
+  only-if-reach false a r = less (omega arith) (known-reach a)
 
   pub checked-reach : {part : Form A} {n : ℕ} → Reach part n → (test : A → Bool) (refusal : ℕ) (spot : ℕ → ℕ) → Reach (checked part test refusal spot) n
   unfolding checked hand-on

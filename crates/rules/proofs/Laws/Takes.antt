@@ -4,12 +4,12 @@ use Prim.Native.Nat.{ℕ, _≤_}
 use Prim.{Unit, tt}
 use native.Mathlib.Omega.{arith}
 use mathlib.Core.Path.{_≡_, refl}
-use mathlib.Core.Bool.{true}
+use mathlib.Core.Bool.{Bool, true, false}
 use mathlib.Core.List.{List, [], _∷_}
 use lib.ListN.{length}
 use borrow.Author.Tests.{le-leb}
 use Rattle.rules.specs.Words.{within}
-use Rattle.rules.specs.Forms.{Form, value, checked, bounded, _then_, seen, row, RowTakes, many, counted}
+use Rattle.rules.specs.Forms.{Form, value, known, only-if, checked, bounded, _then_, seen, row, RowTakes, many, counted}
 use Rattle.rules.proofs.Laws.Words.{both}
 use Rattle.rules.proofs.Laws.Vehicle.{within-hi}
 
@@ -34,6 +34,17 @@ many-takes part k l e t = (all-take part l t, e)
 pub counted-takes : {A : Type 0} (count : Form ℕ) (part : Form A) (l : List A) → count .Takes (length l) → All (part .Takes) l → counted count (many part) .Takes l
 unfolding counted seen _then_
 counted-takes count part l c t = ((c, many-takes part (length l) l refl t), refl)
+
+pub only-if-takes : {A : Type 0} (t : Bool) (a : A) (part : Form A) (b : A) → part .Takes b → (t ≡ false → b ≡ a) → only-if t a part .Takes b
+unfolding only-if known
+only-if-takes true a part b x e = x
+only-if-takes false a part b x e = e refl
+
+-- what is known is that
+pub takes-only-if : {A : Type 0} (t : Bool) (a : A) (part : Form A) (b : A) → only-if t a part .Takes b → t ≡ false → b ≡ a
+unfolding only-if known
+takes-only-if true a part b x e = let z : _≡_ {A = ℕ} 0 1 = cc in absurd (omega arith)
+takes-only-if false a part b x e = x
 
 pub bounded-takes : (lo hi refusal spot n : ℕ) → hi ≤ 65535 → within lo hi n ≡ true → bounded lo hi refusal spot .Takes n
 unfolding bounded checked value

@@ -14,7 +14,7 @@ use lib.Signed.{leZ}
 use borrow.Author.Tests.{leb-true, ltb-true, eqb-true, ne-eqb}
 use Rattle.rules.specs.declared.Vehicle.{Vehicle}
 use Rattle.rules.specs.Words.{if_then_else_, _and_, _or_, within, at, every}
-use Rattle.rules.specs.Units.{ratio-of, ratio-good, point-good, bounds, first-failed, bad-field, low}
+use Rattle.rules.specs.Units.{ratio-of, ratio-good, margin-good, point-good, bounds, first-failed, bad-field, low}
 use Rattle.rules.specs.Vocabulary.{InBounds}
 use Rattle.rules.proofs.Laws.Words.{by-test, by-eq, and-left, and-right, or-skip}
 
@@ -38,6 +38,11 @@ unfolding every
 every-at p zero lo e i a b = absurd (omega arith)
 every-at p (suc k) lo e i a b = by-eq a (λ x. rw (← x) (and-left _ _ e)) (λ x. every-at p k (suc lo) (and-right _ _ e) i x (omega arith))
 
+pub every-all : (p : ℕ → Bool) (k lo : ℕ) → ((i : ℕ) → lo ≤ i → i < lo + k → p i ≡ true) → every p lo k ≡ true
+unfolding every _and_
+every-all p zero lo h = refl
+every-all p (suc k) lo h = rw (h lo (omega arith) (omega arith)) (every-all p k (suc lo) (λ i a b. h i (omega arith) (omega arith)))
+
 pub within-lo : (lo hi x : ℕ) → within lo hi x ≡ true → lo ≤ x
 unfolding within
 within-lo lo hi x t = leb-true _ _ (and-left _ _ t)
@@ -53,13 +58,13 @@ size-in (negsuc m) zero a b = let z : _≡_ {A = ℕ} 0 1 = cc in absurd (omega 
 size-in (negsuc m) (suc n) a b = let h : m ≤ n = leb-true m n a in omega arith
 
 pub in-bounds : (car : Vehicle) → bad-field car ≡ none → InBounds car
-unfolding bad-field bounds ratio-good point-good low
+unfolding bad-field bounds ratio-good margin-good point-good low
 in-bounds car e =
     let t : (j : ℕ) → j < 13 → getD (bounds car) j true ≡ true = none-failed (bounds car) 1 e in
     let ratio : (g : ℕ) → 1 ≤ g → g ≤ car .ng → ratio-good car g ≡ true = λ g a b. every-at (ratio-good car) (car .ng) 1 (t 1 (lit< tt)) g a (omega arith) in
     let point : (k : ℕ) → k < car .points → point-good car k ≡ true = λ k a. every-at (point-good car) (car .points) 0 (t 11 (lit< tt)) k (omega arith) (omega arith) in
     let rising : (k : ℕ) → suc k < car .points → within (at (car .n) k + 1) (at (car .n) k + 1000) (at (car .n) (suc k)) ≡ true =
-    λ k a. let x : suc k - 1 ≡ k = omega arith in rw x at (or-skip _ _ (ne-eqb (suc k) 0 (λ z. omega arith)) (and-right _ _ (and-left _ _ (point (suc k) a)))) in
+    λ k a. let x : suc k - 1 ≡ k = omega arith in rw x at (or-skip _ _ (ne-eqb (suc k) 0 (λ z. omega arith)) (and-right _ _ (and-left _ _ (and-left _ _ (point (suc k) a))))) in
     record {
       low-to = omega arith;
       low-ng = within-lo _ _ _ (t 0 (lit< tt));
@@ -78,10 +83,12 @@ in-bounds car e =
       margin-to = leb-true _ _ (t 9 (lit< tt));
       points-from = within-lo _ _ _ (t 10 (lit< tt));
       points-to = within-hi _ _ _ (t 10 (lit< tt));
-      n-to = λ k a. within-hi _ _ _ (and-left _ _ (and-left _ _ (point k a)));
+      n-to = λ k a. within-hi _ _ _ (and-left _ _ (and-left _ _ (and-left _ _ (point k a))));
       n-rises = λ k a. let h : at (car .n) k + 1 ≤ at (car .n) (suc k) = within-lo _ _ _ (rising k a) in omega arith;
       n-rises-by = λ k a. within-hi _ _ _ (rising k a);
-      p-to = λ k a. leb-true _ _ (and-right _ _ (point k a));
+      p-to = λ k a. leb-true _ _ (and-right _ _ (and-left _ _ (point k a)));
+      m-to = λ k a. leb-true _ _ (and-left _ _ (and-right _ _ (point k a)));
+      margins-to = λ k a. leb-true _ _ (and-right _ _ (and-right _ _ (point k a)));
       first-point = leb-true _ _ (and-left _ _ (t 12 (lit< tt)));
       last-point = leb-true _ _ (and-right _ _ (t 12 (lit< tt)));
     }

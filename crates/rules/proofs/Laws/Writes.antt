@@ -1,56 +1,84 @@
 -- What is written reads back, and what is read is written as the same bytes.
 -- Assumes nothing.
 use Prim.Native.Nat.{ℕ, zero, suc, _+_, _-_, _≤_, _<_}
-use Prim.{tt}
+use Prim.{Unit, tt}
 use native.Mathlib.Nat.{zero-add}
 use native.Mathlib.Omega.{arith}
 use mathlib.Core.Path.{_≡_, refl, ap, _∙_}
-use mathlib.Core.Bool.{true}
-use mathlib.Core.Option.{none}
+use mathlib.Core.Bool.{true, false, not}
+use mathlib.Core.Option.{Option, none, some}
 use mathlib.Core.List.{List, [], _∷_, map}
 use lib.ListN.{length, drop}
 use lib.Seq.{getD-drop}
+use lib.Dec.{leb, eqb}
 use lib.IntN.{ℤ, pos, negsuc, natAbs, _+ℤ_, _-ℤ_, +ℤ-negℤ-cancel}
-use borrow.Author.Tests.{le-leb, le-ltb, ltb-false, eqb-true, not-false}
+use borrow.Author.Tests.{le-leb, le-ltb, ltb-false, eqb-true, eq-eqb, not-false}
 use Rattle.rules.specs.declared.Vehicle.{Vehicle}
-use Rattle.rules.specs.Words.{within, at, table}
-use Rattle.rules.specs.Units.{ratio-of, longest, fastest}
-use Rattle.rules.specs.Refusals.{speed, over-ng, checks, bad, fault-of, seconds-fault, left}
+use Rattle.rules.specs.Words.{_and_, within, at, every, table}
+use Rattle.rules.specs.Units.{ratio-of, bad-field, longest, fastest}
+use Rattle.rules.specs.Refusals.{refuse-at, when, vehicle-fault, speed, over-ng, checks, bad, fault-of, seconds-fault, left}
 use Rattle.rules.specs.Groups.{got}
-use Rattle.rules.specs.Forms.{value, checked, bounded, _then_, seen, counted}
+use Rattle.rules.specs.Forms.{value, checked, bounded, _then_, seen, RowTakes, row, many, counted}
 use Rattle.rules.specs.Job.{version, gearbox, numbers, point, curve, seconds, trace, points-of, vehicle-of, parts-of, vehicle, holds, Job, packed, fields, stages, job, job-read}
-use Rattle.rules.specs.Write.{job-from, job-bytes, holds-fault, job-fault, short-fault, write-fault, written, cleared}
+use Rattle.rules.specs.Write.{job-from, job-bytes, holds-fault, job-fault, version-fault, margin-field, lower-field, fields-fault, checks-fault, short-fault, write-fault, written, cleared}
 use Rattle.rules.specs.Vocabulary.{Bytes, InBounds}
-use Rattle.rules.proofs.Laws.Words.{both, none-first, length-table, at-table}
-use Rattle.rules.proofs.Laws.Vehicle.{within-lo, within-hi, low-from}
-use Rattle.rules.proofs.Laws.Checks.{orelse-none, none-orelse, refuse-none, when-none, none-when, trace-in, vehicle-in}
+use Rattle.rules.proofs.Laws.Words.{by-test, and-fails, both, none-first, length-table, at-table}
+use Rattle.rules.proofs.Laws.Vehicle.{low-from, every-at, every-all, in-bounds}
+use Rattle.rules.proofs.Laws.Checks.{orelse-none, none-orelse, refuse-none, when-none, none-when, trace-in}
 use Rattle.rules.proofs.Laws.Forms.{says-now, reads-whole, whole-says}
-use Rattle.rules.proofs.Laws.Takes.{in-range, All, many-takes, counted-takes, bounded-takes, _also_}
+use Rattle.rules.proofs.Laws.Takes.{in-range, All, many-takes, counted-takes, only-if-takes, takes-only-if, bounded-takes, _also_}
 use Rattle.rules.proofs.Laws.Gathers.{holds-take}
 use Rattle.rules.proofs.Laws.Jobs.{parts-back, job-sound}
 
 -- ---- what passes checks 1 to 9
 
-pub record Writable (car : Vehicle) (vs hs : List ℕ) : Type 0 where
+pub record Writable (v : ℕ) (car : Vehicle) (vs hs : List ℕ) : Type 0 where
+  pub known : within 1 2 v ≡ true
   pub bounds : InBounds car
+  pub unmarked : leb 2 v ≡ false → (i : ℕ) → i < car .points → at (car .m) i ≡ 0
   pub some-second : 1 ≤ length vs
   pub not-long : length vs ≤ longest
   pub even : length hs ≡ length vs
   pub speeds-in : (i : ℕ) → i < length vs → at vs i ≤ fastest
   pub holds-in : (i : ℕ) → i < length vs → at hs i ≤ car .ng
 
-pub writable : (car : Vehicle) (vs hs : List ℕ) → job-fault car vs hs ≡ none → Writable car vs hs
-unfolding job-fault holds-fault seconds-fault checks fault-of bad
-writable car vs hs e =
-    let a = orelse-none _ _ e in
+-- no field is refused of either two
+pub lower-none : (f g : Option ℕ) → lower-field f g ≡ none → (f ≡ none) × (g ≡ none)
+unfolding lower-field
+lower-none none g e = (refl, e)
+lower-none (some f) none e = let z : _≡_ {A = ℕ} 0 1 = cc in absurd (omega arith)
+lower-none (some f) (some g) e = let z : _≡_ {A = ℕ} 0 1 = cc in absurd (omega arith)
+
+-- a margin is refused of version 1 exactly where there is one
+no-margin : (v : ℕ) (car : Vehicle) → margin-field v car ≡ none → leb 2 v ≡ false → (i : ℕ) → i < car .points → at (car .m) i ≡ 0
+unfolding margin-field refuse-at
+no-margin v car e l i h =
+    let t = when-none 3 _ 12 (ap (refuse-at 3) e) in
+    let all : every (λ k. eqb (at (car .m) k) 0) 0 (car .points) ≡ true = not-false _ (and-fails (not (leb 2 v)) _ (rw l) t) in
+    eqb-true _ _ (every-at (λ k. eqb (at (car .m) k) 0) (car .points) 0 all i (omega arith) (omega arith))
+
+pub margin-none : (v : ℕ) (car : Vehicle) → (leb 2 v ≡ false → (i : ℕ) → i < car .points → at (car .m) i ≡ 0) → margin-field v car ≡ none
+unfolding margin-field when _and_
+margin-none v car h =
+    by-test (leb 2 v) (λ l. rw l)
+    (λ l. rw (l, every-all (λ k. eqb (at (car .m) k) 0) (car .points) 0 (λ i a b. eq-eqb _ _ (h l i (omega arith)))))
+
+pub writable : (v : ℕ) (car : Vehicle) (vs hs : List ℕ) → checks-fault v car vs hs ≡ none → Writable v car vs hs
+unfolding checks-fault version-fault holds-fault fields-fault seconds-fault checks fault-of bad
+writable v car vs hs e =
+    let one = orelse-none _ _ e in
+    let a = orelse-none _ _ (one .1) in
     let b = orelse-none _ _ (a .1) in
     let c = orelse-none _ _ (b .1) in
+    let fields = lower-none _ _ (refuse-none 3 _ (c .0)) in
     let four = orelse-none _ _ (c .1) in
     let five = orelse-none _ _ (four .1) in
     let six = orelse-none _ _ (five .1) in
     let seven = orelse-none _ _ (six .1) in
     record {
-      bounds = vehicle-in car (c .0);
+      known = not-false _ (when-none 14 _ 0 (one .0));
+      bounds = in-bounds car (fields .0);
+      unmarked = no-margin v car (fields .1);
       some-second = trace-in vs (a .0) .0;
       not-long = trace-in vs (a .0) .1;
       even = eqb-true _ _ (not-false _ (when-none 2 _ 0 (b .0)));
@@ -71,19 +99,21 @@ all-at hi (x ∷ l) h = (h 0 (omega arith), all-at hi l (λ i b. h (suc i) (omeg
 all-table : (hi : ℕ) (f : ℕ → ℕ) (k : ℕ) → ((i : ℕ) → i < k → f i ≤ hi) → All (λ x. x ≤ hi) (table f 0 k)
 all-table hi f k h = all-at hi (table f 0 k) (λ i b. let c : i < k = rw (length-table f 0 k) at b in rw (at-table f 0 k i c, zero-add) (h i c))
 
--- n and p of the first points
-all-points : (hi k : ℕ) (ns ps : List ℕ) → ((i : ℕ) → i < k → at ns i ≤ hi) → ((i : ℕ) → i < k → at ps i ≤ hi) → All (λ x. (x .0 ≤ hi) × (x .1 ≤ hi)) (points-of k ns ps)
+-- n, p and m of the first points
+all-points : (P Q S : ℕ → Type 0) (k : ℕ) (ns ps ms : List ℕ) → ((i : ℕ) → i < k → P (at ns i)) → ((i : ℕ) → i < k → Q (at ps i)) → ((i : ℕ) → i < k → S (at ms i))
+    → All (λ x. P (x .0) × (Q (x .1 .0) × S (x .1 .1))) (points-of k ns ps ms)
 unfolding All points-of
-all-points hi zero ns ps a b = tt
-all-points hi (suc k) ns ps a b = (
-  (a 0 (omega arith), b 0 (omega arith)),
-  all-points hi k (drop 1 ns) (drop 1 ps) (λ i h. rw (getD-drop 1 ns i 0, one-more i) (a (suc i) (omega arith))) (λ i h. rw (getD-drop 1 ps i 0, one-more i) (b (suc i) (omega arith))),
+all-points P Q S zero ns ps ms a b c = tt
+all-points P Q S (suc k) ns ps ms a b c = (
+  (a 0 (omega arith), (b 0 (omega arith), c 0 (omega arith))),
+  all-points P Q S k (drop 1 ns) (drop 1 ps) (drop 1 ms) (λ i h. rw (getD-drop 1 ns i 0, one-more i) (a (suc i) (omega arith))) (λ i h. rw (getD-drop 1 ps i 0, one-more i) (b (suc i) (omega arith)))
+      (λ i h. rw (getD-drop 1 ms i 0, one-more i) (c (suc i) (omega arith))),
 )
 
-pub points-many : (k : ℕ) (ns ps : List ℕ) → length (points-of k ns ps) ≡ k
+pub points-many : (k : ℕ) (ns ps ms : List ℕ) → length (points-of k ns ps ms) ≡ k
 unfolding points-of
-points-many zero ns ps = refl
-points-many (suc k) ns ps = ap suc (points-many k (drop 1 ns) (drop 1 ps))
+points-many zero ns ps ms = refl
+points-many (suc k) ns ps ms = ap suc (points-many k (drop 1 ns) (drop 1 ps) (drop 1 ms))
 
 -- a table that begins a place later
 table-later : (l : List ℕ) (k lo : ℕ) → table (at (drop 1 l)) lo k ≡ table (at l) (suc lo) k
@@ -92,15 +122,20 @@ table-later l zero lo = refl
 table-later l (suc k) lo = rw (getD-drop 1 l lo 0, one-more lo, table-later l k (suc lo))
 
 -- the columns of points are those that they are of
-column-n : (k : ℕ) (ns ps : List ℕ) → map (λ x. x .0) (points-of k ns ps) ≡ table (at ns) 0 k
+column-n : (k : ℕ) (ns ps ms : List ℕ) → map (λ x. x .0) (points-of k ns ps ms) ≡ table (at ns) 0 k
 unfolding points-of table
-column-n zero ns ps = refl
-column-n (suc k) ns ps = rw (column-n k (drop 1 ns) (drop 1 ps), table-later ns k 0)
+column-n zero ns ps ms = refl
+column-n (suc k) ns ps ms = rw (column-n k (drop 1 ns) (drop 1 ps) (drop 1 ms), table-later ns k 0)
 
-column-p : (k : ℕ) (ns ps : List ℕ) → map (λ x. x .1) (points-of k ns ps) ≡ table (at ps) 0 k
+column-p : (k : ℕ) (ns ps ms : List ℕ) → map (λ x. x .1 .0) (points-of k ns ps ms) ≡ table (at ps) 0 k
 unfolding points-of table
-column-p zero ns ps = refl
-column-p (suc k) ns ps = rw (column-p k (drop 1 ns) (drop 1 ps), table-later ps k 0)
+column-p zero ns ps ms = refl
+column-p (suc k) ns ps ms = rw (column-p k (drop 1 ns) (drop 1 ps) (drop 1 ms), table-later ps k 0)
+
+column-m : (k : ℕ) (ns ps ms : List ℕ) → map (λ x. x .1 .1) (points-of k ns ps ms) ≡ table (at ms) 0 k
+unfolding points-of table
+column-m zero ns ps ms = refl
+column-m (suc k) ns ps ms = rw (column-m k (drop 1 ns) (drop 1 ps) (drop 1 ms), table-later ms k 0)
 
 -- ---- a vehicle in bounds, of its parts
 
@@ -115,7 +150,7 @@ shifted-back z h = ap (λ (x : ℤ). x -ℤ pos 5000) (shifted z h .0) ∙ +ℤ-
 module _ (car : Vehicle) (b : InBounds car) where
   pub cleared-is : vehicle-of (parts-of car) ≡ cleared car
   unfolding vehicle-of parts-of cleared
-  cleared-is = rw (length-table (at (car .ratio)) 0 (car .ng), points-many (car .points) (car .n) (car .p), column-n (car .points) (car .n) (car .p), column-p (car .points) (car .n) (car .p), shifted-back (car .f1) (b .f1-in))
+  cleared-is = rw (length-table (at (car .ratio)) 0 (car .ng), points-many (car .points) (car .n) (car .p) (car .m), column-n (car .points) (car .n) (car .p) (car .m), column-p (car .points) (car .n) (car .p) (car .m), column-m (car .points) (car .n) (car .p) (car .m), shifted-back (car .f1) (b .f1-in))
 
   pub same-parts : parts-of (cleared car) ≡ parts-of car
   unfolding parts-of
@@ -125,9 +160,9 @@ module _ (car : Vehicle) (b : InBounds car) where
   unfolding ratio-of
   ratio-small i h = let z : suc i - 1 ≡ i = omega arith in let r : at (car .ratio) i ≤ 50000 = rw z at (b .ratio-to (suc i) (omega arith) h) in omega arith
 
-  parts-take : (gearbox then λ ratios. numbers then λ values. curve) .Takes (parts-of car)
+  parts-take : (v : ℕ) → (leb 2 v ≡ false → (i : ℕ) → i < car .points → at (car .m) i ≡ 0) → (gearbox then λ ratios. numbers then λ values. curve v) .Takes (parts-of car)
   unfolding parts-of _then_ gearbox numbers curve point value All
-  parts-take =
+  parts-take v none-marked =
       let low1 = low-from car in
       let ng-from : 2 ≤ car .ng = omega (arith, b .low-ng) in
       let ng = b .ng-to in
@@ -157,23 +192,24 @@ module _ (car : Vehicle) (b : InBounds car) where
           ),
         ),
       )
-      also counted-takes _ _ _ (rw (points-many (car .points) (car .n) (car .p)) (bounded-takes 2 64 3 11 (car .points) (omega arith) (in-range 2 64 (car .points) (b .points-from) (b .points-to))))
-      (all-points 65535 (car .points) (car .n) (car .p) (λ i h. omega (arith, b .n-to i h)) (λ i h. omega (arith, b .p-to i h)))
+      also counted-takes _ _ _ (rw (points-many (car .points) (car .n) (car .p) (car .m)) (bounded-takes 2 64 3 11 (car .points) (omega arith) (in-range 2 64 (car .points) (b .points-from) (b .points-to))))
+      (all-points _ _ _ (car .points) (car .n) (car .p) (car .m) (λ i h. omega (arith, b .n-to i h)) (λ i h. omega (arith, b .p-to i h))
+      (λ i h. only-if-takes (leb 2 v) 0 value (at (car .m) i) (omega (arith, b .m-to i h)) (λ l. none-marked l i h)))
 
-  pub vehicle-takes : vehicle .Takes (cleared car)
+  pub vehicle-takes : (v : ℕ) → (leb 2 v ≡ false → (i : ℕ) → i < car .points → at (car .m) i ≡ 0) → vehicle v .Takes (cleared car)
   unfolding vehicle seen
-  vehicle-takes = (rw same-parts parts-take, rw same-parts cleared-is)
+  vehicle-takes v none-marked = (rw same-parts (parts-take v none-marked), rw same-parts cleared-is)
 
 -- ---- a job that passes checks 1 to 9
 
-module _ (car : Vehicle) (vs hs : List ℕ) (w : Writable car vs hs) (a b : ℕ) (x : length vs ≤ a) (y : length vs ≤ b) where
-  job-takes : job a b .Takes (job-from (cleared car) vs hs)
+module _ (v : ℕ) (car : Vehicle) (vs hs : List ℕ) (w : Writable v car vs hs) (a b : ℕ) (x : length vs ≤ a) (y : length vs ≤ b) where
+  job-takes : job a b .Takes (job-from v (cleared car) vs hs)
   unfolding job seen stages fields packed job-from _then_ version trace seconds checked longest value
   job-takes =
       let few = w .not-long in
       let ng = w .bounds .ng-to in (
-        bounded-takes 1 1 14 0 1 (omega arith) (in-range 1 1 1 (omega arith) (omega arith))
-            also vehicle-takes car (w .bounds)
+        bounded-takes 1 2 14 0 v (omega arith) (w .known)
+            also vehicle-takes car (w .bounds) v (w .unmarked)
             also counted-takes _ _ vs (bounded-takes 1 longest 1 0 (length vs) (omega arith) (in-range 1 longest (length vs) (w .some-second) few), both (le-leb _ _ x) (le-leb _ _ y))
             (all-at 65535 vs (λ i h. omega (arith, w .speeds-in i h)))
             also holds-take (length vs) hs (w .even) (omega arith) (all-at 255 hs (λ i h. omega (arith, w .even, w .holds-in i (omega (arith, w .even))))),
@@ -181,18 +217,40 @@ module _ (car : Vehicle) (vs hs : List ℕ) (w : Writable car vs hs) (a b : ℕ)
       )
 
   -- what is written is read back
-  pub reads-written : job-read (job-bytes car vs hs) a b ≡ got (job-from (cleared car) vs hs) (length (job-bytes car vs hs))
+  pub reads-written : job-read (job-bytes v car vs hs) a b ≡ got (job-from v (cleared car) vs hs) (length (job-bytes v car vs hs))
   unfolding job-read job-bytes job seen stages fields job-from _then_ version vehicle trace seconds checked counted
-  reads-written = rw (← same-parts car (w .bounds)) (reads-whole (job-sound a b) (job-from (cleared car) vs hs) job-takes)
+  reads-written = rw (← same-parts car (w .bounds)) (reads-whole (job-sound a b) (job-from v (cleared car) vs hs) job-takes)
 
--- what is read is written as the same bytes
-pub writes-read : (bytes : List ℕ) → Bytes bytes → (a b : ℕ) {j : Job} {end : ℕ} → job-read bytes a b ≡ got j end → job-bytes (j .vehicle) (j .speeds) (j .holds) ≡ bytes
-unfolding job-read job-bytes job seen stages fields job-from _then_ version bounded trace seconds checked counted
-writes-read bytes h a b {j} e =
-    let w = says-now e (whole-says (job-sound a b) bytes) in
-    let one : within 1 1 (j .version) ≡ true = w .0 .0 .0 .1 in
-    let is-one : j .version ≡ 1 = omega (arith, within-lo 1 1 (j .version) one, within-hi 1 1 (j .version) one) in
-    rw is-one at (w .1 h)
+-- what is read is written as the same bytes, in its own version
+pub writes-read : (bytes : List ℕ) → Bytes bytes → (a b : ℕ) {j : Job} {end : ℕ} → job-read bytes a b ≡ got j end → job-bytes (j .version) (j .vehicle) (j .speeds) (j .holds) ≡ bytes
+unfolding job-read job-bytes job seen stages fields job-from _then_ trace seconds checked counted
+writes-read bytes h a b {j} e = says-now e (whole-says (job-sound a b) bytes) .1 h
+
+-- of a job that is read in version 1 no point has a margin
+row-unmarked : (v : ℕ) → leb 2 v ≡ false → (k : ℕ) (ns ps ms : List ℕ) → RowTakes (λ (s : Unit {0}). point v) (λ s a. s) tt (points-of k ns ps ms) → (i : ℕ) → i < k → at ms i ≡ 0
+unfolding RowTakes points-of point _then_
+row-unmarked v l zero ns ps ms t i h = absurd (omega arith)
+row-unmarked v l (suc k) ns ps ms t zero h = takes-only-if (leb 2 v) 0 value (at ms 0) (t .0 .1 .1) l
+row-unmarked v l (suc k) ns ps ms t (suc i) h = rw (← one-more i, ← getD-drop 1 ms i 0) (row-unmarked v l k (drop 1 ns) (drop 1 ps) (drop 1 ms) (t .1) i (omega arith))
+
+vehicle-unmarked : (v : ℕ) (car : Vehicle) → vehicle v .Takes car → leb 2 v ≡ false → (i : ℕ) → i < car .points → at (car .m) i ≡ 0
+unfolding vehicle seen _then_ parts-of curve counted many row
+vehicle-unmarked v car t l = row-unmarked v l (car .points) (car .n) (car .p) (car .m) (t .0 .1 .1 .0 .1 .0)
+
+-- so its own version takes it where it passes the working's checks
+pub read-passes : (bytes : List ℕ) (a b : ℕ) {j : Job} {end : ℕ} → job-read bytes a b ≡ got j end → job-fault (j .vehicle) (j .speeds) (j .holds) ≡ none
+    → checks-fault (j .version) (j .vehicle) (j .speeds) (j .holds) ≡ none
+unfolding job-read job seen stages fields _then_ version bounded checked job-fault checks-fault version-fault fields-fault lower-field vehicle-fault refuse-at
+read-passes bytes a b {j} e ok =
+    let t = says-now e (whole-says (job-sound a b) bytes) .0 .0 in
+    let one = orelse-none _ _ ok in
+    let two = orelse-none _ _ (one .1) in
+    let three = orelse-none _ _ (two .1) in
+    none-orelse _ _ (none-when 14 _ 0 (rw (t .0 .1)))
+    ∙ none-orelse _ _ (one .0)
+    ∙ none-orelse _ _ (two .0)
+    ∙ none-orelse _ _ (rw (refuse-none 3 (bad-field (j .vehicle)) (three .0), margin-none (j .version) (j .vehicle) (vehicle-unmarked (j .version) (j .vehicle) (t .1 .0))))
+    ∙ three .1
 
 -- ---- and where there is room
 
@@ -206,10 +264,10 @@ unfolding short-fault
 enough-room bytes room h = none-when 17 _ _ (le-ltb _ _ h)
 
 -- where nothing is refused the job is written
-pub write-none : (car : Vehicle) (vs hs room : List ℕ) → write-fault car vs hs room ≡ none → (job-fault car vs hs ≡ none) × (written car vs hs room ≡ job-bytes car vs hs)
+pub write-none : (v : ℕ) (car : Vehicle) (vs hs room : List ℕ) → write-fault v car vs hs room ≡ none → (checks-fault v car vs hs ≡ none) × (written v car vs hs room ≡ job-bytes v car vs hs)
 unfolding write-fault written left
-write-none car vs hs room e = (orelse-none _ _ e .0, rw e)
+write-none v car vs hs room e = (orelse-none _ _ e .0, rw e)
 
-pub none-write : (car : Vehicle) (vs hs room : List ℕ) → job-fault car vs hs ≡ none → length (job-bytes car vs hs) ≤ length room → write-fault car vs hs room ≡ none
+pub none-write : (v : ℕ) (car : Vehicle) (vs hs room : List ℕ) → checks-fault v car vs hs ≡ none → length (job-bytes v car vs hs) ≤ length room → write-fault v car vs hs room ≡ none
 unfolding write-fault
-none-write car vs hs room e h = none-orelse _ _ e ∙ enough-room (job-bytes car vs hs) room h
+none-write v car vs hs room e h = none-orelse _ _ e ∙ enough-room (job-bytes v car vs hs) room h

@@ -25,6 +25,7 @@ returns c =
     let r = c .before .before .before .before .before .before .read .ensures in
     record {
       answered = c .verdict-of .ensures ∙ says-told _ _ (r .answered);
+      the-version = search needs;
       the-vehicle = search needs;
       the-count = search needs;
       speeds-left = search needs;

@@ -6,6 +6,7 @@ use mathlib.Core.Path.{refl, sym}
 use mathlib.Core.List.{List}
 use Rattle.rules.specs.declared.Vehicle.{Vehicle}
 use Rattle.gears.specs.Parts.{Counts}
+use Rattle.gears.proofs.Derating.{derates}
 use Rattle.checks.proofs.Rows.{Opened, opened}
 use Rattle.checks.proofs.Scans.{not-so, so}
 use Rattle.cards.proofs.Holding.{InTrace, Standing, MovingSecond, Checked}
@@ -32,23 +33,23 @@ standing-at : (c : tie.Then2) → Of Standing (c .before .before .before .before
 standing-at c = record { place = inside-at (c .before .before .before); stands = not-so (c .before .moving .ensures) (c .if2 .taken) }
 
 -- the second moves
-moving-at : (c : tie.After-around) → Of (MovingSecond (record { lo = c .before .before .before .before .before .before .before .before .trip-start .result; hi = c .before .before .before .before .before .before .before .trip-stop .result }) (c .around .result)) (c .before .before .before .before .before .before .before .before .before .before .before .before .before)
+moving-at : (c : tie.After-around) → Of (MovingSecond (record { lo = c .before .before .before .before .before .before .before .before .before .before .before .before .trip-start .result; hi = c .before .before .before .before .before .before .before .before .before .before .before .trip-stop .result }) (c .around .result)) (c .before .before .before .before .before .before .before .before .before .before .before .before .before .before .before .before .before)
 moving-at c = record {
-  place = inside-at (c .before .before .before .before .before .before .before .before .before .before .before .before);
-  moves = so (c .before .before .before .before .before .before .before .before .before .before .moving .ensures) (c .before .before .before .before .before .before .before .before .before .if2 .left);
-  trip-from = c .before .before .before .before .before .before .before .before .trip-start .ensures;
-  trip-to = c .before .before .before .before .before .before .before .trip-stop .ensures;
+  place = inside-at (c .before .before .before .before .before .before .before .before .before .before .before .before .before .before .before .before);
+  moves = so (c .before .before .before .before .before .before .before .before .before .before .before .before .before .before .moving .ensures) (c .before .before .before .before .before .before .before .before .before .before .before .before .before .if2 .left);
+  trip-from = c .before .before .before .before .before .before .before .before .before .before .before .before .trip-start .ensures;
+  trip-to = c .before .before .before .before .before .before .before .before .before .before .before .trip-stop .ensures;
   span-from = c .around .ensures .0;
   span-to = c .around .ensures .1;
 }
 
 -- the numbers are the vehicle's
-counts-at : (c : tie.After-around) → Of (λ car vs hs old s g. Counts car (c .before .before .before .before .before .before .numbers-of .result)) (c .before .before .before .before .before .before .before .before .before .before .before .before .before)
-counts-at c = record { numbers = sym (c .before .before .before .before .before .before .numbers-of .ensures) }
+counts-at : (c : tie.After-around) → Of (λ car vs hs old s g. Counts car (c .before .before .before .before .before .before .before .before .before .before .numbers-of .result)) (c .before .before .before .before .before .before .before .before .before .before .before .before .before .before .before .before .before)
+counts-at c = record { numbers = sym (c .before .before .before .before .before .before .before .before .before .before .numbers-of .ensures) }
 
 -- its span was looked at
-checked-at : (c : tie.After-check-span) → Of (Checked (c .check-span .result) (c .before .before .before .before .before .before .before .numbers-of .result) (record { lo = c .before .before .before .before .before .before .before .before .before .trip-start .result; hi = c .before .before .before .before .before .before .before .before .trip-stop .result }) (c .before .around .result)) (c .before .before .before .before .before .before .before .before .before .before .before .before .before .before)
-checked-at c = record { second = moving-at (c .before); counts = counts-at (c .before); says = c .check-span .ensures }
+checked-at : (c : tie.After-check-span) → Of (Checked (c .check-span .result) (c .before .before .before .before .before .before .before .before .before .before .before .numbers-of .result) (c .before .before .before .before .before .before .before .derate .result) (record { lo = c .before .before .before .before .before .before .before .before .before .before .before .before .before .trip-start .result; hi = c .before .before .before .before .before .before .before .before .before .before .before .before .trip-stop .result }) (c .before .around .result)) (c .before .before .before .before .before .before .before .before .before .before .before .before .before .before .before .before .before .before)
+checked-at c = record { second = moving-at (c .before); counts = counts-at (c .before); powers = c .before .before .before .before .before .before .before .derate .ensures; says = c .check-span .ensures }
 
 check-opening-requires : tie.Need-check-opening-requires
 check-opening-requires c κs = search needs
@@ -109,13 +110,16 @@ trip-stop-requires c κs = search needs
 numbers-of-requires : tie.Need-numbers-of-requires
 numbers-of-requires c κs = search needs
 
+derate-requires : tie.Need-derate-requires
+derate-requires c κs = derates _ (opened-at (c .before .before .before .before .before .before .before .before .before .before) .bounds)
+
 around-requires : tie.Need-around-requires
 around-requires c κs = search needs
 
 check-span-requires : tie.Need-check-span-requires
 check-span-requires c κs =
     let M = moving-at c in
-    (record { car = _; lent = its-parts (counts-at c) (M .place .opened) }, span-asked M (counts-at c), span-resting M)
+    (record { car = _; lent = its-parts (counts-at c) (M .place .opened) (c .before .before .before .before .before .before .derate .ensures) }, span-asked M (counts-at c), span-resting M)
 
 enum-told-5 : tie.Need-enum-told-5
 enum-told-5 c = search needs
@@ -169,6 +173,7 @@ edit-spec =
     trip-start-requires
     trip-stop-requires
     numbers-of-requires
+    derate-requires
     around-requires
     check-span-requires
     enum-told-5

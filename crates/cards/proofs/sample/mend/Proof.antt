@@ -8,6 +8,7 @@ use lib.ListN.{length}
 use Rattle.rules.specs.declared.Vehicle.{Vehicle}
 use Rattle.rules.proofs.Laws.Checks.{trace-in}
 use Rattle.gears.specs.Parts.{Counts}
+use Rattle.gears.proofs.Derating.{derates}
 use Rattle.checks.proofs.Rows.{longest-is, Opened, opened}
 use Rattle.cards.proofs.Mending.{Placed, Checked, mend-opening, mend-outside, span-asked, span-resting, span-parts, span-refused, span-range, span-passes, span-done}
 use Rattle.cards.proofs.Working.{its-parts}
@@ -43,8 +44,8 @@ counts-at : (c : tie.After-numbers-of) → Of (λ car vs hs old s v. Counts car 
 counts-at c = record { numbers = sym (c .numbers-of .ensures) }
 
 -- the span was looked at
-checked-at : (c : tie.After-check-mended) → Of (Checked (c .check-mended .result) (c .before .before .before .before .before .before .numbers-of .result) (c .before .before .before .before .before .before .before .before .reach .result) (record { lo = c .before .before .before .before .before .before .before .before .reach .result .lo; hi = c .before .before .before .before .before .before .before .past .result })) (c .before .before .before .before .before .before .before .before .before .before .before)
-checked-at c = record { placed = placed-at (c .before .before .before .before .before .before .before); counts = counts-at (c .before .before .before .before .before .before); says = c .check-mended .ensures }
+checked-at : (c : tie.After-check-mended) → Of (Checked (c .check-mended .result) (c .before .before .before .before .before .before .before .before .before .before .numbers-of .result) (c .before .before .before .before .before .before .derate .result) (c .before .before .before .before .before .before .before .before .before .before .before .before .reach .result) (record { lo = c .before .before .before .before .before .before .before .before .before .before .before .before .reach .result .lo; hi = c .before .before .before .before .before .before .before .before .before .before .before .past .result })) (c .before .before .before .before .before .before .before .before .before .before .before .before .before .before .before)
+checked-at c = record { placed = placed-at (c .before .before .before .before .before .before .before .before .before .before .before); counts = counts-at (c .before .before .before .before .before .before .before .before .before .before); powers = c .before .before .before .before .before .before .derate .ensures; says = c .check-mended .ensures }
 
 check-opening-requires : tie.Need-check-opening-requires
 check-opening-requires c κs = search needs
@@ -75,12 +76,15 @@ past-requires c κs = search needs
 numbers-of-requires : tie.Need-numbers-of-requires
 numbers-of-requires c κs = search needs
 
+derate-requires : tie.Need-derate-requires
+derate-requires c κs = derates _ (opened-at (c .before .before .before .before .before .before .before .before) .bounds)
+
 check-mended-requires : tie.Need-check-mended-requires
 check-mended-requires c κs =
-    let P = placed-at (c .before .before .before .before .before .before) in
-    let K = counts-at (c .before .before .before .before .before) in
+    let P = placed-at (c .before .before .before .before .before .before .before .before .before .before) in
+    let K = counts-at (c .before .before .before .before .before .before .before .before .before) in
     let asked = span-asked P K in
-    (record { car = _; lent = its-parts K (P .opened) }, asked .0, asked .1, span-resting P)
+    (record { car = _; lent = its-parts K (P .opened) (c .before .before .before .before .before .derate .ensures) }, asked .0, asked .1, span-resting P)
 
 enum-told-3 : tie.Need-enum-told-3
 enum-told-3 c = search needs
@@ -96,11 +100,11 @@ returns-3 c = span-refused (checked-at (c .before .before)) (c .enum-told4 .give
 
 mul-speeds : tie.Need-mul-speeds
 mul-speeds c =
-    let O = opened-at (c .before .before .before .before .before .before .before .before .before .before .before .before .before) in
-    omega (arith, inside-at (c .before .before .before .before .before .before .before .before .before .before .before .before), trace-in _ (O .trace), longest-is)
+    let O = opened-at (c .before .before .before .before .before .before .before .before .before .before .before .before .before .before .before .before .before) in
+    omega (arith, inside-at (c .before .before .before .before .before .before .before .before .before .before .before .before .before .before .before .before), trace-in _ (O .trace), longest-is)
 
 slice-write-speeds : tie.Need-slice-write-speeds
-slice-write-speeds c = inside-at (c .before .before .before .before .before .before .before .before .before .before .before .before)
+slice-write-speeds c = inside-at (c .before .before .before .before .before .before .before .before .before .before .before .before .before .before .before .before)
 
 sweep-requires : tie.Need-sweep-requires
 sweep-requires c κs =
@@ -129,6 +133,7 @@ mend-spec =
     reach-requires
     past-requires
     numbers-of-requires
+    derate-requires
     check-mended-requires
     enum-told-3
     enum-told-4

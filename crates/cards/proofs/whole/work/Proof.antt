@@ -5,9 +5,10 @@ use mathlib.Core.Path.{refl, sym}
 use mathlib.Core.List.{List}
 use Rattle.rules.specs.declared.Vehicle.{Vehicle}
 use native.Mathlib.Omega.{arith}
-use Rattle.gears.specs.Parts.{Counts}
+use Rattle.gears.specs.Parts.{Counts, Lent}
 use Rattle.checks.proofs.Rows.{Opened, opened, spanned}
 use Rattle.cards.proofs.Working.{work-opening, its-parts, no-edit, work-span, work-range, work-passes, work-done, whole-resting}
+use Rattle.gears.proofs.Derating.{derates}
 use borrow.Author.Needs.{needs}
 use Rattle.cards.proofs.whole.work.Statement.{statement}
 use Rattle.cards.proofs.whole.work.Tie as tie
@@ -23,6 +24,10 @@ opened-at p = opened (p .before .before .check-opening .ensures _ _ _ refl refl 
 -- the numbers are the vehicle's
 counts-at : (c : tie.After-numbers-of) → Of (λ car vs hs old. Counts car (c .numbers-of .result)) (c .before)
 counts-at c = record { numbers = sym (c .numbers-of .ensures) }
+
+-- and the parts that are lent, with the available powers
+parts-at : (c : tie.After-derate) → Of (λ car vs hs old. Lent car (c .before .before .before .before .numbers-of .result) (car .ratio) (car .n) (c .derate .result)) (c .before .before .before .before .before)
+parts-at c = its-parts (counts-at (c .before .before .before .before)) (opened-at (c .before .before .before .before .before)) (c .derate .ensures)
 
 check-opening-requires : tie.Need-check-opening-requires
 check-opening-requires c κs = search needs
@@ -42,11 +47,13 @@ returns c =
 numbers-of-requires : tie.Need-numbers-of-requires
 numbers-of-requires c κs = search needs
 
+derate-requires : tie.Need-derate-requires
+derate-requires c κs = derates _ (opened-at (c .before .before .before .before) .bounds)
+
 check-span-requires : tie.Need-check-span-requires
 check-span-requires c κs =
-    let O = opened-at (c .before .before .before .before .before) in
-    let K = counts-at (c .before .before .before .before) in
-    (record { car = _; lent = its-parts K O }, spanned K O (omega arith) (omega arith), whole-resting O)
+    let O = opened-at (c .before .before .before .before .before .before .before .before .before) in
+    (record { car = _; lent = parts-at (c .before .before .before .before) }, spanned (counts-at (c .before .before .before .before .before .before .before .before)) O (omega arith) (omega arith), whole-resting O)
 
 enum-told-3 : tie.Need-enum-told-3
 enum-told-3 c = search needs
@@ -56,13 +63,13 @@ enum-told-4 c = search needs
 
 returns-2 : tie.Need-returns-2
 returns-2 c =
-    let O = opened-at (c .before .before .before .before .before .before .before .before) in
-    work-span O (no-edit O _ 0 _ (c .before .before .check-span .ensures _ (its-parts (counts-at (c .before .before .before .before .before .before .before)) O))) (c .enum-told4 .given .1)
+    let O = opened-at (c .before .before .before .before .before .before .before .before .before .before .before .before) in
+    work-span O (no-edit O _ 0 _ (c .before .before .check-span .ensures _ (parts-at (c .before .before .before .before .before .before .before)))) (c .enum-told4 .given .1)
 
 sweep-requires : tie.Need-sweep-requires
 sweep-requires c κs =
-    let O = opened-at (c .before .before .before .before .before .before .before .before .before .before .before .before .before) in
-    let L = its-parts (counts-at (c .before .before .before .before .before .before .before .before .before .before .before .before)) O in (
+    let O = opened-at (c .before .before .before .before .before .before .before .before .before .before .before .before .before .before .before .before .before) in
+    let L = parts-at (c .before .before .before .before .before .before .before .before .before .before .before .before) in (
       record { car = _; lent = L },
       work-range O _ (no-edit O _ 0 _ (c .before .before .before .before .before .before .before .check-span .ensures _ L)) (c .before .before .before .before .before .enum-told3 .given .1),
       λ car M. work-passes O car (no-edit O car 0 _ (c .before .before .before .before .before .before .before .check-span .ensures car M)) (c .before .before .before .before .before .enum-told3 .given .1),
@@ -73,8 +80,8 @@ same-length c = search needs
 
 returns-3 : tie.Need-returns-3
 returns-3 c =
-    let O = opened-at (c .before .before .before .before .before .before .before .before .before .before .before .before .before .before .before .before) in
-    let L = its-parts (counts-at (c .before .before .before .before .before .before .before .before .before .before .before .before .before .before .before)) O in
+    let O = opened-at (c .before .before .before .before .before .before .before .before .before .before .before .before .before .before .before .before .before .before .before .before) in
+    let L = parts-at (c .before .before .before .before .before .before .before .before .before .before .before .before .before .before .before) in
     work-done O (no-edit O _ 0 _ (c .before .before .before .before .before .before .before .before .before .before .check-span .ensures _ L)) (c .before .before .before .before .before .before .before .before .enum-told3 .given .1) (c .before .before .sweep .ensures _ L)
 
 pub work-spec : {M : Type 1} → statement M
@@ -86,6 +93,7 @@ work-spec =
     enum-told-2
     returns
     numbers-of-requires
+    derate-requires
     check-span-requires
     enum-told-3
     enum-told-4

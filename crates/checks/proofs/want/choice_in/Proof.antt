@@ -1,9 +1,9 @@
--- `checks::want::choice_in` meets its contract: what is handed on is what the second is, and D.
+-- `checks::want::choice_in` meets its contract: what is handed on is what the second is, with the speed that follows.
 -- Assumes nothing.
 use native.Mathlib.Omega.{arith}
 use lib.ListN.{set, length-set}
 use borrow.Author.Needs.{needs}
-use Rattle.checks.proofs.Dry.{way-pace, way-choice}
+use Rattle.checks.proofs.Dry.{one-aligned, one-paced, way-choice}
 use Rattle.checks.proofs.want.choice_in.Statement.{statement}
 use Rattle.checks.proofs.want.choice_in.Tie as tie
 
@@ -28,20 +28,56 @@ speed-at-requires-2 c κs =
 hold-at-requires : tie.Need-hold-at-requires
 hold-at-requires c κs = let W = c .before .before .before .before .pre .1 in omega (arith, W .until, W .trip .inside, W .rooms)
 
-sub-choice-after : tie.Need-sub-choice-after
-sub-choice-after c = let W = c .before .before .before .before .before .pre .1 in omega (arith, W .since)
+sub-run-left : tie.Need-sub-run-left
+sub-run-left c = let W = c .before .before .before .before .before .pre .1 in omega (arith, W .since)
 
-choice-after-requires : tie.Need-choice-after-requires
-choice-after-requires c κs =
-    let s = c .before .before .before .before .before in
-    (s .pre .0, way-pace (s .pre .1) (c .before .before .speed-at .ensures) (c .before .speed-at2 .ensures))
+run-left-requires : tie.Need-run-left-requires
+run-left-requires c = search needs
+
+slice-aggregate-first-choices : tie.Need-slice-aggregate-first-choices
+slice-aggregate-first-choices c = search needs
+
+slice-aggregate-first-choices-2 : tie.Need-slice-aggregate-first-choices-2
+slice-aggregate-first-choices-2 c = search needs
+
+slice-aggregate-first-choices-3 : tie.Need-slice-aggregate-first-choices-3
+slice-aggregate-first-choices-3 c = search needs
+
+first-choices-requires : tie.Need-first-choices-requires
+first-choices-requires c κs =
+    let s = c .before .before .before .before .before .before .before .before .before in (
+      s .pre .0,
+      one-paced (s .pre .1) (c .before .before .before .before .before .before .speed-at .ensures) (c .before .before .before .before .before .speed-at2 .ensures) _,
+      one-aligned _ _ _ _,
+    )
+
+array-read-result : tie.Need-array-read-result
+array-read-result c = search needs
 
 returns : tie.Need-returns
 returns c = λ car L last.
-    let s = c .before .before .before .before .before .before in
+    let s = c .before .before .before .before .before .before .before .before .before .before .before in
     let a = s .args in
     way-choice (s .pre .1) car (set (a .holds .now) (a .hold .second) (a .hold .gear)) (length-set (a .holds .now) (a .hold .second) (a .hold .gear)) last
-    (c .before .before .before .speed-at .ensures) (c .before .before .speed-at2 .ensures) (c .before .hold-at .ensures) (c .choice-after .ensures car L)
+    (c .before .before .before .before .before .before .before .before .speed-at .ensures)
+    (c .before .before .before .before .before .before .before .speed-at2 .ensures)
+    (c .before .before .before .before .before .before .hold-at .ensures)
+    (c .before .before .before .before .before .run-left .ensures)
+    (c .before .first-choices .ensures car L)
 
 pub choice-in-spec : {M : Type 1} → statement M
-choice-in-spec = tie.close (tie.spec speed-at-requires add-speed-at speed-at-requires-2 hold-at-requires sub-choice-after choice-after-requires returns)
+choice-in-spec =
+    tie.close
+    (tie.spec
+    speed-at-requires
+    add-speed-at
+    speed-at-requires-2
+    hold-at-requires
+    sub-run-left
+    run-left-requires
+    slice-aggregate-first-choices
+    slice-aggregate-first-choices-2
+    slice-aggregate-first-choices-3
+    first-choices-requires
+    array-read-result
+    returns)

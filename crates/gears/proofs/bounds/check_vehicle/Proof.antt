@@ -8,9 +8,11 @@ use mathlib.Core.Bool.{true}
 use native.Mathlib.Omega.{arith}
 use lib.Dec.{lit<}
 use borrow.Author.Tests.{le-leb, lt-leb, not-true, not-false}
+use Rattle.rules.specs.declared.Vehicle.{Vehicle}
 use Rattle.rules.specs.Words.{within}
 use Rattle.rules.specs.Units.{bounds}
 use Rattle.rules.proofs.Laws.Vehicle.{within-lo, within-hi}
+use Rattle.gears.specs.Second.{CurveOf}
 use Rattle.gears.proofs.Fields.{Passed, passed-none, passed-more, refused-here, passed-all}
 use borrow.Author.Needs.{needs}
 use Rattle.gears.proofs.bounds.check_vehicle.Statement.{statement}
@@ -19,6 +21,10 @@ use Rattle.gears.proofs.bounds.check_vehicle.Tie as tie
 -- the signed field, read back from its bits
 f1-back : (c : tie.After-struct-told) → toZ w32 (ofZ w32 (c .before .before .before .before .before .before .before .before .before .before .before .before .before .before .args .t1 .f1)) ≡ c .before .before .before .before .before .before .before .before .before .before .before .before .before .before .args .t1 .f1
 f1-back c = toZ-ofZ (record { sfits = c .struct-told .given .1 .1 .1 .1 .1 .1 .0 .1 })
+
+-- the vehicle's own curve
+its-curve : {car : Vehicle} → CurveOf car (car .n) (car .p) (car .m) (car .margin)
+its-curve = record { speeds = refl; powers = refl; margins = refl; margin-is = refl }
 
 -- where a test has not refused, the fields so far are in bounds
 good-1 : (c : tie.Else1) → within 2 10 (c .before .before .args .t1 .ng) ≡ true
@@ -71,11 +77,11 @@ passed-11 : (c : tie.Else11) → Passed (c .before .before .before .before .befo
 unfolding bounds
 passed-11 c = passed-more (passed-10 (c .before .before)) (lit< tt) (good-11 c)
 
-passed-12 : (c : tie.Else12) → Passed (c .before .before .before .before .before .before .before .before .before .before .before .before .before .before .before .before .before .before .before .before .before .before .before .before .before .before .before .args .t1) 12
+passed-12 : (c : tie.Else12) → Passed (c .before .before .before .before .before .before .before .before .before .before .before .before .before .before .before .before .before .before .before .before .before .before .before .before .before .before .before .before .args .t1) 12
 unfolding bounds
-passed-12 c = passed-more (passed-11 (c .before .before .before .before .before)) (lit< tt) (sym (c .before .points-good .ensures _ refl refl) ∙ not-false (c .before .points-good .result) (c .if12 .left))
+passed-12 c = passed-more (passed-11 (c .before .before .before .before .before .before)) (lit< tt) (sym (c .before .points-good .ensures _ its-curve) ∙ not-false (c .before .points-good .result) (c .if12 .left))
 
-passed-13 : (c : tie.Else13) → Passed (c .before .before .before .before .before .before .before .before .before .before .before .before .before .before .before .before .before .before .before .before .before .before .before .before .before .before .before .before .before .before .before .args .t1) 13
+passed-13 : (c : tie.Else13) → Passed (c .before .before .before .before .before .before .before .before .before .before .before .before .before .before .before .before .before .before .before .before .before .before .before .before .before .before .before .before .before .before .before .before .args .t1) 13
 unfolding bounds
 passed-13 c = passed-more (passed-12 (c .before .before .before .before)) (lit< tt) (sym (c .before .ends-good .ensures) ∙ not-false (c .before .ends-good .result) (c .if13 .left))
 
@@ -148,15 +154,15 @@ unfolding bounds
 returns-11 c = refused-here (passed-10 (c .before .before)) (lit< tt) (sym (c .before .within5 .ensures) ∙ not-true (c .before .within5 .result) (c .if11 .taken))
 
 points-good-requires : tie.Need-points-good-requires
-points-good-requires c κs = within-hi _ _ _ (good-11 (c .before .before .before))
+points-good-requires c κs = (within-hi _ _ _ (good-11 (c .before .before .before .before)), omega arith)
 
 returns-12 : tie.Need-returns-12
 unfolding bounds
-returns-12 c = refused-here (passed-11 (c .before .before .before .before .before)) (lit< tt) (sym (c .before .points-good .ensures _ refl refl) ∙ not-true (c .before .points-good .result) (c .if12 .taken))
+returns-12 c = refused-here (passed-11 (c .before .before .before .before .before .before)) (lit< tt) (sym (c .before .points-good .ensures _ its-curve) ∙ not-true (c .before .points-good .result) (c .if12 .taken))
 
 ends-good-requires : tie.Need-ends-good-requires
 ends-good-requires c κs =
-    let t = good-11 (c .before .before .before .before .before .before .before) in
+    let t = good-11 (c .before .before .before .before .before .before .before .before) in
     let low = within-lo _ _ _ t in
     record { from = omega arith; to = within-hi _ _ _ t }
 

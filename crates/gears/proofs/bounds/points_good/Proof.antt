@@ -8,24 +8,25 @@ use borrow.Author.Tests.{not-true, not-false}
 use Rattle.rules.specs.declared.Vehicle.{Vehicle}
 use Rattle.rules.specs.Words.{every}
 use Rattle.rules.specs.Units.{point-good}
+use Rattle.gears.specs.Second.{CurveOf}
 use Rattle.rules.proofs.Laws.Walk.{Every, all-start, all-stops, all-again, all-ends}
 use Rattle.gears.proofs.bounds.points_good.Statement.{statement}
 use Rattle.gears.proofs.bounds.points_good.Tie as tie
 
 abbrev Inv-loop : tie.InvT-loop
-Inv-loop n p points end k₀ k = (k ≤ end) × ((car : Vehicle) → car .n ≡ n → car .p ≡ p → Every (point-good car) k end (every (point-good car) 0 points))
+Inv-loop n p m margin points end k₀ k = (k ≤ end) × ((car : Vehicle) → CurveOf car n p m margin → Every (point-good car) k end (every (point-good car) 0 points))
 
 abbrev μ-loop : tie.MeasureT-loop
-μ-loop n p points end k₀ k = end - k
+μ-loop n p m margin points end k₀ k = end - k
 
 loop-holds : tie.Need-loop-holds Inv-loop μ-loop
-loop-holds c = (omega arith, λ car en ep. all-start (omega arith))
+loop-holds c = (omega arith, λ car C. all-start (omega arith))
 
 point-good-requires : tie.Need-point-good-requires Inv-loop μ-loop
 point-good-requires c κs = search needs
 
 returns : tie.Need-returns Inv-loop μ-loop
-returns c = λ car en ep. all-stops (c .before .before .before .loop .inv .1 car en ep) (omega arith) (sym (c .before .point-good .ensures car en ep) ∙ not-true (c .before .point-good .result) (c .if1 .taken))
+returns c = λ car C. all-stops (c .before .before .before .loop .inv .1 car C) (omega arith) (sym (c .before .point-good .ensures car C) ∙ not-true (c .before .point-good .result) (c .if1 .taken))
 
 add-k : tie.Need-add-k Inv-loop μ-loop
 add-k c = search needs
@@ -34,10 +35,10 @@ loop-less : tie.Need-loop-less Inv-loop μ-loop
 loop-less c = search needs
 
 loop-again : tie.Need-loop-again Inv-loop μ-loop
-loop-again c = (omega arith, λ car en ep. all-again (c .before .before .before .loop .inv .1 car en ep) (omega arith) (sym (c .before .point-good .ensures car en ep) ∙ not-false (c .before .point-good .result) (c .if1 .left)))
+loop-again c = (omega arith, λ car C. all-again (c .before .before .before .loop .inv .1 car C) (omega arith) (sym (c .before .point-good .ensures car C) ∙ not-false (c .before .point-good .result) (c .if1 .left)))
 
 returns-2 : tie.Need-returns-2 Inv-loop μ-loop
-returns-2 c = λ car en ep. all-ends (c .before .loop .inv .1 car en ep) (omega arith)
+returns-2 c = λ car C. all-ends (c .before .loop .inv .1 car C) (omega arith)
 
 pub points-good-spec : {M : Type 1} → statement M
 points-good-spec =

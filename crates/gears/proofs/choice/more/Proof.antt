@@ -6,10 +6,10 @@ use Rattle.gears.proofs.choice.more.Statement.{statement}
 use Rattle.gears.proofs.choice.more.Tie as tie
 
 abbrev left : tie.Start → E
-left c = var (c .args .b .q) 10000000000 (c .pre .1 .q-in) ⊗ var (c .args .a .w) 1000 (c .pre .0 .w-in)
+left c = var (c .args .b .q) 1000000000000 (c .pre .1 .q-in) ⊗ var (c .args .a .w) 1000 (c .pre .0 .w-in)
 
 abbrev right : tie.Start → E
-right c = var (c .args .a .q) 10000000000 (c .pre .0 .q-in) ⊗ var (c .args .b .w) 1000 (c .pre .1 .w-in)
+right c = var (c .args .a .q) 1000000000000 (c .pre .0 .q-in) ⊗ var (c .args .b .w) 1000 (c .pre .1 .w-in)
 
 mul-result : tie.Need-mul-result
 mul-result c = fits (left (c .before .before .before .before)) tt

@@ -9,7 +9,7 @@ use Rattle.rules.specs.Gears.{fits}
 use Rattle.rules.specs.declared.Vehicle.{Vehicle}
 use Rattle.gears.specs.Parts.{Lent}
 use Rattle.gears.specs.Choosing.{Turning}
-use Rattle.gears.proofs.Parts.{ng-of, idle-of, rated-of, margin-of}
+use Rattle.gears.proofs.Parts.{ng-of, idle-of, rated-of}
 use Rattle.gears.proofs.Choices.{suits-none, suits-power, unfit}
 use Rattle.gears.proofs.Powers.{turning-of, sized-of}
 use Rattle.gears.proofs.choice.suits.Statement.{statement}
@@ -51,7 +51,6 @@ enough-requires c κs =
     let s = c .before .before .before .before in
     let L = s .pre .0 .lent in
     record {
-      margin-to = omega (arith, margin-of (L .has .counts), L .bounds .margin-to);
       sized = sized-of L _ _ (turns (c .before .before)) (c .power-at .result) (c .power-at .ensures (s .pre .0 .car) L);
       e-in = rw (toZ-ofZ (s .fits .e)) (s .pre .2);
     }

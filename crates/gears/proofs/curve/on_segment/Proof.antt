@@ -15,33 +15,33 @@ use Rattle.gears.proofs.curve.on_segment.Tie as tie
 both : {a b : ℤ} {c d : ℤ} → a ≡ b → c ≡ d → _≡_ {A = Power} (record { Q = a; w = c }) (record { Q = b; w = d })
 both e f i = record { Q = e i; w = f i }
 
--- the curve's two points
+-- the curve's two points, with their available powers
 abbrev n1 : tie.After-signed → E
 n1 c = is 65535 (c .signed .ensures .same) (c .signed .ensures .most)
 
-abbrev p1 : tie.After-signed2 → E
-p1 c = is 65535 (c .signed2 .ensures .same) (c .signed2 .ensures .most)
+abbrev p1 : tie.After-signed-power → E
+p1 c = is 4294967295 (c .signed-power .ensures .same) (c .signed-power .ensures .most)
 
-abbrev n2 : tie.After-signed3 → E
-n2 c = is 65535 (c .signed3 .ensures .same) (c .signed3 .ensures .most)
+abbrev n2 : tie.After-signed2 → E
+n2 c = is 65535 (c .signed2 .ensures .same) (c .signed2 .ensures .most)
 
-abbrev p2 : tie.After-signed4 → E
-p2 c = is 65535 (c .signed4 .ensures .same) (c .signed4 .ensures .most)
+abbrev p2 : tie.After-signed-power2 → E
+p2 c = is 4294967295 (c .signed-power2 .ensures .same) (c .signed-power2 .ensures .most)
 
-abbrev w : tie.After-signed3 → E
+abbrev w : tie.After-signed2 → E
 w c = n2 c ⊖ n1 (c .before .before .before .before)
 
 -- p2 - p1
-abbrev climb : tie.After-signed4 → E
+abbrev climb : tie.After-signed-power2 → E
 climb c = p2 c ⊖ p1 (c .before .before .before .before)
 
 -- x - 1000 n1
-abbrev past : tie.After-signed4 → E
+abbrev past : tie.After-signed-power2 → E
 past c =
     let s = c .before .before .before .before .before .before .before .before in
     var (pos (s .args .x)) 65535000 (s .pre .small) ⊖ lit (pos 1000) ⊗ n1 (c .before .before .before .before .before .before)
 
-abbrev q : tie.After-signed4 → E
+abbrev q : tie.After-signed-power2 → E
 q c = lit (pos 1000) ⊗ p1 (c .before .before .before .before) ⊗ w (c .before .before) ⊕ climb c ⊗ past c
 
 mul-signed : tie.Need-mul-signed
@@ -53,6 +53,18 @@ element-copy-out-signed c = search needs
 signed-requires : tie.Need-signed-requires
 signed-requires c κs = search needs
 
+mul-signed-power : tie.Need-mul-signed-power
+mul-signed-power c = search needs
+
+element-copy-out-signed-power : tie.Need-element-copy-out-signed-power
+element-copy-out-signed-power c = search needs
+
+signed-power-requires : tie.Need-signed-power-requires
+signed-power-requires c κs = search needs
+
+add-signed : tie.Need-add-signed
+add-signed c = search needs
+
 mul-signed-2 : tie.Need-mul-signed-2
 mul-signed-2 c = search needs
 
@@ -61,18 +73,6 @@ element-copy-out-signed-2 c = search needs
 
 signed-requires-2 : tie.Need-signed-requires-2
 signed-requires-2 c κs = search needs
-
-add-signed : tie.Need-add-signed
-add-signed c = search needs
-
-mul-signed-3 : tie.Need-mul-signed-3
-mul-signed-3 c = search needs
-
-element-copy-out-signed-3 : tie.Need-element-copy-out-signed-3
-element-copy-out-signed-3 c = search needs
-
-signed-requires-3 : tie.Need-signed-requires-3
-signed-requires-3 c κs = search needs
 
 sub-w : tie.Need-sub-w
 sub-w c = fits (w c) tt
@@ -83,17 +83,17 @@ mul-q c = fits (lit (pos 1000) ⊗ p1 (c .before .before)) tt
 mul-q-2 : tie.Need-mul-q-2
 mul-q-2 c = fits (lit (pos 1000) ⊗ p1 (c .before .before) ⊗ w c) tt
 
-add-signed-2 : tie.Need-add-signed-2
-add-signed-2 c = search needs
+add-signed-power : tie.Need-add-signed-power
+add-signed-power c = search needs
 
-mul-signed-4 : tie.Need-mul-signed-4
-mul-signed-4 c = search needs
+mul-signed-power-2 : tie.Need-mul-signed-power-2
+mul-signed-power-2 c = search needs
 
-element-copy-out-signed-4 : tie.Need-element-copy-out-signed-4
-element-copy-out-signed-4 c = search needs
+element-copy-out-signed-power-2 : tie.Need-element-copy-out-signed-power-2
+element-copy-out-signed-power-2 c = search needs
 
-signed-requires-4 : tie.Need-signed-requires-4
-signed-requires-4 c κs = search needs
+signed-power-requires-2 : tie.Need-signed-power-requires-2
+signed-power-requires-2 c κs = search needs
 
 sub-q : tie.Need-sub-q
 sub-q c = fits (climb c) tt
@@ -118,7 +118,7 @@ unfolding between
 returns c =
     let s = c .before .before .before .before .before .before .before .before in
     both (read (q c) tt) (read (w (c .before .before)) tt)
-    ∙ ap (λ (t : ℕ). between (at (s .args .n .now) (s .args .s)) (at (s .args .p .now) (s .args .s)) (at (s .args .n .now) t) (at (s .args .p .now) t) (s .args .x)) (add-one (s .args .s))
+    ∙ ap (λ (t : ℕ). between (at (s .args .n .now) (s .args .s)) (pos (at (s .args .p .now) (s .args .s))) (at (s .args .n .now) t) (pos (at (s .args .p .now) t)) (s .args .x)) (add-one (s .args .s))
 
 pub on-segment-spec : {M : Type 1} → statement M
 on-segment-spec =
@@ -127,20 +127,20 @@ on-segment-spec =
     mul-signed
     element-copy-out-signed
     signed-requires
+    mul-signed-power
+    element-copy-out-signed-power
+    signed-power-requires
+    add-signed
     mul-signed-2
     element-copy-out-signed-2
     signed-requires-2
-    add-signed
-    mul-signed-3
-    element-copy-out-signed-3
-    signed-requires-3
     sub-w
     mul-q
     mul-q-2
-    add-signed-2
-    mul-signed-4
-    element-copy-out-signed-4
-    signed-requires-4
+    add-signed-power
+    mul-signed-power-2
+    element-copy-out-signed-power-2
+    signed-power-requires-2
     sub-q
     cast-q
     mul-q-3

@@ -29,7 +29,7 @@ on-segment-requires : tie.Need-on-segment-requires
 on-segment-requires c κs = let s = c .before .before .before in let L = s .pre .0 .lent in turning-segment L _ _ (s .pre .1) (speed (c .before) (s .pre .0 .car) L) (c .segment .ensures)
 
 returns : tie.Need-returns
-returns c = λ car L. c .on-segment .ensures ∙ power-is L _ _ (speed (c .before .before) car L) (c .before .segment .ensures)
+returns c = λ car L. c .on-segment .ensures ∙ power-is L _ _ (c .before .before .before .before .pre .1) (speed (c .before .before) car L) (c .before .segment .ensures)
 
 pub power-at-spec : {M : Type 1} → statement M
 power-at-spec =

@@ -7,22 +7,22 @@ use Rattle.rules.specs.Groups.{form}
 use Rattle.rules.specs.Words.{at}
 use Rattle.rules.specs.Job.{points-of}
 use mathlib.Core.List.{_++_}
-use Rattle.jobs.specs.Writing.{pairs-bytes}
+use Rattle.jobs.specs.Writing.{margin, points-bytes}
 use Rattle.jobs.proofs.Pieces.{Left, fewer-left, has-space, none-left, said-as, points-left, points-more, points-none, points-begin}
 use borrow.Author.Needs.{needs}
 use Rattle.jobs.proofs.puts.put_points.Statement.{statement}
 use Rattle.jobs.proofs.puts.put_points.Tie as tie
 
 abbrev Inv-loop : tie.InvT-loop
-Inv-loop room₀ at count ns ps next₀ i₀ room next i = (i ≤ count) × Left room₀ at (pairs-bytes (points-of count ns ps)) room next (points-left ns ps count i)
+Inv-loop room₀ at version count ns ps ms next₀ i₀ room next i = (i ≤ count) × Left room₀ at (points-bytes version (points-of count ns ps ms)) room next (points-left version ns ps ms count i)
 
 abbrev μ-loop : tie.MeasureT-loop
-μ-loop room₀ at count ns ps next₀ i₀ room next i = count - i
+μ-loop room₀ at version count ns ps ms next₀ i₀ room next i = count - i
 
 loop-holds : tie.Need-loop-holds Inv-loop μ-loop
 loop-holds c =
-    let s = c .before .before .before in
-    (omega arith, points-begin (s .args .room .now) (s .args .at) (s .args .ns .now) (s .args .ps .now) (s .args .count) (s .pre .2))
+    let s = c .before .before .before .before in
+    (omega arith, points-begin (s .args .version) (s .args .room .now) (s .args .at) (s .args .ns .now) (s .args .ps .now) (s .args .ms .now) (s .args .count) (s .pre .3))
 
 mul-put-group : tie.Need-mul-put-group Inv-loop μ-loop
 mul-put-group c = search needs
@@ -33,9 +33,9 @@ shared-slice-read-put-group c = search needs
 put-group-requires : tie.Need-put-group-requires Inv-loop μ-loop
 put-group-requires c κs =
     let c₀ = c .before .before .before in
-    let s = c₀ .before .before .before .before in
-    let l = said-as (points-more (s .args .ns .now) (s .args .ps .now) (s .args .count) (c₀ .loop .i) (omega arith)) (c₀ .loop .inv .1) in
-    omega (arith, has-space (form (at (s .args .ns .now) (c₀ .loop .i))) (form (at (s .args .ps .now) (c₀ .loop .i)) ++ points-left (s .args .ns .now) (s .args .ps .now) (s .args .count) (suc (c₀ .loop .i))) l)
+    let s = c₀ .before .before .before .before .before in
+    let l = said-as (points-more (s .args .version) (s .args .ns .now) (s .args .ps .now) (s .args .ms .now) (s .args .count) (c₀ .loop .i) (omega arith)) (c₀ .loop .inv .1) in
+    omega (arith, has-space (form (at (s .args .ns .now) (c₀ .loop .i))) (form (at (s .args .ps .now) (c₀ .loop .i)) ++ (margin (s .args .version) .write (at (s .args .ms .now) (c₀ .loop .i)) ++ points-left (s .args .version) (s .args .ns .now) (s .args .ps .now) (s .args .ms .now) (s .args .count) (suc (c₀ .loop .i)))) l)
 
 mul-put-group-2 : tie.Need-mul-put-group-2 Inv-loop μ-loop
 mul-put-group-2 c = search needs
@@ -46,9 +46,22 @@ shared-slice-read-put-group-2 c = search needs
 put-group-requires-2 : tie.Need-put-group-requires-2 Inv-loop μ-loop
 put-group-requires-2 c κs =
     let c₀ = c .before .before .before .before .before .before .before .before in
-    let s = c₀ .before .before .before .before in
-    let l = said-as (points-more (s .args .ns .now) (s .args .ps .now) (s .args .count) (c₀ .loop .i) (omega arith)) (c₀ .loop .inv .1) in
-    omega (arith, has-space (form (at (s .args .ps .now) (c₀ .loop .i))) (points-left (s .args .ns .now) (s .args .ps .now) (s .args .count) (suc (c₀ .loop .i))) (fewer-left l (c .before .before .before .before .put-group .ensures)))
+    let s = c₀ .before .before .before .before .before in
+    let l = said-as (points-more (s .args .version) (s .args .ns .now) (s .args .ps .now) (s .args .ms .now) (s .args .count) (c₀ .loop .i) (omega arith)) (c₀ .loop .inv .1) in
+    omega (arith, has-space (form (at (s .args .ps .now) (c₀ .loop .i))) (margin (s .args .version) .write (at (s .args .ms .now) (c₀ .loop .i)) ++ points-left (s .args .version) (s .args .ns .now) (s .args .ps .now) (s .args .ms .now) (s .args .count) (suc (c₀ .loop .i))) (fewer-left l (c .before .before .before .before .put-group .ensures)))
+
+mul-put-margin : tie.Need-mul-put-margin Inv-loop μ-loop
+mul-put-margin c = search needs
+
+shared-slice-read-put-margin : tie.Need-shared-slice-read-put-margin Inv-loop μ-loop
+shared-slice-read-put-margin c = search needs
+
+put-margin-requires : tie.Need-put-margin-requires Inv-loop μ-loop
+put-margin-requires c κs =
+    let c₀ = c .before .before .before .before .before .before .before .before .before .before .before .before .before in
+    let s = c₀ .before .before .before .before .before in
+    let l = said-as (points-more (s .args .version) (s .args .ns .now) (s .args .ps .now) (s .args .ms .now) (s .args .count) (c₀ .loop .i) (omega arith)) (c₀ .loop .inv .1) in
+    omega (arith, has-space (margin (s .args .version) .write (at (s .args .ms .now) (c₀ .loop .i))) (points-left (s .args .version) (s .args .ns .now) (s .args .ps .now) (s .args .ms .now) (s .args .count) (suc (c₀ .loop .i))) (fewer-left (fewer-left l (c .before .before .before .before .before .before .before .before .before .put-group .ensures)) (c .before .before .before .before .put-group2 .ensures)))
 
 add-i : tie.Need-add-i Inv-loop μ-loop
 add-i c = search needs
@@ -58,18 +71,18 @@ loop-less c = search needs
 
 loop-again : tie.Need-loop-again Inv-loop μ-loop
 loop-again c =
-    let c₀ = c .before .before .before .before .before .before .before .before .before .before .before in
-    let s = c₀ .before .before .before .before in
-    let l = said-as (points-more (s .args .ns .now) (s .args .ps .now) (s .args .count) (c₀ .loop .i) (omega arith)) (c₀ .loop .inv .1) in
-    (omega arith, rw add-one (fewer-left (fewer-left l (c .before .before .before .before .before .before .before .put-group .ensures)) (c .before .before .put-group2 .ensures)))
+    let c₀ = c .before .before .before .before .before .before .before .before .before .before .before .before .before .before .before .before in
+    let s = c₀ .before .before .before .before .before in
+    let l = said-as (points-more (s .args .version) (s .args .ns .now) (s .args .ps .now) (s .args .ms .now) (s .args .count) (c₀ .loop .i) (omega (arith, c .before .before .before .before .before .before .before .before .before .before .before .before .before .before .before .loop-test))) (c₀ .loop .inv .1) in
+    (omega (arith, c .before .before .before .before .before .before .before .before .before .before .before .before .before .before .before .loop-test), rw add-one (fewer-left (fewer-left (fewer-left l (c .before .before .before .before .before .before .before .before .before .before .before .before .put-group .ensures)) (c .before .before .before .before .before .before .before .put-group2 .ensures)) (c .before .before .put-margin .ensures)))
 
 same-length : tie.Need-same-length Inv-loop μ-loop
 same-length c = search needs
 
 returns : tie.Need-returns Inv-loop μ-loop
 returns c =
-    let s = c .before .before .before .before .before in
-    none-left (said-as (points-none (s .args .ns .now) (s .args .ps .now) (s .args .count) (c .before .loop .i) (omega arith)) (c .before .loop .inv .1))
+    let s = c .before .before .before .before .before .before in
+    none-left (said-as (points-none (s .args .version) (s .args .ns .now) (s .args .ps .now) (s .args .ms .now) (s .args .count) (c .before .loop .i) (omega arith)) (c .before .loop .inv .1))
 
 pub put-points-spec : {M : Type 1} → statement M
 put-points-spec =
@@ -84,6 +97,9 @@ put-points-spec =
     mul-put-group-2
     shared-slice-read-put-group-2
     put-group-requires-2
+    mul-put-margin
+    shared-slice-read-put-margin
+    put-margin-requires
     add-i
     loop-less
     loop-again

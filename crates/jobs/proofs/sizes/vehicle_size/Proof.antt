@@ -2,7 +2,7 @@
 -- Assumes nothing.
 use native.Mathlib.Omega.{arith}
 use Rattle.rules.proofs.Laws.Groups.{form-size}
-use Rattle.jobs.proofs.Bytes.{values-short, vehicle-length}
+use Rattle.jobs.proofs.Bytes.{values-short, margins-short, vehicle-length}
 use borrow.Author.Needs.{needs}
 use Rattle.jobs.proofs.sizes.vehicle_size.Statement.{statement}
 use Rattle.jobs.proofs.sizes.vehicle_size.Tie as tie
@@ -24,7 +24,7 @@ values-size-requires c κs = search needs
 
 add-gearbox : tie.Need-add-gearbox
 add-gearbox c =
-    let car = c .before .before .before .before .before .before .args .t1 in
+    let car = c .before .before .before .before .before .before .args .t2 in
     omega (arith, c .before .before .before .before .before .before .pre .ng-to, c .before .before .before .before .group-size .ensures, form-size (car .ng) .1, c .values-size .ensures, values-short (car .ratio) (car .ng))
 
 group-size-requires-2 : tie.Need-group-size-requires-2
@@ -35,7 +35,7 @@ values-size-requires-2 c κs = search needs
 
 add-curve : tie.Need-add-curve
 add-curve c =
-    let car = c .before .before .before .before .before .before .before .before .before .before .before .args .t1 in
+    let car = c .before .before .before .before .before .before .before .before .before .before .before .args .t2 in
     omega (arith, c .before .before .before .before .before .before .before .before .before .before .before .pre .points-to, c .before .before .before .before .group-size2 .ensures, form-size (car .points) .1, c .values-size2 .ensures, values-short (car .n) (car .points))
 
 values-size-requires-3 : tie.Need-values-size-requires-3
@@ -43,8 +43,11 @@ values-size-requires-3 c κs = search needs
 
 add-curve-2 : tie.Need-add-curve-2
 add-curve-2 c =
-    let car = c .before .before .before .before .before .before .before .before .before .before .before .before .before .before .before .args .t1 in
+    let car = c .before .before .before .before .before .before .before .before .before .before .before .before .before .before .before .args .t2 in
     omega (arith, c .before .before .before .before .before .before .before .before .before .before .before .before .before .before .before .pre .points-to, c .before .before .before .before .before .before .before .before .group-size2 .ensures, form-size (car .points) .1, c .before .before .before .before .values-size2 .ensures, values-short (car .n) (car .points), c .values-size3 .ensures, values-short (car .p) (car .points))
+
+margins-size-requires : tie.Need-margins-size-requires
+margins-size-requires c κs = search needs
 
 slice-aggregate-values-size : tie.Need-slice-aggregate-values-size
 slice-aggregate-values-size c = search needs
@@ -54,21 +57,28 @@ values-size-requires-4 c κs = search needs
 
 add-result : tie.Need-add-result
 add-result c =
-    let s = c .before .before .before .before .before .before .before .before .before .before .before .before .before .before .before .before .before in
-    let car = s .args .t1 in
-    omega (arith, s .pre .ng-to, c .before .before .before .before .before .before .before .before .before .before .before .before .before .before .before .group-size .ensures, form-size (car .ng) .1, c .before .before .before .before .before .before .before .before .before .before .before .values-size .ensures, values-short (car .ratio) (car .ng), c .values-size4 .ensures, values-short (c .before .before .before .before .before .before .before .before .before .before .before .before .before .before .before .before .numbers-of .result) 8)
+    let s = c .before .before .before .before .before .before .before .before .before .before .before .before .before .before .before .before .before .before .before .before .before in
+    let car = s .args .t2 in
+    omega (arith, s .pre .ng-to, c .before .before .before .before .before .before .before .before .before .before .before .before .before .before .before .before .before .before .before .group-size .ensures, form-size (car .ng) .1, c .before .before .before .before .before .before .before .before .before .before .before .before .before .before .before .values-size .ensures, values-short (car .ratio) (car .ng), c .values-size4 .ensures, values-short (c .before .before .before .before .before .before .before .before .before .before .before .before .before .before .before .before .before .before .before .before .numbers-of .result) 8)
 
 add-result-2 : tie.Need-add-result-2
 add-result-2 c =
-    let s = c .before .before .before .before .before .before .before .before .before .before .before .before .before .before .before .before .before in
-    let car = s .args .t1 in
-    omega (arith, s .pre .ng-to, s .pre .points-to, c .before .before .before .before .before .before .before .before .before .before .before .before .before .before .before .group-size .ensures, form-size (car .ng) .1, c .before .before .before .before .before .before .before .before .before .before .before .values-size .ensures, values-short (car .ratio) (car .ng), c .values-size4 .ensures, values-short (c .before .before .before .before .before .before .before .before .before .before .before .before .before .before .before .before .numbers-of .result) 8, c .before .before .before .before .before .before .before .before .before .before .group-size2 .ensures, form-size (car .points) .1, c .before .before .before .before .before .before .values-size2 .ensures, values-short (car .n) (car .points), c .before .before .values-size3 .ensures, values-short (car .p) (car .points))
+    let s = c .before .before .before .before .before .before .before .before .before .before .before .before .before .before .before .before .before .before .before .before .before in
+    let car = s .args .t2 in
+    omega (arith, s .pre .ng-to, s .pre .points-to, c .before .before .before .before .before .before .before .before .before .before .before .before .before .before .before .before .before .before .before .group-size .ensures, form-size (car .ng) .1, c .before .before .before .before .before .before .before .before .before .before .before .before .before .before .before .values-size .ensures, values-short (car .ratio) (car .ng), c .values-size4 .ensures, values-short (c .before .before .before .before .before .before .before .before .before .before .before .before .before .before .before .before .before .before .before .before .numbers-of .result) 8, c .before .before .before .before .before .before .before .before .before .before .before .before .before .before .group-size2 .ensures, form-size (car .points) .1, c .before .before .before .before .before .before .before .before .before .before .values-size2 .ensures, values-short (car .n) (car .points), c .before .before .before .before .before .before .values-size3 .ensures, values-short (car .p) (car .points))
+
+add-result-3 : tie.Need-add-result-3
+add-result-3 c =
+    let s = c .before .before .before .before .before .before .before .before .before .before .before .before .before .before .before .before .before .before .before .before .before in
+    let car = s .args .t2 in
+    omega (arith, s .pre .ng-to, s .pre .points-to, c .before .before .before .before .before .before .before .before .before .before .before .before .before .before .before .before .before .before .before .group-size .ensures, form-size (car .ng) .1, c .before .before .before .before .before .before .before .before .before .before .before .before .before .before .before .values-size .ensures, values-short (car .ratio) (car .ng), c .values-size4 .ensures, values-short (c .before .before .before .before .before .before .before .before .before .before .before .before .before .before .before .before .before .before .before .before .numbers-of .result) 8, c .before .before .before .before .before .before .before .before .before .before .before .before .before .before .group-size2 .ensures, form-size (car .points) .1, c .before .before .before .before .before .before .before .before .before .before .values-size2 .ensures, values-short (car .n) (car .points), c .before .before .before .before .before .before .values-size3 .ensures, values-short (car .p) (car .points), c .before .before .margins-size .ensures, margins-short (s .args .version) (car .m) (car .points))
 
 returns : tie.Need-returns
 returns c =
-    let car = c .before .before .before .before .before .before .before .before .before .before .before .before .before .before .before .before .before .args .t1 in
-    let eight = rw (c .before .before .before .before .before .before .before .before .before .before .before .before .before .before .before .before .numbers-of .ensures) at (c .values-size4 .ensures) in
-    omega (arith, vehicle-length car, c .before .before .before .before .before .before .before .before .before .before .before .before .before .before .before .group-size .ensures, c .before .before .before .before .before .before .before .before .before .before .before .values-size .ensures, eight, c .before .before .before .before .before .before .before .before .before .before .group-size2 .ensures, c .before .before .before .before .before .before .values-size2 .ensures, c .before .before .values-size3 .ensures)
+    let s = c .before .before .before .before .before .before .before .before .before .before .before .before .before .before .before .before .before .before .before .before .before in
+    let car = s .args .t2 in
+    let eight = rw (c .before .before .before .before .before .before .before .before .before .before .before .before .before .before .before .before .before .before .before .before .numbers-of .ensures) at (c .values-size4 .ensures) in
+    omega (arith, vehicle-length (s .args .version) car, c .before .before .before .before .before .before .before .before .before .before .before .before .before .before .before .before .before .before .before .group-size .ensures, c .before .before .before .before .before .before .before .before .before .before .before .before .before .before .before .values-size .ensures, eight, c .before .before .before .before .before .before .before .before .before .before .before .before .before .before .group-size2 .ensures, c .before .before .before .before .before .before .before .before .before .before .values-size2 .ensures, c .before .before .before .before .before .before .values-size3 .ensures, c .before .before .margins-size .ensures)
 
 pub vehicle-size-spec : {M : Type 1} → statement M
 vehicle-size-spec =
@@ -85,8 +95,10 @@ vehicle-size-spec =
     add-curve
     values-size-requires-3
     add-curve-2
+    margins-size-requires
     slice-aggregate-values-size
     values-size-requires-4
     add-result
     add-result-2
+    add-result-3
     returns)

@@ -29,33 +29,36 @@ after-vehicle vs hs = trace vs ++ held hs
 put-group-requires : tie.Need-put-group-requires
 put-group-requires c κs =
     let s = c .before .before .before .before in
+    let v = s .args .version in
     let car = s .args .car in
     let vs = s .args .speeds .now in
     let hs = s .args .holds .now in
-    let w = writable car vs hs (s .pre .0) in
-    let l₀ = said-as (job-pieces car vs hs) (all-left (s .args .room .now) 0 (job-bytes car vs hs) (omega (arith, s .pre .2))) in
-    omega (arith, has-space (form 1) (vehicle .write car ++ after-vehicle vs hs) l₀)
+    let w = writable v car vs hs (s .pre .0) in
+    let l₀ = said-as (job-pieces v car vs hs) (all-left (s .args .room .now) 0 (job-bytes v car vs hs) (omega (arith, s .pre .2))) in
+    omega (arith, has-space (form v) (vehicle v .write car ++ after-vehicle vs hs) l₀)
 
 put-vehicle-requires : tie.Need-put-vehicle-requires
 put-vehicle-requires c κs =
     let s = c .before .before .before .before .before .before .before .before in
+    let v = s .args .version in
     let car = s .args .car in
     let vs = s .args .speeds .now in
     let hs = s .args .holds .now in
-    let w = writable car vs hs (s .pre .0) in
-    let l₀ = said-as (job-pieces car vs hs) (all-left (s .args .room .now) 0 (job-bytes car vs hs) (omega (arith, s .pre .2))) in
+    let w = writable v car vs hs (s .pre .0) in
+    let l₀ = said-as (job-pieces v car vs hs) (all-left (s .args .room .now) 0 (job-bytes v car vs hs) (omega (arith, s .pre .2))) in
     let l₁ = fewer-left l₀ (c .before .before .before .put-group .ensures) in
-    (w .bounds, omega (arith, has-space (vehicle .write car) (after-vehicle vs hs) l₁))
+    (w .bounds, omega (arith, has-space (vehicle v .write car) (after-vehicle vs hs) l₁))
 
 put-trace-requires : tie.Need-put-trace-requires
 unfolding longest
 put-trace-requires c κs =
     let s = c .before .before .before .before .before .before .before .before .before .before .before .before in
+    let v = s .args .version in
     let car = s .args .car in
     let vs = s .args .speeds .now in
     let hs = s .args .holds .now in
-    let w = writable car vs hs (s .pre .0) in
-    let l₀ = said-as (job-pieces car vs hs) (all-left (s .args .room .now) 0 (job-bytes car vs hs) (omega (arith, s .pre .2))) in
+    let w = writable v car vs hs (s .pre .0) in
+    let l₀ = said-as (job-pieces v car vs hs) (all-left (s .args .room .now) 0 (job-bytes v car vs hs) (omega (arith, s .pre .2))) in
     let l₁ = fewer-left l₀ (c .before .before .before .before .before .before .before .put-group .ensures) in
     let l₂ = fewer-left l₁ (c .before .before .before .put-vehicle .ensures) in
     (record { each = λ i h. omega (arith, w .speeds-in i h) }, omega (arith, w .not-long), omega (arith, has-space (trace vs) (held hs) l₂))
@@ -63,11 +66,12 @@ put-trace-requires c κs =
 put-group-requires-2 : tie.Need-put-group-requires-2
 put-group-requires-2 c κs =
     let s = c .before .before .before .before .before .before .before .before .before .before .before .before .before .before .before .before in
+    let v = s .args .version in
     let car = s .args .car in
     let vs = s .args .speeds .now in
     let hs = s .args .holds .now in
-    let w = writable car vs hs (s .pre .0) in
-    let l₀ = said-as (job-pieces car vs hs) (all-left (s .args .room .now) 0 (job-bytes car vs hs) (omega (arith, s .pre .2))) in
+    let w = writable v car vs hs (s .pre .0) in
+    let l₀ = said-as (job-pieces v car vs hs) (all-left (s .args .room .now) 0 (job-bytes v car vs hs) (omega (arith, s .pre .2))) in
     let l₁ = fewer-left l₀ (c .before .before .before .before .before .before .before .before .before .before .before .put-group .ensures) in
     let l₂ = fewer-left l₁ (c .before .before .before .before .before .before .before .put-vehicle .ensures) in
     let l₃ = fewer-left l₂ (c .before .before .before .put-trace .ensures) in
@@ -77,11 +81,12 @@ put-held-requires : tie.Need-put-held-requires
 unfolding longest
 put-held-requires c κs =
     let s = c .before .before .before .before .before .before .before .before .before .before .before .before .before .before .before .before .before .before .before .before in
+    let v = s .args .version in
     let car = s .args .car in
     let vs = s .args .speeds .now in
     let hs = s .args .holds .now in
-    let w = writable car vs hs (s .pre .0) in
-    let l₀ = said-as (job-pieces car vs hs) (all-left (s .args .room .now) 0 (job-bytes car vs hs) (omega (arith, s .pre .2))) in
+    let w = writable v car vs hs (s .pre .0) in
+    let l₀ = said-as (job-pieces v car vs hs) (all-left (s .args .room .now) 0 (job-bytes v car vs hs) (omega (arith, s .pre .2))) in
     let l₁ = fewer-left l₀ (c .before .before .before .before .before .before .before .before .before .before .before .before .before .before .before .put-group .ensures) in
     let l₂ = fewer-left l₁ (c .before .before .before .before .before .before .before .before .before .before .before .put-vehicle .ensures) in
     let l₃ = fewer-left l₂ (c .before .before .before .before .before .before .before .put-trace .ensures) in
@@ -94,11 +99,12 @@ same-length c = search needs
 returns : tie.Need-returns
 returns c =
     let s = c .before .before .before .before .before .before .before .before .before .before .before .before .before .before .before .before .before .before .before .before .before .before .before in
+    let v = s .args .version in
     let car = s .args .car in
     let vs = s .args .speeds .now in
     let hs = s .args .holds .now in
-    let w = writable car vs hs (s .pre .0) in
-    let l₀ = said-as (job-pieces car vs hs) (all-left (s .args .room .now) 0 (job-bytes car vs hs) (omega (arith, s .pre .2))) in
+    let w = writable v car vs hs (s .pre .0) in
+    let l₀ = said-as (job-pieces v car vs hs) (all-left (s .args .room .now) 0 (job-bytes v car vs hs) (omega (arith, s .pre .2))) in
     let l₁ = fewer-left l₀ (c .before .before .before .before .before .before .before .before .before .before .before .before .before .before .before .before .before .before .put-group .ensures) in
     let l₂ = fewer-left l₁ (c .before .before .before .before .before .before .before .before .before .before .before .before .before .before .put-vehicle .ensures) in
     let l₃ = fewer-left l₂ (c .before .before .before .before .before .before .before .before .before .before .put-trace .ensures) in

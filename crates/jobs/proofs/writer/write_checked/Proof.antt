@@ -5,6 +5,7 @@ use Rattle.rules.specs.Units.{longest}
 use Rattle.rules.specs.Job.{gather}
 use Rattle.rules.specs.Write.{job-bytes}
 use Rattle.rules.proofs.Laws.Writes.{writable}
+use Rattle.rules.proofs.Laws.Vehicle.{within-hi}
 use Rattle.rules.proofs.Laws.Gathers.{gather-few}
 use Rattle.jobs.proofs.Bytes.{pairs-short, job-length}
 use Rattle.jobs.proofs.Ends.{short-as, bytes-as}
@@ -17,7 +18,7 @@ unfolding longest
 tally-requires c κs =
     let s = c .before .before .before in
     let hs = s .args .holds .now in
-    let w = writable (s .args .vehicle) (s .args .speeds .now) hs (s .pre) in
+    let w = writable (s .args .version) (s .args .vehicle) (s .args .speeds .now) hs (s .pre) in
     omega (arith, w .not-long, w .even)
 
 job-size-requires : tie.Need-job-size-requires
@@ -25,7 +26,7 @@ unfolding longest
 job-size-requires c κs =
     let s = c .before .before .before .before in
     let hs = s .args .holds .now in
-    let w = writable (s .args .vehicle) (s .args .speeds .now) hs (s .pre) in
+    let w = writable (s .args .version) (s .args .vehicle) (s .args .speeds .now) hs (s .pre) in
     (w .bounds, omega (arith, w .not-long), omega (arith, w .not-long, w .even, c .tally .ensures .1, pairs-short (gather 0 hs), gather-few 0 hs))
 
 returns : tie.Need-returns
@@ -34,8 +35,8 @@ returns c =
     let vs = s .args .speeds .now in
     let hs = s .args .holds .now in
     let e = rw (c .before .before .tally .ensures .0, c .before .before .tally .ensures .1) at (c .before .job-size .ensures) in
-    let m = job-length (s .args .vehicle) vs hs in
-    short-as (job-bytes (s .args .vehicle) vs hs) (s .args .room .now) (c .before .job-size .result) (omega (arith, e, m)) (omega arith)
+    let m = job-length (s .args .version) (s .args .vehicle) vs hs (within-hi 1 2 _ (writable (s .args .version) (s .args .vehicle) vs hs (s .pre) .known)) in
+    short-as (job-bytes (s .args .version) (s .args .vehicle) vs hs) (s .args .room .now) (c .before .job-size .result) (omega (arith, e, m)) (omega arith)
 
 put-job-requires : tie.Need-put-job-requires
 put-job-requires c κs =
@@ -43,7 +44,7 @@ put-job-requires c κs =
     let vs = s .args .speeds .now in
     let hs = s .args .holds .now in
     let e = rw (c .before .before .before .tally .ensures .0, c .before .before .before .tally .ensures .1) at (c .before .before .job-size .ensures) in
-    let m = job-length (s .args .vehicle) vs hs in
+    let m = job-length (s .args .version) (s .args .vehicle) vs hs (within-hi 1 2 _ (writable (s .args .version) (s .args .vehicle) vs hs (s .pre) .known)) in
     (s .pre, c .before .before .before .tally .ensures .0, omega (arith, e, m))
 
 same-length : tie.Need-same-length
@@ -55,8 +56,8 @@ returns-2 c =
     let vs = s .args .speeds .now in
     let hs = s .args .holds .now in
     let e = rw (c .before .before .before .before .before .before .tally .ensures .0, c .before .before .before .before .before .before .tally .ensures .1) at (c .before .before .before .before .before .job-size .ensures) in
-    let m = job-length (s .args .vehicle) vs hs in
-    bytes-as (job-bytes (s .args .vehicle) vs hs) (s .args .room .now) (c .before .before .put-job .ensures)
+    let m = job-length (s .args .version) (s .args .vehicle) vs hs (within-hi 1 2 _ (writable (s .args .version) (s .args .vehicle) vs hs (s .pre) .known)) in
+    bytes-as (job-bytes (s .args .version) (s .args .vehicle) vs hs) (s .args .room .now) (c .before .before .put-job .ensures)
 
 pub write-checked-spec : {M : Type 1} → statement M
 write-checked-spec =

@@ -1,8 +1,6 @@
 -- `trips::work::choice_at` meets its contract: what is handed on is what the second is, and D.
 -- Assumes nothing.
 use native.Mathlib.Omega.{arith}
-use mathlib.Core.Path.{_≡_, sym}
-use Rattle.trips.proofs.Trip.{chosen}
 use Rattle.trips.proofs.Clutch.{rise-here}
 use borrow.Author.Needs.{needs}
 use Rattle.trips.proofs.work.choice_at.Statement.{statement}
@@ -33,11 +31,11 @@ choice-after-requires c κs =
     (s .pre .0, record { v-to = s .pre .1 .speed (s .args .j) (l .inside); d-in = rw (← rise-here (s .args .us .now) (s .args .j) (omega (arith, l .speeds, l .inside))) (s .pre .1 .step (s .args .j) (l .inside)) })
 
 returns : tie.Need-returns
-returns c = λ car L gs b.
+returns c = λ car L.
     let s = c .before .before .before .before .before .before in
     let a = s .args in
     let l = s .pre .2 in
-    chosen car (a .us .now) (a .hs .now) (a .run) (a .before) (a .j) _ (sym (rise-here (a .us .now) (a .j) (omega (arith, l .speeds, l .inside)))) (s .pre .3) (omega (arith, l .speeds, l .inside)) (c .choice-after .ensures car L) gs b
+    rw (rise-here (a .us .now) (a .j) (omega (arith, l .speeds, l .inside))) (c .choice-after .ensures car L)
 
 pub choice-at-spec : {M : Type 1} → statement M
 choice-at-spec =

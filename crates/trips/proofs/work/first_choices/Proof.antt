@@ -5,29 +5,40 @@ use mathlib.Core.Path.{_≡_, refl, sym, ap, _∙_}
 use native.Mathlib.Omega.{arith}
 use lib.ListN.{length, length-set}
 use lib.Seq.{getD-set-same}
-use Rattle.rules.specs.Words.{at, pass}
-use Rattle.rules.specs.Corrections.{first-choice}
-use Rattle.trips.proofs.Passes.{pass-start, pass-more, firsts-fresh}
+use mathlib.Core.Bool.{Bool, true, false}
+use lib.Dec.{eqb}
+use borrow.Author.Tests.{ne-eqb}
+use Rattle.rules.specs.Words.{if_then_else_, _and_, at, pass}
+use Rattle.rules.proofs.Laws.Words.{and-no}
+use Rattle.trips.specs.Trip.{on-way}
+use Rattle.trips.proofs.Trip.{way-step}
+use Rattle.trips.proofs.Passes.{pass-start, pass-more}
 use Rattle.rules.specs.declared.Vehicle.{Vehicle}
 use Rattle.gears.specs.Parts.{Lent}
 use Rattle.trips.proofs.work.first_choices.Statement.{statement}
 use Rattle.trips.proofs.work.first_choices.Tie as tie
 
+and-true : (b : Bool) → b ≡ b and true
+unfolding _and_
+and-true true = refl
+and-true false = refl
+
 abbrev Inv-loop : tie.InvT-loop
-Inv-loop k ratio n p us hs run gs₀ before₀ j₀ gs before j =
-    (j ≤ length gs) × (length gs ≡ length gs₀) × ((j ≡ 0 → ⊥) → before ≡ at gs (j - 1)) × ((car : Vehicle) → Lent car k ratio n p → gs ≡ pass (first-choice car us hs) j gs₀)
+Inv-loop k ratio n p us hs begins run last gs₀ first₀ before₀ j₀ gs first before j =
+    (j ≤ length gs) × (length gs ≡ length gs₀) × (first ≡ (begins and eqb j 0)) × (before ≡ (if eqb j 0 then last else at gs (j - 1)))
+    × ((car : Vehicle) → Lent car k ratio n p → gs ≡ pass (on-way car us hs begins run last) j gs₀)
 
 abbrev μ-loop : tie.MeasureT-loop
-μ-loop k ratio n p us hs run gs₀ before₀ j₀ gs before j = length gs - j
+μ-loop k ratio n p us hs begins run last gs₀ first₀ before₀ j₀ gs first before j = length gs - j
 
 loop-holds : tie.Need-loop-holds Inv-loop μ-loop
-loop-holds c = (omega arith, refl, λ z. absurd (z refl), λ car L. pass-start _ _)
+loop-holds c = (omega arith, refl, and-true _, refl, λ car L. pass-start _ _)
 
 choice-at-requires : tie.Need-choice-at-requires Inv-loop μ-loop
 choice-at-requires c κs =
     let s = c .before .before .before .before .before in
     let l = c .before .loop in
-    (s .pre .0, s .pre .1, record { speeds = s .pre .2 .speeds; inside = omega (arith, l .inv, s .pre .2) }, s .pre .3)
+    (s .pre .0, s .pre .1, record { speeds = s .pre .2 .speeds; inside = omega (arith, l .inv, s .pre .2) })
 
 slice-write-gs : tie.Need-slice-write-gs Inv-loop μ-loop
 slice-write-gs c = omega arith
@@ -42,11 +53,15 @@ loop-again : tie.Need-loop-again Inv-loop μ-loop
 loop-again c =
     let s = c .before .before .before .before .before .before in
     let a = s .args in
-    let l = c .before .before .loop in (
+    let l = c .before .before .loop in
+    let x : l .j + 1 - 1 ≡ l .j = omega arith in
+    let y : eqb (l .j + 1) 0 ≡ false = ne-eqb (l .j + 1) 0 (λ z. omega arith) in (
       simp length-set (omega arith),
       simp length-set (l .inv .1),
-      λ z. sym (rw (let e : l .j + 1 - 1 ≡ l .j = omega arith in e) (getD-set-same (l .gs) (l .j) (c .choice-at .result) 0 (omega arith))),
-      λ car L. pass-more (first-choice car (a .us .now) (a .hs .now)) (a .gs .now) (l .gs) (l .j) (c .choice-at .result) (l .inv .3 car L) (c .choice-at .ensures car L (l .gs) (l .inv .2)),
+      rw y (sym (and-no _ _ refl)),
+      rw (y, x) (sym (getD-set-same (l .gs) (l .j) (c .choice-at .result) 0 (omega arith))),
+      λ car L. pass-more (on-way car (a .us .now) (a .hs .now) (a .begins) (a .run) (a .last)) (a .gs .now) (l .gs) (l .j) (c .choice-at .result) (l .inv .4 car L)
+          (way-step car (a .us .now) (a .hs .now) (a .begins) (l .first) (a .run) (a .last) (l .before) (l .j) (l .gs) (l .inv .2) (l .inv .3) (c .choice-at .ensures car L)),
     )
 
 same-length : tie.Need-same-length Inv-loop μ-loop
@@ -58,7 +73,7 @@ returns c =
     let a = s .args in
     let l = c .before .loop in
     let e : l .j ≡ length (a .hs .now) = omega (arith, l .inv, s .pre .2) in
-    λ car L. l .inv .3 car L ∙ ap (λ (i : ℕ). pass (first-choice car (a .us .now) (a .hs .now)) i (a .gs .now)) e ∙ firsts-fresh car (a .us .now) (a .hs .now) (a .gs .now) (s .pre .2 .gears)
+    λ car L. l .inv .4 car L ∙ ap (λ (i : ℕ). pass (on-way car (a .us .now) (a .hs .now) (a .begins) (a .run) (a .last)) i (a .gs .now)) e
 
 pub first-choices-spec : {M : Type 1} → statement M
 first-choices-spec =

@@ -5,7 +5,7 @@ use mathlib.Core.Path.{_≡_}
 use Rattle.rules.specs.declared.Vehicle.{Vehicle}
 use Rattle.rules.specs.Corrections.{gears}
 use Rattle.gears.specs.Parts.{Lent}
-use Rattle.trips.proofs.Trip.{gears-is, bytes-is, moves-on, gears-few, gears-small}
+use Rattle.trips.proofs.Trip.{gears-is, way-firsts, bytes-is, moves-on, gears-few, gears-small}
 use borrow.Author.Needs.{needs}
 use Rattle.trips.proofs.work.work_trip.Statement.{statement}
 use Rattle.trips.proofs.work.work_trip.Tie as tie
@@ -25,13 +25,13 @@ done c car L =
     let first = c .before .before .before .before .before .before .before .before .before .before .before .before .first-choices in
     let one = c .before .before .before .before .before .before .before .before .pass-a in
     let two = c .before .before .before .before .pass-b in
-    gears-is car (a .us .now) (a .hs .now) (first .ensures car L) (one .ensures car (L .has)) (two .ensures car (L .has)) (c .pass-c .ensures car (a .us .now) (start c .pre .1 .lists .speeds) (c .before .before .before .before .before .before .before .before .before .before .before .before .before .before .closing-from .ensures))
+    gears-is car (a .us .now) (a .hs .now) (way-firsts car (a .us .now) (a .hs .now) _ (c .before .before .before .before .before .before .before .before .before .before .before .before .before .before .closing-from .ensures) (start c .pre .1 .lists .speeds) (a .gs .now) (start c .pre .1 .lists .gears) (first .ensures car L)) (one .ensures car (L .has)) (two .ensures car (L .has)) (c .pass-c .ensures car (a .us .now) (start c .pre .1 .lists .speeds) (c .before .before .before .before .before .before .before .before .before .before .before .before .before .before .closing-from .ensures))
 
 closing-from-requires : tie.Need-closing-from-requires
 closing-from-requires c κs = let s = c .before .before .before in (moves-on (s .pre .1), omega (arith, s .pre .1 .lists .speeds))
 
 first-choices-requires : tie.Need-first-choices-requires
-first-choices-requires c κs = let s = c .before .before .before .before .before in (s .pre .0, s .pre .1 .pace, s .pre .1 .lists, c .before .closing-from .ensures)
+first-choices-requires c κs = let s = c .before .before .before .before .before in (s .pre .0, s .pre .1 .pace, s .pre .1 .lists)
 
 pass-a-requires : tie.Need-pass-a-requires
 pass-a-requires c κs = let s = c .before .before .before .before .before .before .before .before .before in (gears-few (s .pre .0), record { speeds = s .pre .1 .lists .speeds; gears = search needs })

@@ -1,0 +1,30 @@
+-- `gears::curve::derated` meets its contract: of 100 per cent both margins leave something, and the product has room.
+-- Assumes nothing.
+use Prim.Native.Nat.{_-_, _*_, _≤_}
+use native.Mathlib.Nat.{mul-le-mul}
+use native.Mathlib.Omega.{arith}
+use borrow.Author.Needs.{needs}
+use Rattle.gears.proofs.curve.derated.Statement.{statement}
+use Rattle.gears.proofs.curve.derated.Tie as tie
+
+sub-result : tie.Need-sub-result
+sub-result c = search needs
+
+sub-result-2 : tie.Need-sub-result-2
+sub-result-2 c = search needs
+
+cast-result : tie.Need-cast-result
+cast-result c = search needs
+
+mul-result : tie.Need-mul-result
+mul-result c =
+    let rest : 100 - c .args .margin - c .args .m ≤ 100 = omega arith in
+    let small : c .args .p ≤ 65535 = omega arith in
+    let most : c .args .p * (100 - c .args .margin - c .args .m) ≤ 65535 * 100 = mul-le-mul small rest in
+    omega arith
+
+returns : tie.Need-returns
+returns c = search needs
+
+pub derated-spec : {M : Type 1} → statement M
+derated-spec = tie.close (tie.spec sub-result sub-result-2 cast-result mul-result returns)

@@ -1,0 +1,18 @@
+-- `jobs::vehicle::margin_at` meets its contract: before version 2 no group is read.
+-- Assumes nothing.
+use borrow.Author.Needs.{needs}
+use Rattle.jobs.proofs.Ways.{no-margin, a-margin}
+use Rattle.jobs.proofs.vehicle.margin_at.Statement.{statement}
+use Rattle.jobs.proofs.vehicle.margin_at.Tie as tie
+
+returns : tie.Need-returns
+returns c = no-margin _ _ _ (c .if1 .taken)
+
+group-at-requires : tie.Need-group-at-requires
+group-at-requires c κs = search needs
+
+returns-2 : tie.Need-returns-2
+returns-2 c = a-margin _ _ _ (c .before .if1 .left) (c .group-at .ensures)
+
+pub margin-at-spec : {M : Type 1} → statement M
+margin-at-spec = tie.close (tie.spec returns group-at-requires returns-2)
