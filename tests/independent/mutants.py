@@ -1,7 +1,7 @@
 #!/usr/bin/env python3
 """Puts one slip at a time into a copy of the reference and expects the comparison with the library to notice it.
 
-    tests/independent/run --cases 500     first: it builds the driver
+    tests/independent/run --cases 500     first: it proves and builds the library
     mutants.py [NUMBER..]                 all slips, or those of these numbers; seed 7, 5,000 cases of each kind. Exit 1 where one is not noticed
 """
 import os, shutil, subprocess, sys
@@ -9,7 +9,7 @@ import os, shutil, subprocess, sys
 HERE = os.path.dirname(os.path.abspath(__file__))
 TOP = os.path.dirname(os.path.dirname(HERE))
 OUT = os.path.join(TOP, "target", "independent")
-DRIVER = [os.path.join(TOP, "library"), "run", os.path.join(OUT, "driver")]
+DRIVER = [os.path.join(TOP, "library"), "serve"]
 SLIPS = [
     ("rounding minimum down", "(2 * top + bottom).div_euclid(2 * bottom)", "top / bottom"),
     ("halves down", "(2 * top + bottom).div_euclid", "(2 * top + bottom - 1).div_euclid"),

@@ -1,5 +1,5 @@
-/* The C library behind a pipe: takes requests from standard input, calls the function asked for, and answers on standard output. src/library.rs is
-   the other end, which so needs no link with the archive.
+/* The C library behind a pipe: takes requests from standard input, calls the function asked for, and answers on standard output. `./library serve` links
+   and runs it; the other ends, which so need no link with the archive, are tests/independent/src/library.rs and python/gearcard/engine.py.
 
    A request: kind (u32), gear (u32), second (u64), the vehicle's fields in order; for the speeds, the holds and the third slice (the job where kind
    is READ, the export where it is EXPORT, the room where it is WRITE, else the card) the number of elements of the guard before it, of the slice and of the guard after it (u32 each);
@@ -14,7 +14,7 @@
 #include <stdlib.h>
 
 enum { READ, WORK, HOLD, RELEASE, EXPORT, CYCLE, CYCLE_PART, DOWNSCALE, WRITE, MEND };
-enum { SECONDS = GEARCARD_LONGEST + 256, BYTES = 9 * GEARCARD_LONGEST + 1024 };
+enum { SECONDS = 1 << 20, BYTES = 1 << 20 };
 
 struct span {
   uint32_t before, length, after;

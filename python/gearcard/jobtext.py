@@ -1,0 +1,290 @@
+"""A job as text: TOML in the units that people use. `parse` reads one, `show` prints one; numbers are exact both ways."""
+
+from __future__ import annotations
+
+import difflib
+import re
+import tomllib
+from array import array
+from dataclasses import dataclass
+from decimal import Decimal
+from functools import cached_property
+from pathlib import Path as File
+from typing import Any, Callable, Iterable, NamedTuple, NoReturn, Sequence
+
+from . import units
+from .calls import Job, cycle, downscale
+from .errors import BadText, Misuse
+from .lines import Path, lines_of
+from .names import Names
+from .refusals import FIELDS, Refused
+from .tables import read_speeds
+from .units import NotExact, Unit
+from .vehicle import Point, Vehicle
+
+#: The vehicle's keys with one number: the key, the field of `Vehicle`, its unit.
+SCALARS: tuple[tuple[str, str, Unit], ...] = (
+    ("idle", "idle", units.ENGINE_SPEED),
+    ("rated", "rated", units.ENGINE_SPEED),
+    ("nmax", "nmax", units.ENGINE_SPEED),
+    ("f0", "f0", units.F0),
+    ("f1", "f1", units.F1),
+    ("f2", "f2", units.F2),
+    ("mass", "tm", units.MASS),
+    ("margin", "margin", units.PER_CENT),
+)
+
+#: A point of the curve; its margin from version 2 on.
+CURVE: tuple[Unit, ...] = (units.ENGINE_SPEED, units.POWER, units.PER_CENT)
+
+#: Where a trace comes from, and the keys that go with each.
+WAYS = {"speeds": ("speeds",), "csv": ("csv", "column"), "cycle": ("cycle", "part", "downscale")}
+
+#: The built-in cycle's name.
+CLASS_3 = "class 3"
+
+#: Speeds in a line of `show`.
+ROW = 10
+
+_TYPES = {bool: "true or false", int: "a whole number", Decimal: "a number", str: "a string", list: "a list", dict: "a table"}
+
+
+class Draft(NamedTuple):
+    """A job as a file has it, and what its parts are called there; a text's is still to be made."""
+
+    job: Job
+    names: Names
+    text: bool = False
+
+
+def _dotted(path: Path) -> str:
+    """`vehicle.curve[3][0]`, as a person would write it."""
+    return "".join(f"[{part}]" if isinstance(part, int) else f".{part}" for part in path).lstrip(".")
+
+
+@dataclass
+class _Source:
+    """A text and its name; says what is wrong, and in which line."""
+
+    name: str
+    text: str
+
+    @cached_property
+    def lines(self) -> dict[Path, int]:
+        return lines_of(self.text)
+
+    def wrong(self, path: Path, words: str) -> NoReturn:
+        """A key that is missing is told with the line of its table."""
+        while path and path not in self.lines:
+            path = path[:-1]
+        raise BadText(self.name, self.lines.get(path, 1), words)
+
+    def typed(self, path: Path, value: Any, *types: type) -> Any:
+        if type(value) not in types:
+            wanted = " or ".join(_TYPES[each] for each in types if not (each is int and Decimal in types))
+            self.wrong(path, f"{_dotted(path)} must be {wanted}, and not {_TYPES.get(type(value), 'a date or a time')}")
+        return value
+
+    def number(self, path: Path, value: Any, unit: Unit) -> int:
+        self.typed(path, value, int, Decimal)
+        try:
+            return unit.whole(value)
+        except NotExact as why:
+            self.wrong(path, f"{_dotted(path)} = {value} {why}")
+
+
+class _Table:
+    """A table of the text. A key that is not among the known ones is an error before anything else is looked at."""
+
+    def __init__(self, source: _Source, path: Path, values: dict[str, Any], known: Sequence[str] | None) -> None:
+        self.source, self.path, self.values = source, path, values
+        for key in values if known is not None else ():
+            if key not in known:
+                near = difflib.get_close_matches(key, known, 1)
+                hint = f"; did you mean {near[0]}?" if near else f" (there are {', '.join(known)})"
+                self.wrong(key, f"there is no key {self.dotted(key)}{hint}")
+
+    def dotted(self, key: str) -> str:
+        return _dotted(self.path + (key,))
+
+    def wrong(self, key: str, words: str) -> NoReturn:
+        self.source.wrong(self.path + (key,), words)
+
+    def has(self, key: str) -> bool:
+        return key in self.values
+
+    def take(self, key: str) -> Any:
+        if key not in self.values:
+            self.wrong(key, f"{self.dotted(key)} is missing")
+        return self.values[key]
+
+    def number(self, key: str, unit: Unit) -> int:
+        return self.source.number(self.path + (key,), self.take(key), unit)
+
+    def typed(self, key: str, *types: type) -> Any:
+        return self.source.typed(self.path + (key,), self.take(key), *types)
+
+    def table(self, key: str, known: Sequence[str] | None) -> _Table:
+        return _Table(self.source, self.path + (key,), self.typed(key, dict), known)
+
+
+def _read_toml(source: _Source) -> dict[str, Any]:
+    try:
+        return tomllib.loads(source.text, parse_float=Decimal)
+    except tomllib.TOMLDecodeError as why:
+        found = re.fullmatch(r"(.*) \(at (?:line (\d+), column \d+|end of document)\)", str(why))
+        line = int(found[2]) if found and found[2] else source.text.count("\n") + 1
+        raise BadText(source.name, line, f"it is no TOML: {found[1] if found else why}") from None
+
+
+def parse(text: str, name: str, folder: File) -> Draft:
+    """A job from its text. `name` is what the text is called where something is wrong, `folder` where its CSV file is looked for."""
+    source = _Source(name, text)
+    top = _Table(source, (), _read_toml(source), ("version", "vehicle", "trace", "holds"))
+    version = _version(top)
+    vehicle = _vehicle(top.table("vehicle", ("ratios", *(key for key, _, _ in SCALARS), "curve")), version)
+    speeds, speed_name = _trace(top.table("trace", [key for keys in WAYS.values() for key in keys]), folder)
+    holds = _holds(top.table("holds", None), len(speeds)) if top.has("holds") else bytearray(len(speeds))
+    names = Names(_field_name(source, vehicle), speed_name, lambda second, gear: f"holds.{second} = {gear}")
+    return Draft(Job(vehicle, speeds, holds, version), names, text=True)
+
+
+def _version(top: _Table) -> int:
+    version = top.typed("version", int)
+    if not 0 <= version <= 65535:
+        top.wrong("version", f"version = {version} is not from 0 to 65535, which is what a job can carry")
+    return version
+
+
+def _curve(version: int) -> tuple[Unit, ...]:
+    return CURVE[:2] if version == 1 else CURVE
+
+
+def _vehicle(table: _Table, version: int) -> Vehicle:
+    source = table.source
+    ratios = [source.number(table.path + ("ratios", k), ratio, units.RATIO) for k, ratio in enumerate(table.typed("ratios", list))]
+    numbers = {field: table.number(key, unit) for key, field, unit in SCALARS}
+    curve = [_point(source, table.path + ("curve", k), row, version) for k, row in enumerate(table.typed("curve", list))]
+    return Vehicle(ratios=tuple(ratios), curve=tuple(curve), **numbers)
+
+
+def _point(source: _Source, path: Path, row: Any, version: int) -> Point:
+    source.typed(path, row, list)
+    columns = _curve(version)
+    if len(row) != len(columns):
+        source.wrong(path, f"{_dotted(path)} must have {len(columns)} numbers in version {version}, {_columns(columns)}, and has {len(row)}")
+    return Point(*(source.number(path + (k,), value, unit) for k, (value, unit) in enumerate(zip(row, columns))))
+
+
+def _columns(point: tuple[Unit, ...]) -> str:
+    return _and(unit.people for unit in point)
+
+
+def _and(words: Iterable[str]) -> str:
+    *first, last = words
+    return f"{', '.join(first)} and {last}"
+
+
+def _trace(table: _Table, folder: File) -> tuple[array[int], Callable[[int], str]]:
+    """The speeds, and what one is called. They come from one of three places."""
+    given = [way for way in WAYS if table.has(way)]
+    if len(given) != 1:
+        words = f"has {' and '.join(given)}, and only one can be" if given else f"must have one of {', '.join(WAYS)}"
+        table.source.wrong(table.path + tuple(given[1:2]), f"trace {words}")
+    for key in table.values:
+        if key not in WAYS[given[0]]:
+            table.wrong(key, f"{table.dotted(key)} does not go with {table.dotted(given[0])}")
+    speeds, speed_name = {"speeds": _listed, "csv": _from_csv, "cycle": _built_in}[given[0]](table, folder)
+    return array("H", speeds), speed_name
+
+
+def _listed(table: _Table, folder: File) -> tuple[Sequence[int], Callable[[int], str]]:
+    path = table.path + ("speeds",)
+    speeds = [table.source.number(path + (k,), value, units.SPEED) for k, value in enumerate(table.typed("speeds", list))]
+    return speeds, lambda second: f"trace.speeds[{second}]"
+
+
+def _from_csv(table: _Table, folder: File) -> tuple[Sequence[int], Callable[[int], str]]:
+    name = table.typed("csv", str)
+    column = table.typed("column", str, int) if table.has("column") else None
+    try:
+        speeds, lines = read_speeds(folder / name, name, column)
+    except BadText:
+        raise
+    except Misuse as why:
+        table.wrong("csv", str(why))
+    return speeds, lambda second: f"{name} line {lines[second]}, second {second}" if second < len(lines) else f"second {second}"
+
+
+def _built_in(table: _Table, folder: File) -> tuple[Sequence[int], Callable[[int], str]]:
+    if (which := table.typed("cycle", str)) != CLASS_3:
+        table.wrong("cycle", f"trace.cycle = '{which}' is not '{CLASS_3}', the cycle that is built in")
+    part = table.typed("part", int) if table.has("part") else 0
+    factor = table.number("downscale", units.FACTOR) if table.has("downscale") else 0
+    if not 0 <= part < 1 << 32:
+        table.wrong("part", f"trace.part = {part} is no number of a part")
+    try:
+        speeds = downscale(factor, part) if table.has("downscale") else cycle(part)
+    except Refused as refused:
+        key = {18: f"trace.part = {part}", 23: f"trace.downscale = {units.FACTOR.text(factor)}"}[refused.number]
+        raise Refused(refused.number, refused.place, f"{key}: {refused.words}") from None
+    return speeds, lambda second: f"second {second} of the trace"
+
+
+def _holds(table: _Table, count: int) -> bytearray:
+    holds = bytearray(count)
+    for key in table.values:
+        gear = table.typed(key, int)
+        if not re.fullmatch("0|[1-9][0-9]{0,9}", key):
+            table.wrong(key, f"holds.{key}: '{key}' is no second")
+        if int(key) >= count:
+            table.wrong(key, f"holds.{key} is past the trace, which has {count} seconds, from 0")
+        if not 1 <= gear <= 255:
+            table.wrong(key, f"holds.{key} = {gear} is no gear that can be held: 1 to 255 (a second that is not held has no line)")
+        holds[int(key)] = gear
+    return holds
+
+
+def _field_name(source: _Source, vehicle: Vehicle) -> Callable[[int], str]:
+    """What a field of the vehicle is called: its key, with the value where it has one."""
+    shown = {key: unit.text(getattr(vehicle, field)) for key, field, unit in SCALARS}
+
+    def name(number: int) -> str:
+        key = FIELDS[number][0]
+        value = f" = {shown[key]}" if key in shown else ""
+        return f"vehicle.{key}{value}"
+
+    return name
+
+
+def show(job: Job) -> str:
+    """The text of a job, with document 01's numbers in the comments. `parse` of it gives the same job."""
+    vehicle = job.vehicle
+    ratios = f"ratios = [{', '.join(map(units.RATIO.text, vehicle.ratios))}]"
+    lines = [f"version = {job.version}", "", "[vehicle]", noted(ratios, units.RATIO, *vehicle.ratios)]
+    for key, field, unit in SCALARS:
+        value = getattr(vehicle, field)
+        lines.append(noted(f"{key} = {unit.text(value)}", unit, value))
+    columns = _curve(job.version)
+    lines.append(_beside("curve = [", f"{_columns(columns)}; {_and(unit.paper for unit in columns)}"))
+    for point in vehicle.curve:
+        row = ", ".join(unit.text(value) for unit, value in zip(columns, point))
+        lines.append(_beside(f"  [{row}],", " ".join(map(str, point[: len(columns)]))))
+    lines += ["]", "", "[trace]", _beside("speeds = [", f"{units.SPEED.people}; {units.SPEED.paper}")]
+    for start in range(0, len(job.speeds), ROW):
+        row = ", ".join(map(units.SPEED.text, job.speeds[start : start + ROW]))
+        lines.append(_beside(f"  {row},", f"from second {start}"))
+    lines.append("]")
+    held = [f"{second} = {gear}" for second, gear in enumerate(job.holds) if gear]
+    if held:
+        lines += ["", _beside("[holds]", "second = gear"), *held]
+    return "\n".join(lines) + "\n"
+
+
+def _beside(words: str, comment: str) -> str:
+    return f"{words.ljust(20)}  # {comment}"
+
+
+def noted(words: str, unit: Unit, *values: int) -> str:
+    """A line with its unit and, where it is another, document 01's."""
+    return _beside(words, f"{unit.people}; {' '.join(map(str, values))} {unit.paper}" if unit.decimals else unit.people)

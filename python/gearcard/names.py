@@ -1,0 +1,53 @@
+"""A refusal said in the words of the user's own file: the key of a text, the line of a spreadsheet, the second or byte of a job."""
+
+from __future__ import annotations
+
+from typing import Callable, Sequence
+
+from .calls import Job
+from .refusals import BYTES, FIELDS, Refused, in_words
+from .units import SPEED
+
+#: What a field of the vehicle, by its number, or a second's speed is called.
+Namer = Callable[[int], str]
+
+
+class Names:
+    """What a job's parts are called. Without names of a text they are those of a job file."""
+
+    def __init__(
+        self,
+        field: Namer = lambda number: f"field {number} of the vehicle, {FIELDS[number][0]}",
+        speed: Namer = lambda second: f"second {second}",
+        hold: Callable[[int, int], str] = lambda second, gear: f"gear {gear}, held at second {second},",
+    ) -> None:
+        self.field, self.speed, self.hold = field, speed, hold
+
+
+def named(refused: Refused, job: Job | None, names: Names, file: str) -> Refused:
+    """The same refusal with words that name its place in the file. Without a job the file could not be read as one."""
+    number, place = refused.number, refused.place
+    words = in_words(number, place)
+    if job is None or number in BYTES:
+        return Refused(number, place, f"{file}: {words}")
+    if number == 3 and place in FIELDS:
+        return Refused(number, place, f"{names.field(place)}: {FIELDS[place][1]}")
+    if number == 14:
+        return Refused(number, place, f"version = {job.version}: {words}")
+    speed = f"{names.speed(place)}, {_speed(job.speeds, place)} km/h,"
+    hold = names.hold(place, job.holds[place] if place < len(job.holds) else 0)
+    told = {
+        4: f"{speed} is over 200 km/h",
+        5: f"{speed} is more than 15 km/h from the second before",
+        6: f"{speed} is not at rest, as the first and the last second must be",
+        7: f"{hold} is no gear to hold: the vehicle has {len(job.vehicle.ratios)}",
+        8: f"{hold} is at a standing second",
+        9: f"{hold} would turn the engine past nmax",
+        10: f"{speed} has no gear that fits, and no hold",
+        11: f"second {place} is outside the trace, which has {len(job.speeds)}",
+    }
+    return Refused(number, place, told.get(number, words))
+
+
+def _speed(speeds: Sequence[int], second: int) -> str:
+    return SPEED.text(speeds[second]) if second < len(speeds) else "no"

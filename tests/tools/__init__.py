@@ -1,0 +1,1 @@
+"""Tests of the tools for people; `tests/tools/run` runs them all."""

@@ -1,0 +1,316 @@
+"""The Python package: every function on the examples, every kind of list, and a child that dies or lies."""
+
+from __future__ import annotations
+
+import contextlib
+import os
+import platform
+import random
+import re
+import statistics
+import sys
+import time
+import unittest
+from array import array
+from dataclasses import replace
+from pathlib import Path
+
+import gearcard
+from gearcard import Failure, Refused, clutch_down, cycle, downscale, export, gear_of, hold, mend, part_of, read, release, work, write
+from gearcard.engine import Engine, Kind
+from gearcard.refusals import BYTES, FIELDS, SECONDS, WORDS, in_words
+from gearcard.vehicle import Vehicle
+
+from . import seeded
+
+HEADER = Path("include/gearcard.h").read_text()
+
+
+def text_of(job: gearcard.Job, card: bytearray) -> str:
+    rows = ["second speed gear clutch"]
+    for second, (speed, byte) in enumerate(zip(job.speeds, card)):
+        rows.append(f"{second} {speed // 10}.{speed % 10} {gear_of(byte)} {'down' if clutch_down(byte) else 'up'}")
+    return "\n".join(rows) + "\n"
+
+
+class Functions(unittest.TestCase):
+    def test_examples(self) -> None:
+        for path in sorted(Path("examples").glob("*.job")):
+            job = read(path.read_bytes())
+            self.assertEqual(seeded.encoded(job), path.read_bytes())
+            try:
+                text = text_of(job, work(job.vehicle, job.speeds, job.holds))
+            except Refused as refused:
+                text = f"refused {refused.number} at {refused.place}\n"
+            self.assertEqual(text, path.with_suffix(".txt").read_text(), path)
+
+    def test_read_seeded(self) -> None:
+        for seed in range(200):
+            job = seeded.job(seed)
+            self.assertEqual(read(seeded.encoded(job)), job, f"seed {seed}")
+
+    def test_write(self) -> None:
+        for path in sorted(Path("examples").glob("*.job")):
+            job = read(path.read_bytes())
+            if path.name == "refused.job":
+                with self.assertRaises(Refused) as raised:
+                    write(job.vehicle, job.speeds, job.holds)
+                self.assertEqual((raised.exception.number, raised.exception.place), (9, 4))
+            else:
+                self.assertEqual(write(job.vehicle, job.speeds, job.holds), path.read_bytes())
+        for seed in range(2000):
+            job = seeded.job(seed)
+            self.assertEqual(write(job.vehicle, list(job.speeds), list(job.holds), job.version), seeded.encoded(job), f"seed {seed}")
+        margin = replace(seeded.CAR_Z, curve=[(*point[:2], 1) for point in seeded.CAR_Z.curve])
+        for car, version, number, place in ((seeded.CAR_Z, 0, 14, 0), (seeded.CAR_Z, 65535, 14, 0), (margin, 1, 3, 12)):
+            with self.assertRaises(Refused) as raised:
+                write(car, [0], None, version)
+            self.assertEqual((raised.exception.number, raised.exception.place), (number, place))
+        with self.assertRaisesRegex(ValueError, "65536 is no version"):
+            write(seeded.CAR_Z, [0], None, 65536)
+        # every second held: longer than the first room that is lent
+        longest = seeded.Job(seeded.CAR_Z, array("H", [0, *[150] * 16382, 0]), bytearray([0, *[5] * 16382, 0]))
+        self.assertEqual(write(longest.vehicle, longest.speeds, longest.holds), seeded.encoded(longest))
+
+    def test_hold_and_release(self) -> None:
+        job = seeded.Job(seeded.CAR_Z, array("H", [0, 50, 150, 100, 0]), bytearray(5))
+        card = work(job.vehicle, job.speeds)
+        self.assertEqual(list(card), [17, 1, 2, 18, 0])
+        for kind in (list, bytearray, lambda values: array("B", values), lambda values: array("i", values), lambda values: memoryview(bytearray(values))):
+            holds, mine = kind([0] * 5), kind(list(card))
+            hold(job.vehicle, [0, 50, 150, 100, 0], holds, mine, second=2, gear=3)
+            self.assertEqual((list(holds), list(mine)), ([0, 0, 3, 0, 0], [17, 1, 19, 18, 0]))
+            with self.assertRaises(Refused) as raised:
+                hold(job.vehicle, memoryview(job.speeds), holds, mine, 2, 6)
+            self.assertEqual((raised.exception.number, raised.exception.place), (7, 2))
+            self.assertEqual((list(holds), list(mine)), ([0, 0, 3, 0, 0], [17, 1, 19, 18, 0]))
+            release(job.vehicle, job.speeds, holds, mine, second=2)
+            self.assertEqual((list(holds), list(mine)), ([0] * 5, list(card)))
+        with self.assertRaises(Refused) as raised:
+            release(job.vehicle, job.speeds, job.holds, card, 5)
+        self.assertEqual(str(raised.exception), "refused 11 at 5: second 5 is outside the trace")
+
+    def test_mend(self) -> None:
+        for kind in (list, lambda values: array("H", values), lambda values: array("i", values)):
+            speeds, holds = kind([0, 50, 150, 100, 0]), bytes(5)
+            card = list(work(seeded.CAR_Z, speeds))
+            mend(seeded.CAR_Z, speeds, holds, card, second=2, speed=120)
+            self.assertEqual((list(speeds), card), ([0, 50, 120, 100, 0], list(work(seeded.CAR_Z, [0, 50, 120, 100, 0]))))
+            with self.assertRaises(Refused) as raised:
+                mend(seeded.CAR_Z, speeds, holds, card, 2, 201)
+            self.assertEqual((raised.exception.number, raised.exception.place), (5, 2))
+            self.assertEqual(list(speeds), [0, 50, 120, 100, 0])
+        for call in (lambda: mend(seeded.CAR_Z, speeds, holds, card, 2, 65536), lambda: mend(seeded.CAR_Z, speeds, holds, card, 2, -1)):
+            with self.assertRaisesRegex(ValueError, "is no speed from 0 to 65535"):
+                call()
+        with self.assertRaisesRegex(TypeError, "speeds cannot be written: tuple"):
+            mend(seeded.CAR_Z, (0, 50, 0), bytearray(3), bytearray(3), 1, 60)
+
+    def test_edits_as_the_whole_working(self) -> None:
+        """Seeded edits, one after the other: each card is that of the whole working."""
+        r = random.Random(5)
+        for seed in range(40):
+            job = seeded.job(seed)
+            try:
+                card = work(job.vehicle, job.speeds, job.holds)
+            except Refused:
+                continue
+            for _ in range(20):
+                second = r.randrange(len(job.speeds))
+                edit = r.choice(
+                    (
+                        lambda: hold(job.vehicle, job.speeds, job.holds, card, second, r.randint(1, 10)),
+                        lambda: release(job.vehicle, job.speeds, job.holds, card, second),
+                        lambda: mend(job.vehicle, job.speeds, job.holds, card, second, r.randint(0, 300)),
+                    )
+                )
+                with contextlib.suppress(Refused):
+                    edit()
+                self.assertEqual(card, work(job.vehicle, job.speeds, job.holds), f"seed {seed}")
+
+    def test_cycle(self) -> None:
+        whole, job = cycle(), read(Path("examples/class-3.job").read_bytes())
+        self.assertEqual(whole, job.speeds)
+        for part, seconds in enumerate((range(1801), range(590), range(589, 1023), range(1022, 1478), range(1477, 1801))):
+            self.assertEqual(part_of(part), seconds)
+            self.assertEqual(cycle(part), whole[seconds.start : seconds.stop])
+            self.assertEqual(downscale(0, part), cycle(part))
+        self.assertLess(max(downscale(300)), max(whole))
+        for call, number in ((lambda: cycle(5), 18), (lambda: downscale(501), 23), (lambda: downscale(1, 7), 18)):
+            with self.assertRaises(Refused) as raised:
+                call()
+            self.assertEqual((raised.exception.number, raised.exception.place), (number, 0))
+        for wrong in (-1, 1 << 32, 1 << 64):
+            with self.assertRaises(ValueError):
+                cycle(wrong)
+
+    def test_export(self) -> None:
+        self.assertEqual(export(Path("examples/loaded.export").read_bytes()), (1873, -313, 5210, 2312))
+        car = replace(seeded.CAR_Z, **export(Path("examples/car-z.export").read_bytes())._asdict())
+        self.assertEqual(car, seeded.CAR_Z)
+        with self.assertRaises(Refused) as raised:
+            export(Path("examples/no-number.export").read_bytes())
+        self.assertEqual((raised.exception.number, raised.exception.place), (20, 5))
+
+    def test_refusals(self) -> None:
+        z, trace = seeded.CAR_Z, [0, 50, 150, 100, 0]
+        for car, speeds, holds, number, place in (
+            (z, [], None, 1, 0),
+            (z, [0] * 100000, None, 1, 0),
+            (z, trace, [0] * 4, 2, 0),
+            (replace(z, ratios=(7000,)), trace, None, 3, 1),
+            (replace(z, ratios=(1,) * 70), trace, None, 3, 1),
+            (replace(z, idle=299), trace, None, 3, 3),
+            (replace(z, f1=-5001), trace, None, 3, 7),
+            (replace(z, curve=((1, 1),) * 65), trace, None, 3, 11),
+            (z, [0, 2001, 0], None, 4, 1),
+            (z, [0, 151, 0], None, 5, 1),
+            (z, [50, 0], None, 6, 0),
+            (z, trace, [0, 9, 0, 0, 0], 7, 1),
+            (z, trace, [1, 0, 0, 0, 0], 8, 0),
+            (z, [0, 150, 300, 450, 510, 450, 300, 150, 0], [0, 0, 0, 0, 1, 0, 0, 0, 0], 9, 4),
+            (replace(z, ratios=(50000, 1)), [0, 150, 0], None, 10, 1),
+        ):
+            with self.assertRaises(Refused, msg=(number, place)) as raised:
+                work(car, speeds, holds)
+            self.assertEqual((raised.exception.number, raised.exception.place), (number, place))
+            self.assertEqual(str(raised.exception), f"refused {number} at {place}: {in_words(number, place)}")
+        whole = Path("examples/car-z-held.job").read_bytes()
+        for data, number, place in (
+            (b"", 12, 0),
+            (whole[:-1], 12, len(whole) - 1),
+            (whole[:2] + b"\x80\x00" + whole[4:], 13, 2),
+            (b"\x07" + whole[1:], 14, 0),
+            (whole[:-2] + b"\x05\x03", 15, len(whole) - 2),
+            (whole + b"\0", 16, len(whole)),
+            (whole + bytes(200000), 16, len(whole)),
+            # a job that is cut after a long count is cut, and not too long for a room
+            (whole[: whole.index(b"\x05\x00\x32")] + b"\x80\x10\x00", 12, whole.index(b"\x05\x00\x32") + 3),
+        ):
+            with self.assertRaises(Refused, msg=(number, place)) as raised:
+                read(data)
+            self.assertEqual((raised.exception.number, raised.exception.place), (number, place))
+
+    def test_wrong_values(self) -> None:
+        z, trace, holds, card = seeded.CAR_Z, [0, 50, 0], bytearray(3), bytearray(3)
+        for call, error, words in (
+            (lambda: work(z, [0, 65536, 0]), ValueError, r"speeds\[1\] = 65536 is no whole number from 0 to 65535"),
+            (lambda: work(z, [0, -1, 0]), ValueError, r"speeds\[1\] = -1"),
+            (lambda: work(z, [0, 5.0, 0]), ValueError, r"speeds\[1\] = 5.0 is no whole number"),
+            (lambda: work(z, trace, [0, 256, 0]), ValueError, r"holds\[1\] = 256 is no whole number from 0 to 255"),
+            (lambda: work(replace(z, idle=65536), trace), ValueError, "idle = 65536 is not from 0 to 65535"),
+            (lambda: work(replace(z, idle=800.0), trace), TypeError, "idle = 800.0 is no whole number"),
+            (lambda: hold(z, trace, holds, card, 1, 256), ValueError, "256 is no gear from 0 to 255"),
+            (lambda: hold(z, trace, holds, card, -1, 1), ValueError, "-1 is no second"),
+            (lambda: hold(z, trace, bytes(3), card, 1, 1), TypeError, "holds cannot be written: bytes"),
+            (lambda: hold(z, trace, holds, (17, 1, 0), 1, 1), TypeError, "card cannot be written: tuple"),
+            (lambda: work(z, bytes(1 << 22)), ValueError, "a list has more than"),
+        ):
+            with self.assertRaisesRegex(error, words):
+                call()
+
+    def test_threads_and_forks(self) -> None:
+        from concurrent.futures import ThreadPoolExecutor
+
+        jobs = [seeded.job(seed) for seed in range(40)]
+        alone = [read(seeded.encoded(job)) for job in jobs]
+        with ThreadPoolExecutor(8) as pool:
+            self.assertEqual(list(pool.map(lambda job: read(seeded.encoded(job)), jobs * 5)), alone * 5)
+        child = os.fork()
+        if child == 0:
+            ok = all(read(seeded.encoded(job)) == job for job in jobs)
+            gearcard.engine.ENGINE.close()
+            os._exit(0 if ok else 1)
+        mine = [read(seeded.encoded(job)) for job in jobs]
+        self.assertEqual(os.waitpid(child, 0)[1], 0)
+        self.assertEqual(mine, jobs)
+
+    def test_one_hold_in_a_millisecond(self) -> None:
+        if platform.machine() != "x86_64":
+            self.skipTest("the engine is emulated here")
+        job = read(Path("examples/class-3.job").read_bytes())
+        card = work(job.vehicle, job.speeds, job.holds)
+        times = []
+        for k in range(400):
+            begun = time.perf_counter()
+            hold(job.vehicle, job.speeds, job.holds, card, 60, 2 + k % 2)
+            times.append(time.perf_counter() - begun)
+        self.assertLess(statistics.median(times), 1e-3, "median of 400 holds on the Class 3 cycle")
+
+
+class Children(unittest.TestCase):
+    """A child that dies, or answers what was not asked, is an error and never a wrong answer."""
+
+    def engine(self, program: str) -> Engine:
+        engine = Engine([sys.executable, "-c", program])
+        self.addCleanup(engine.close)
+        return engine
+
+    def call(self, engine: Engine) -> object:
+        return engine.call(Kind.WORK, vehicle=seeded.CAR_Z.wire(), speeds=bytes(10), holds=bytes(5), third=bytes(5))
+
+    def test_dead(self) -> None:
+        answer = "import sys; sys.stdout.buffer.write(bytes(12) + bytes(20)); sys.stdout.flush()"
+        for program, words in (
+            ("pass", r"ended before its answer \(status 0\)"),
+            ("import os; os.kill(os.getpid(), 9)", r"ended before its answer \(status -9\)"),
+            ("import sys; sys.stdin.read(1); sys.exit(3)", r"ended before its answer \(status 3\)"),
+            ("import sys; sys.exit(2)", r"ended before its answer \(status 2\); it says why on standard error"),
+            (answer.replace("bytes(20)", "bytes(19)"), r"ended before its answer \(status 0\)"),
+            (answer.replace("bytes(20)", "b'x' * 20"), "does not fit the request"),
+        ):
+            with self.subTest(program), self.assertRaisesRegex(Failure, words):
+                self.call(self.engine(program))
+        self.assertEqual(self.call(self.engine(answer)), (0, 0, b"", bytes(10), bytes(5), bytes(5)))
+        with self.assertRaisesRegex(Failure, "could not be started"):
+            self.call(Engine(["/nonexistent/engine"]))
+
+    def test_another_after_it(self) -> None:
+        engine = gearcard.engine.ENGINE
+        job = seeded.job(7)
+        self.assertEqual(read(seeded.encoded(job)), job)
+        assert engine._child is not None
+        engine._child.kill()
+        engine._child.wait()
+        with self.assertRaises(Failure):
+            read(seeded.encoded(job))
+        self.assertEqual(read(seeded.encoded(job)), job)
+        engine.close()
+        self.assertEqual(read(seeded.encoded(job)), job)
+
+
+class Agreement(unittest.TestCase):
+    """What Python repeats of the header and of the driver is what they have."""
+
+    def test_kinds(self) -> None:
+        driver = Path("scripts/driver.c").read_text()
+        names = re.search(r"enum \{ (READ, [A-Z_, ]*) \};", driver)
+        assert names is not None
+        self.assertEqual([kind.name for kind in Kind], names[1].split(", "))
+        most = re.search(r"enum \{ SECONDS = 1 << (\d+), BYTES = 1 << (\d+) \};", driver)
+        assert most is not None
+        self.assertEqual(gearcard.engine.MOST, min(1 << int(most[1]), 1 << int(most[2])))
+
+    def test_vehicle(self) -> None:
+        record = re.search(r"struct gearcard_vehicle \{(.*?)\n\};", HEADER, re.S)
+        assert record is not None
+        sizes = {"uint16_t": 2, "int32_t": 4}
+        fields = re.findall(r"^  (\w+) (\w+)(?:\[(\d+)\])?;", record[1], re.M)
+        self.assertEqual(sum(sizes[kind] * int(places or 1) for kind, _, places in fields), gearcard.vehicle.WIRE_SIZE)
+        self.assertEqual(Vehicle.from_wire(seeded.CAR_Z.wire()), seeded.CAR_Z)
+
+    def test_words(self) -> None:
+        table = re.search(r"/\* The answer: number 0.*?\*/", HEADER, re.S)
+        assert table is not None
+        numbers = {int(number) for number in re.findall(r"^   {1,2}(\d+)  \S", table[0], re.M)}
+        self.assertEqual(set(WORDS), numbers)
+        for number in numbers:
+            row = re.search(rf"^ *{number}  .*?(?=^ +\d+  |\*/)", table[0], re.M | re.S)
+            assert row is not None
+            self.assertEqual("second asked" in row[0] or re.search(r"  second$", row[0], re.M) is not None, number in SECONDS, row[0])
+            self.assertEqual("first byte" in row[0] or "byte where" in row[0] or "first of them" in row[0] or "its length" in row[0], number in BYTES, row[0])
+        longest = re.search(r"#define GEARCARD_LONGEST (\d+)", HEADER)
+        assert longest is not None
+        self.assertIn(f"over {int(longest[1]):,} seconds", WORDS[1])
+        self.assertEqual(set(FIELDS), set(range(1, 14)))
+        self.assertIn("does not have", in_words(99, 0))
