@@ -1,14 +1,17 @@
 -- What the calls of one trip's work come to, one after the other.
 -- Assumes nothing.
-use Prim.Native.Nat.{ℕ, suc, _-_, _≤_, _<_}
+use Prim.Native.Nat.{ℕ, suc, _-_, _*_, _≤_, _<_}
 use native.Mathlib.Omega.{arith}
-use mathlib.Core.Path.{_≡_, sym, ap, _∙_}
+use mathlib.Core.Path.{_≡_, refl, sym, ap, _∙_}
 use mathlib.Core.Bool.{Bool, true, false}
 use mathlib.Core.List.{List}
 use lib.Dec.{leb, eqb}
+use lib.IntN.{ℤ}
 use lib.ListN.{length, drop}
 use borrow.Author.Tests.{eq-eqb, ne-eqb}
 use Rattle.rules.specs.declared.Vehicle.{Vehicle}
+use Rattle.rules.specs.declared.Place.the-variants.{First}
+use Rattle.rules.specs.Vocabulary.{InBounds}
 use Rattle.rules.specs.Words.{if_then_else_, _and_, at, pass, table}
 use Rattle.rules.specs.Units.{rise}
 use Rattle.rules.specs.Corrections.{closing, place-of, here, first-choice, peak, rising, slowing, firsts, after-A, after-B, gears, byte}
@@ -16,11 +19,28 @@ use Rattle.rules.proofs.Laws.Words.{by-order}
 use Rattle.rules.proofs.Laws.Held.{length-gears}
 use Rattle.trips.proofs.Passes.{pass-same, firsts-fresh, gears-to}
 use Rattle.gears.specs.declared.Numbers.{Numbers}
-use Rattle.gears.specs.Parts.{Lent, Parts}
+use Rattle.gears.specs.Parts.{Has, Lent, Parts}
 use Rattle.gears.proofs.Parts.{ng-of}
-use Rattle.gears.specs.Choosing.{first-of, first-parts}
+use Rattle.gears.specs.Choosing.{only-first, first-of, first-parts}
+use Rattle.gears.proofs.Speeds.{fits-over, fits-one}
+use Rattle.gears.proofs.Choices.{choice-first}
 use Rattle.trips.specs.Ready.{HasRoom, Ready}
 use Rattle.trips.specs.Trip.{AllMoving, RunFrom, on-way, trip-bytes}
+
+-- the first choice of a trip's first second with no hold: first gear where it turns at most at nmax, otherwise none
+module _ {car : Vehicle} {k : Numbers} {ratio : List ℕ} (H : Has car k ratio) (b : InBounds car) (v : ℕ) (d : ℤ) (hold : ℕ) (free : hold ≡ 0) where
+  pub first-none : 1000 * k .nmax < at ratio 0 * v → 0 ≡ first-of car First v d hold
+  unfolding first-of only-first
+  first-none h = rw (eq-eqb hold 0 free, ← choice-first car b v d, ← fits-over H First v 1 h)
+
+  pub first-one : at ratio 0 * v ≤ 1000 * k .nmax → 1 ≡ first-of car First v d hold
+  unfolding first-of only-first
+  first-one h = rw (eq-eqb hold 0 free, ← choice-first car b v d, ← fits-one H First v 1 refl h)
+
+-- and with one: the held gear
+pub first-held : (car : Vehicle) (v : ℕ) (d : ℤ) (hold : ℕ) → (hold ≡ 0 → ⊥) → hold ≡ first-of car First v d hold
+unfolding first-of
+first-held car v d hold n = rw (ne-eqb hold 0 n)
 
 module _ (car : Vehicle) (us hs : List ℕ) where
   -- a trip's seconds in a row, from its first on: what second j is, and its first choice
@@ -41,11 +61,17 @@ module _ (car : Vehicle) (us hs : List ℕ) where
       → f ≡ pass (on-way car us hs true run 0) (length hs) gs → f ≡ firsts car us hs
   way-firsts run R n gs m e = e ∙ pass-same (on-way car us hs true run 0) (first-choice car us hs) gs (length hs) (λ j rs l. on-way-is run R n j rs l) ∙ firsts-fresh car us hs gs m
 
-  -- one second of some in a row
-  pub way-step : (begins first : Bool) (run last before j : ℕ) (gs : List ℕ) {v : ℕ} → first ≡ (begins and eqb j 0) → before ≡ (if eqb j 0 then last else at gs (j - 1))
-      → v ≡ first-of car (place-of car first (leb run j) before) (at us j) (rise us j) (at hs j) → v ≡ on-way car us hs begins run last j gs
+  -- one second of some in a row: the trip's first
+  pub way-begins : (begins : Bool) (run last : ℕ) (gs : List ℕ) {v : ℕ} → begins ≡ true → v ≡ first-of car First (at us 0) (rise us 0) (at hs 0)
+      → v ≡ on-way car us hs begins run last 0 gs
+  unfolding on-way place-of _and_
+  way-begins begins run last gs t e = e ∙ rw t
+
+  -- and any other
+  pub way-step : (begins : Bool) (run last before j : ℕ) (gs : List ℕ) {v : ℕ} → (begins and eqb j 0) ≡ false → before ≡ (if eqb j 0 then last else at gs (j - 1))
+      → v ≡ first-of car (place-of car false (leb run j) before) (at us j) (rise us j) (at hs j) → v ≡ on-way car us hs begins run last j gs
   unfolding on-way
-  way-step begins first run last before j gs a b e = e ∙ rw (a, b)
+  way-step begins run last before j gs a b e = e ∙ rw (a, b)
 
   -- first choices, then the three passes: the trip's gears
   pub gears-is : {f a b g : List ℕ} → f ≡ firsts car us hs → a ≡ pass (peak car us hs) (length hs) f → b ≡ pass (rising car us hs) (length hs) a

@@ -5,6 +5,5 @@ mod rising;
 mod slowing;
 mod work;
 
-pub use slowing::closing_from;
 pub use work::first_choices;
 pub use work::work_trip;

@@ -1,13 +1,18 @@
 // The work on one trip: first choices, the three passes, the bytes.
 ghost use mathlib.Core.Path.{_≡_};
-ghost use lib.Dec.{leb};
+ghost use mathlib.Core.Bool.{false};
+ghost use Prim.Native.Nat.{ℕ, _-_, _≤_, _<_};
+ghost use lib.Dec.{leb, eqb};
+ghost use lib.IntN.{ℤ};
 ghost use lib.ListN.{length};
-ghost use Rattle.rules.specs.Words.{at, pass};
+ghost use Rattle.rules.specs.Words.{if_then_else_, _and_, at, pass};
 ghost use Rattle.rules.specs.Units.{rise};
 ghost use Rattle.rules.specs.Corrections.{place-of};
 ghost use Rattle.rules.specs.declared.Vehicle.{Vehicle};
 ghost use Rattle.gears.specs.Choosing.{first-of};
-ghost use Rattle.gears.specs.Parts.{Lent, Parts};
+ghost use Rattle.rules.specs.declared.Place.the-variants.{First};
+ghost use Rattle.rules.specs.Vocabulary.{InBounds};
+ghost use Rattle.gears.specs.Parts.{Has, Lent, Parts};
 ghost use Rattle.trips.specs.Ready.{Aligned, TripSecond, Paced, Ready};
 ghost use Rattle.trips.specs.Trip.{on-way, trip-bytes};
 use crate::byte::bytes;
@@ -17,8 +22,59 @@ use crate::slowing::closing_from;
 use crate::slowing::pass_c;
 use gears::Numbers;
 use gears::choice_after;
+use gears::engine;
+use gears::top;
 
-// The first choice of second j of some in a row, given whether the trip begins there, where among them the closing run begins, and the first choice before.
+// The first choice of a trip's first second: the held gear, or first gear, the only one that may fit; 0 where it does not.
+fn choice_first(k: Numbers, ratio: &[u16; 10], v: u16, hold: u8) -> u8
+    ensures { λ r. ⌜ ((car : Vehicle) → Has car k (now (ratio .entry)) → InBounds car → (d : ℤ) → r ≡ first-of car First v d hold) ⌝ }
+{
+    if hold != 0 {
+        return hold;
+    }
+    if top(k) < engine(ratio, 1, v) {
+        return 0;
+    }
+    1
+}
+
+// Where the trip begins with these seconds, the choice of its first one, so that the loop over the others need not ask. Says how many are done.
+fn begin<'a>(
+    k: Numbers,
+    ratio: &'a [u16; 10],
+    us: &[u16],
+    hs: &[u8],
+    begins: bool,
+    gs: &mut [u8],
+) -> usize
+    requires { ⌜ Aligned (now us) (now hs) (now gs) ⌝ }
+    ensures done { λ r. ⌜ r ≤ length (now (gs .entry)) ⌝ }
+    ensures later { λ r. ⌜ (r < length (now (gs .entry)) → (begins and eqb r 0) ≡ false) ⌝ }
+    ensures gears { λ r. ⌜ ((car : Vehicle) → Has car k (now (ratio .entry)) → InBounds car → (run last : ℕ) → now (gs .exit) ≡ pass (on-way car (now (us .entry)) (now (hs .entry)) begins run last) r (now (gs .entry))) ⌝ }
+{
+    if begins {
+        if 0 < gs.len() {
+            let v = us[0];
+            let hold = hs[0];
+            gs[0] = choice_first(k, ratio, v, hold);
+            return 1;
+        }
+    }
+    0
+}
+
+// The first choice before second j of some in a row.
+fn before_at(last: u8, gs: &[u8], j: usize) -> u8
+    requires { ⌜ j ≤ length (now gs) ⌝ }
+    ensures { λ r. ⌜ r ≡ (if eqb j 0 then last else at (now (gs .entry)) (j - 1)) ⌝ }
+{
+    if j == 0 {
+        return last;
+    }
+    gs[j - 1]
+}
+
+// The first choice of second j of some in a row, not the trip's first, given where among them the closing run begins and the first choice before.
 fn choice_at<'a>(
     k: Numbers,
     ratio: &'a [u16; 10],
@@ -26,18 +82,17 @@ fn choice_at<'a>(
     p: &'a [u32; 64],
     us: &[u16],
     hs: &[u8],
-    begins: bool,
     run: usize,
     before: u8,
     j: usize,
 ) -> u8
     requires { ⌜ Parts k (now ratio) (now n) (now p) × Paced (now us) (now hs) × TripSecond (now us) (now hs) j ⌝ }
-    ensures { λ r. ⌜ ((car : Vehicle) → Lent car k (now (ratio .entry)) (now (n .entry)) (now (p .entry)) → r ≡ first-of car (place-of car begins (leb run j) before) (at (now (us .entry)) j) (rise (now (us .entry)) j) (at (now (hs .entry)) j)) ⌝ }
+    ensures { λ r. ⌜ ((car : Vehicle) → Lent car k (now (ratio .entry)) (now (n .entry)) (now (p .entry)) → r ≡ first-of car (place-of car false (leb run j) before) (at (now (us .entry)) j) (rise (now (us .entry)) j) (at (now (hs .entry)) j)) ⌝ }
 {
     let v = us[j];
     let next = us[j + 1];
     let hold = hs[j];
-    choice_after(k, ratio, n, p, begins, run <= j, before, v, next, hold)
+    choice_after(k, ratio, n, p, false, run <= j, before, v, next, hold)
 }
 
 // First choices of some seconds in a row, from left to right, whatever the slice held before. `begins` says whether the trip begins with them, `run` where
@@ -58,13 +113,11 @@ pub fn first_choices<'a>(
     requires { ⌜ Parts k (now ratio) (now n) (now p) × Paced (now us) (now hs) × Aligned (now us) (now hs) (now gs) ⌝ }
     ensures { λ r. ⌜ ((car : Vehicle) → Lent car k (now (ratio .entry)) (now (n .entry)) (now (p .entry)) → now (gs .exit) ≡ pass (on-way car (now (us .entry)) (now (hs .entry)) begins run last) (length (now (hs .entry))) (now (gs .entry))) ⌝ }
 {
-    let mut first = begins;
-    let mut before = last;
-    let mut j = 0;
+    let mut j = begin(k, ratio, us, hs, begins, gs);
+    let mut before = before_at(last, gs, j);
     while j < gs.len() {
-        let g = choice_at(k, ratio, n, p, us, hs, first, run, before, j);
+        let g = choice_at(k, ratio, n, p, us, hs, run, before, j);
         gs[j] = g;
-        first = false;
         before = g;
         j += 1;
     }

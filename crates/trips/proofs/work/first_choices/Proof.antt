@@ -1,44 +1,49 @@
 -- `trips::work::first_choices` meets its contract. The loop's invariant: the slice holds the first choices up to second j.
 -- Assumes nothing.
-use Prim.Native.Nat.{ℕ, _+_, _≤_, _-_}
+use Prim.Native.Nat.{ℕ, _+_, _-_, _≤_, _<_}
 use mathlib.Core.Path.{_≡_, refl, sym, ap, _∙_}
 use native.Mathlib.Omega.{arith}
+use mathlib.Core.List.{List}
+use borrow.Author.Needs.{needs}
 use lib.ListN.{length, length-set}
 use lib.Seq.{getD-set-same}
-use mathlib.Core.Bool.{Bool, true, false}
+use mathlib.Core.Bool.{false}
 use lib.Dec.{eqb}
 use borrow.Author.Tests.{ne-eqb}
 use Rattle.rules.specs.Words.{if_then_else_, _and_, at, pass}
 use Rattle.rules.proofs.Laws.Words.{and-no}
 use Rattle.trips.specs.Trip.{on-way}
 use Rattle.trips.proofs.Trip.{way-step}
-use Rattle.trips.proofs.Passes.{pass-start, pass-more}
+use Rattle.trips.proofs.Passes.{pass-more}
 use Rattle.rules.specs.declared.Vehicle.{Vehicle}
 use Rattle.gears.specs.Parts.{Lent}
 use Rattle.trips.proofs.work.first_choices.Statement.{statement}
 use Rattle.trips.proofs.work.first_choices.Tie as tie
 
-and-true : (b : Bool) → b ≡ b and true
-unfolding _and_
-and-true true = refl
-and-true false = refl
-
 abbrev Inv-loop : tie.InvT-loop
-Inv-loop k ratio n p us hs begins run last gs₀ first₀ before₀ j₀ gs first before j =
-    (j ≤ length gs) × (length gs ≡ length gs₀) × (first ≡ (begins and eqb j 0)) × (before ≡ (if eqb j 0 then last else at gs (j - 1)))
-    × ((car : Vehicle) → Lent car k ratio n p → gs ≡ pass (on-way car us hs begins run last) j gs₀)
+Inv-loop k ratio n p us hs begins run last gs₀ j₀ before₀ gs j before =
+    (j ≤ length gs) × (length gs ≡ length gs₀) × (j < length gs → (begins and eqb j 0) ≡ false) × (before ≡ (if eqb j 0 then last else at gs (j - 1)))
+    × ((car : Vehicle) → Lent car k ratio n p → (base : List ℕ) → gs₀ ≡ pass (on-way car us hs begins run last) j₀ base → gs ≡ pass (on-way car us hs begins run last) j base)
 
 abbrev μ-loop : tie.MeasureT-loop
-μ-loop k ratio n p us hs begins run last gs₀ first₀ before₀ j₀ gs first before j = length gs - j
+μ-loop k ratio n p us hs begins run last gs₀ j₀ before₀ gs j before = length gs - j
+
+begin-requires : tie.Need-begin-requires Inv-loop μ-loop
+begin-requires c κs = c .before .before .before .before .pre .2
+
+before-at-requires : tie.Need-before-at-requires Inv-loop μ-loop
+before-at-requires c κs = search needs
 
 loop-holds : tie.Need-loop-holds Inv-loop μ-loop
-loop-holds c = (omega arith, refl, and-true _, refl, λ car L. pass-start _ _)
+loop-holds c =
+    let d = c .before .before .before .before .begin .ensures in
+    (search needs, refl, λ l. d .1 .0 (search needs), c .before-at .ensures, λ car L base e. e)
 
 choice-at-requires : tie.Need-choice-at-requires Inv-loop μ-loop
 choice-at-requires c κs =
-    let s = c .before .before .before .before .before in
+    let s = c .before .before .before .before .before .before .before .before .before .before .before in
     let l = c .before .loop in
-    (s .pre .0, s .pre .1, record { speeds = s .pre .2 .speeds; inside = omega (arith, l .inv, s .pre .2) })
+    (s .pre .0, s .pre .1, record { speeds = s .pre .2 .speeds; inside = search needs })
 
 slice-write-gs : tie.Need-slice-write-gs Inv-loop μ-loop
 slice-write-gs c = omega arith
@@ -51,29 +56,30 @@ loop-less c = simp length-set (omega arith)
 
 loop-again : tie.Need-loop-again Inv-loop μ-loop
 loop-again c =
-    let s = c .before .before .before .before .before .before in
+    let s = c .before .before .before .before .before .before .before .before .before .before .before .before in
     let a = s .args in
     let l = c .before .before .loop in
     let x : l .j + 1 - 1 ≡ l .j = omega arith in
     let y : eqb (l .j + 1) 0 ≡ false = ne-eqb (l .j + 1) 0 (λ z. omega arith) in (
       simp length-set (omega arith),
       simp length-set (l .inv .1),
-      rw y (sym (and-no _ _ refl)),
+      λ t. and-no _ _ y,
       rw (y, x) (sym (getD-set-same (l .gs) (l .j) (c .choice-at .result) 0 (omega arith))),
-      λ car L. pass-more (on-way car (a .us .now) (a .hs .now) (a .begins) (a .run) (a .last)) (a .gs .now) (l .gs) (l .j) (c .choice-at .result) (l .inv .4 car L)
-          (way-step car (a .us .now) (a .hs .now) (a .begins) (l .first) (a .run) (a .last) (l .before) (l .j) (l .gs) (l .inv .2) (l .inv .3) (c .choice-at .ensures car L)),
+      λ car L base e. pass-more (on-way car (a .us .now) (a .hs .now) (a .begins) (a .run) (a .last)) base (l .gs) (l .j) (c .choice-at .result) (l .inv .4 car L base e)
+          (way-step car (a .us .now) (a .hs .now) (a .begins) (a .run) (a .last) (l .before) (l .j) (l .gs) (l .inv .2 (omega arith)) (l .inv .3) (c .choice-at .ensures car L)),
     )
 
 same-length : tie.Need-same-length Inv-loop μ-loop
-same-length c = c .before .loop .inv .1
+same-length c = search needs
 
 returns : tie.Need-returns Inv-loop μ-loop
 returns c =
-    let s = c .before .before .before .before .before in
+    let s = c .before .before .before .before .before .before .before .before .before .before .before in
     let a = s .args in
     let l = c .before .loop in
-    let e : l .j ≡ length (a .hs .now) = omega (arith, l .inv, s .pre .2) in
-    λ car L. l .inv .4 car L ∙ ap (λ (i : ℕ). pass (on-way car (a .us .now) (a .hs .now) (a .begins) (a .run) (a .last)) i (a .gs .now)) e
+    let e : l .j ≡ length (a .hs .now) = search needs in
+    let d = c .before .before .before .before .before .before .begin .ensures in
+    λ car L. l .inv .4 car L (a .gs .now) (d .1 .1 car (L .has) (L .bounds) (a .run) (a .last)) ∙ ap (λ (i : ℕ). pass (on-way car (a .us .now) (a .hs .now) (a .begins) (a .run) (a .last)) i (a .gs .now)) e
 
 pub first-choices-spec : {M : Type 1} → statement M
 first-choices-spec =
@@ -81,6 +87,8 @@ first-choices-spec =
     (tie.spec
     Inv-loop
     μ-loop
+    begin-requires
+    before-at-requires
     loop-holds
     choice-at-requires
     slice-write-gs
