@@ -78,13 +78,14 @@ static void put(uint8_t *s, size_t *at, uint32_t x) {
 static size_t encode(uint8_t *s, uint16_t version, const car_t *c, const uint16_t *v, size_t n, const uint8_t *h) {
   size_t at = 0, held = 0, i;
   put(s, &at, version);
+  if (version >= 3) put(s, &at, c->profile);
   put(s, &at, c->ng);
   for (i = 0; i < c->ng; i++) put(s, &at, c->ratio[i]);
   put(s, &at, c->idle), put(s, &at, c->rated), put(s, &at, c->nmax), put(s, &at, c->f0), put(s, &at, (uint32_t)(c->f1 + 5000));
   put(s, &at, c->f2), put(s, &at, c->tm), put(s, &at, c->margin), put(s, &at, c->points);
   for (i = 0; i < c->points; i++) {
     put(s, &at, c->n[i]), put(s, &at, c->p[i]);
-    if (version == 2) put(s, &at, c->m[i]);
+    if (version >= 2) put(s, &at, c->m[i]);
   }
   put(s, &at, (uint32_t)n);
   for (i = 0; i < n; i++) put(s, &at, v[i]), held += h[i] != 0;
@@ -194,9 +195,9 @@ static uint32_t same_verdict(const char *what, verdict_t a, verdict_t b) {
   numbers[a.number]++;
   return a.number;
 }
-static int same_car(const car_t *a, const car_t *b) { /* without the gap before f1 */
-  size_t gap = offsetof(car_t, nmax) + 4, f1 = offsetof(car_t, f1);
-  return !memcmp(a, b, gap) && !memcmp((const char *)a + f1, (const char *)b + f1, sizeof *a - f1);
+static int same_car(const car_t *a, const car_t *b) { /* without the gaps before f1 and behind the profile */
+  size_t gap = offsetof(car_t, nmax) + 4, f1 = offsetof(car_t, f1), end = offsetof(car_t, profile) + sizeof a->profile;
+  return !memcmp(a, b, gap) && !memcmp((const char *)a + f1, (const char *)b + f1, end - f1);
 }
 static uint32_t same_work(const car_t *car, const uint16_t *v, size_t n, const uint8_t *h, size_t nh, size_t nc) {
   uint8_t x[ROOM + 64], y[ROOM + 64];
@@ -276,6 +277,7 @@ static car_t random_car(void) {
     from += step;
   }
   c.points = (uint16_t)(k + 1);
+  c.profile = c.ng > 2 && rnd(3) == 0;
   return c;
 }
 
@@ -301,7 +303,7 @@ static void random_checks(long rounds) {
     if (rnd(12) == 0) held = (unsigned)n;
     for (unsigned i = 0; i < held; i++) {
       size_t j = rnd((uint32_t)n);
-      uint32_t g = 1 + rnd(car.ng);
+      uint32_t g = 1 + car.profile + rnd(car.ng - car.profile);
       if (v[j] >= 10 && (uint32_t)car.ratio[g - 1] * v[j] <= 1000u * car.nmax) h[j] = (uint8_t)g;
       else if (rnd(60) == 0) h[j] = (uint8_t)rnd(256);
     }
@@ -313,9 +315,10 @@ static void random_checks(long rounds) {
     case 3: if (n > 1) { size_t j = 1 + rnd((uint32_t)n - 1); v[j] = (uint16_t)(v[j - 1] + 149 + rnd(3)); } break;
     case 4: if (rnd(4) == 0) nh = n - 1; else if (rnd(4) == 0) nc = n + 1; break;
     case 5: if (rnd(4) == 0) n = nh = nc = 0; break;
+    case 6: car.profile = (uint16_t)(rnd(2) ? rnd(4) : rnd(65536)); break;
     }
     uint32_t no = same_work(&car, v, n, h, nh, nc);
-    uint16_t version = (uint16_t)(rnd(16) ? 1 + rnd(2) : rnd(4));
+    uint16_t version = (uint16_t)(rnd(16) == 0 ? rnd(5) : car.profile ? 3 : 1 + rnd(3));
     if (same_write(version, &car, v, n, h, nh, BYTES) == 0) { /* and with the last byte that it needs, and without */
       size_t need = gearcard_write(version, car, v, n, h, n, s, BYTES).length;
       same_write(version, &car, v, n, h, n, need);

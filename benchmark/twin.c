@@ -2,10 +2,10 @@
 
    What it does for speed:
    - the vehicle by const pointer, and once a call per gear the lowest and highest V at which the gear fits (both rise with the gear, so a second
-     needs no product to know which do; only gear 2 after gear 1 may be passed over), and the available power of each curve point;
+     needs no product to know which do; only the gear above the lowest may be passed over, after the lowest), and the available power of each curve point;
    - the checks 4 to 10 as one pass without branches; only where it finds something is the exact refusal looked for, or the holds gone through; 10
      then by a dry run of first choices;
-   - whether a second is in the closing run is asked only where the minimum of gear 2 decides, and no second is looked at twice for it;
+   - whether a second is in the closing run is asked only where the minimum of the gear above the lowest decides, and no second is looked at twice for it;
    - first choice, passes A and B and the bytes in one loop over a trip, the gears of the seconds before in registers; pass C on the tail after it;
    - braking (E at most 0) asks for no power, so nothing is looked up; most power is kept along on the way down, so there is no second loop;
    - a job is parsed once, into buffers, copied when all of it has passed;
@@ -31,7 +31,7 @@ INLINE verdict_t say(uint32_t number, size_t place) {
 /* Refusal 3: the first field out of bounds, 0 where none is. */
 static uint32_t car_fault(const car_t *c) {
   unsigned ng = c->ng, i;
-  if (ng - 2u > 8u) return 1;
+  if (c->profile > 1 || ng - 2u - c->profile > 8u - c->profile) return 1;
   unsigned bad = c->ratio[0] > 50000;
   for (i = 1; i < ng; i++) bad |= c->ratio[i] >= c->ratio[i - 1];
   if (bad | (c->ratio[ng - 1] == 0)) return 2;
@@ -56,16 +56,17 @@ static uint32_t car_fault(const car_t *c) {
 /* What a call works out once of a vehicle. */
 typedef struct {
   const car_t *c;
-  uint32_t ng, cap, idle1000;
+  uint32_t low, ng, cap, idle1000; /* low: the lowest gear that is driven */
   int64_t a, b, e2, dm;
   int32_t power[64]; /* p x (100 - M - m) of each point */
-  uint32_t lo[12], hi[12]; /* the V at which a gear fits; gear 1 from 0 on, gear 2 where neither of the next two */
+  uint32_t lo[12], hi[12]; /* the V at which a gear fits; the lowest from 0 on, the one above it where neither of the next two */
   uint32_t lo_closing, lo_after;
 } prep_t;
 
 INLINE void prepare(prep_t *k, const car_t *c) {
-  uint32_t ng = c->ng, idle = c->idle, top = 1000u * c->nmax;
+  uint32_t low = 1u + c->profile, ng = c->ng, idle = c->idle, top = 1000u * c->nmax;
   k->c = c;
+  k->low = low;
   k->ng = ng;
   k->idle1000 = 1000u * idle;
   k->a = 9000000ll * c->f0;
@@ -75,27 +76,28 @@ INLINE void prepare(prep_t *k, const car_t *c) {
   int32_t rest = 100 - c->margin;
   for (uint32_t i = 0; i < c->points; i++) k->power[i] = c->p[i] * (rest - c->m[i]);
   uint32_t m2 = 1000u * ((9 * idle + 5) / 10), m2a = 1000u * ((115 * idle + 50) / 100), m3 = 1000u * (idle + (c->rated - idle + 4) / 8);
-  k->lo[1] = 0;
-  k->hi[1] = top / c->ratio[0];
-  k->lo[2] = (m2 + c->ratio[1] - 1) / c->ratio[1];
-  k->lo_closing = (1000u * idle + c->ratio[1] - 1) / c->ratio[1];
-  k->lo_after = (m2a + c->ratio[1] - 1) / c->ratio[1];
-  k->hi[2] = top / c->ratio[1];
-  for (uint32_t g = 3; g <= ng; g++) {
+  uint32_t r2 = c->ratio[low]; /* of the gear above the lowest */
+  k->lo[low] = 0;
+  k->hi[low] = top / c->ratio[low - 1];
+  k->lo[low + 1] = (m2 + r2 - 1) / r2;
+  k->lo_closing = (1000u * idle + r2 - 1) / r2;
+  k->lo_after = (m2a + r2 - 1) / r2;
+  k->hi[low + 1] = top / r2;
+  for (uint32_t g = low + 2; g <= ng; g++) {
     uint32_t r = c->ratio[g - 1];
     k->lo[g] = (m3 + r - 1) / r;
     k->hi[g] = top / r;
   }
   /* Up to cap every V is at most 2,000 and has a gear that fits, the first second of a trip too: its V is at most 159. */
-  /* lo and hi are filled from 1 to ng, and ng is at least 2 */
+  /* lo and hi are filled from low to ng, and ng is above low */
   uint32_t cap = k->hi[ng] < 2000 ? k->hi[ng] : 2000;
-  for (uint32_t g = 1; g < ng; g++)
-    if (k->hi[g] + 1 < (g == 1 ? k->lo_after : k->lo[g + 1]) && k->hi[g] < cap) cap = k->hi[g];
-  if (k->hi[1] < 159 && k->hi[1] < cap) cap = k->hi[1];
+  for (uint32_t g = low; g < ng; g++)
+    if (k->hi[g] + 1 < (g == low ? k->lo_after : k->lo[g + 1]) && k->hi[g] < cap) cap = k->hi[g];
+  if (k->hi[low] < 159 && k->hi[low] < cap) cap = k->hi[low];
   k->cap = cap;
 }
 
-/* The lowest V of gear 2 at second j, by the first choice before. From *open on nothing is known of the closing run. */
+/* The lowest V of the gear above the lowest at second j, by the first choice before. From *open on nothing is known of the closing run. */
 INLINE uint32_t lowest_2(const prep_t *k, const uint16_t *v, size_t j, uint32_t last, size_t *open) {
   if (j >= *open) {
     size_t e = j;
@@ -103,23 +105,26 @@ INLINE uint32_t lowest_2(const prep_t *k, const uint16_t *v, size_t j, uint32_t 
     if (v[e] < 10) return k->lo_closing;
     *open = e + 1;
   }
-  return last == 1 ? k->lo_after : k->lo[2];
+  return last == k->low ? k->lo_after : k->lo[k->low + 1];
 }
 
-/* The highest gear whose minimum V reaches at second j, not its trip's first, given that of the gears above 2. */
+/* The highest gear whose minimum V reaches at second j, not its trip's first, given that of the gears above the lowest two. */
 INLINE uint32_t highest_reached(const prep_t *k, const uint16_t *v, size_t j, uint32_t last, size_t *open, uint32_t t) {
-  uint32_t x = v[j];
-  if (t > 2 || x >= k->lo_after) return t;
-  if (x < k->lo[2]) return 1;
-  return x >= lowest_2(k, v, j, last, open) ? 2 : 1;
+  uint32_t x = v[j], low = k->low;
+  if (t > low + 1 || x >= k->lo_after) return t;
+  if (x < k->lo[low + 1]) return low;
+  return x >= lowest_2(k, v, j, last, open) ? low + 1 : low;
 }
 
-/* Whether gear 2 fits at second j, not its trip's first, where a gear above it is looked at too. */
+/* Whether the gear above the lowest fits at second j, not its trip's first, where a gear above it is looked at too. */
 INLINE int second_fits(const prep_t *k, const uint16_t *v, size_t j, uint32_t last, size_t *open) {
   uint32_t x = v[j];
-  if (x > k->hi[2] || x < k->lo[2]) return 0;
+  if (x > k->hi[k->low + 1] || x < k->lo[k->low + 1]) return 0;
   return x >= k->lo_after || x >= lowest_2(k, v, j, last, open);
 }
+
+/* Whether a held gear is none that is driven. */
+INLINE int not_driven(uint32_t low, uint32_t ng, uint32_t g) { return g - low > ng - low; }
 
 INLINE int past_nmax(const prep_t *k, uint32_t g, uint32_t x) {
 #ifdef PLAIN_CHECK
@@ -141,7 +146,7 @@ static __attribute__((noinline)) verdict_t exact(const prep_t *k, const uint16_t
     else if (step > 150 || step < -150) no = 5;
     else if (x >= 10 && (i == 0 || i == n - 1)) no = 6;
     else if (held) {
-      if (held > k->ng) no = 7;
+      if (not_driven(k->low, k->ng, held)) no = 7;
       else if (x < 10) no = 8;
       else if (past_nmax(k, held, x)) no = 9;
     }
@@ -167,7 +172,7 @@ INLINE unsigned any(const uint8_t *h, size_t lo, size_t hi) {
 }
 
 /* Whether a hold is wrong at its second. */
-INLINE unsigned hold_odd(const prep_t *k, uint32_t g, uint32_t x) { return g > k->ng || x < 10 || x > k->hi[g]; }
+INLINE unsigned hold_odd(const prep_t *k, uint32_t g, uint32_t x) { return not_driven(k->low, k->ng, g) || x < 10 || x > k->hi[g]; }
 
 typedef struct {
   int64_t q, w;
@@ -191,8 +196,8 @@ INLINE power_t power(const prep_t *k, uint32_t x) {
   return r;
 }
 
-/* The first choice at second j, which has no hold and is not its trip's first, `last` the first choice before and t the highest gear above 2 whose minimum
-   is reached, or 2; 0 where no gear fits. */
+/* The first choice at second j, which has no hold and is not its trip's first, `last` the first choice before and `above` the highest gear above the lowest
+   two whose minimum is reached, or the second lowest; 0 where no gear fits. */
 INLINE uint32_t choose(const prep_t *k, const uint16_t *v, size_t j, uint32_t last, size_t *open, uint32_t above) {
   uint32_t x = v[j], t = highest_reached(k, v, j, last, open, above);
   int32_t d = (int32_t)v[j + 1] - (int32_t)x;
@@ -204,8 +209,8 @@ INLINE uint32_t choose(const prep_t *k, const uint16_t *v, size_t j, uint32_t la
   power_t m = power(k, ratio[t - 1] * x);
   if (3240000 * m.q >= e * m.w) return t;
   uint32_t best = t;
-  for (uint32_t g = t - 1; g >= 1 && x <= k->hi[g]; g--) {
-    if (UNLIKELY(g == 2 && x < k->lo_after && !second_fits(k, v, j, last, open))) continue;
+  for (uint32_t g = t - 1; g >= k->low && x <= k->hi[g]; g--) {
+    if (UNLIKELY(g == k->low + 1 && x < k->lo_after && !second_fits(k, v, j, last, open))) continue;
     power_t r = power(k, ratio[g - 1] * x);
     if (3240000 * r.q >= e * r.w) return g;
     if (r.q * m.w > m.q * r.w) m = r, best = g;
@@ -218,9 +223,9 @@ INLINE int plain_fits(const prep_t *k, const uint16_t *v, size_t j, int first, u
   const car_t *c = k->c;
   uint32_t idle = c->idle, x = c->ratio[g - 1] * v[j];
   if (x > 1000u * c->nmax) return 0;
-  if (g == 1) return 1;
+  if (g == k->low) return 1;
   if (first) return 0;
-  if (g == 2) return v[j] >= lowest_2(k, v, j, last, open);
+  if (g == k->low + 1) return v[j] >= lowest_2(k, v, j, last, open);
   return x >= 1000u * (idle + (c->rated - idle + 4) / 8);
 }
 INLINE power_t plain_power(const prep_t *k, uint32_t x) {
@@ -240,14 +245,14 @@ INLINE uint32_t plain_choose(const prep_t *k, const uint16_t *v, size_t j, int f
   const car_t *c = k->c;
   int32_t d = (int32_t)v[j + 1] - (int32_t)v[j];
   int64_t y = v[j], e = y * (k->a + y * (k->b + y * k->e2) + k->dm * d);
-  for (uint32_t g = k->ng; g >= 1; g--)
+  for (uint32_t g = k->ng; g >= k->low; g--)
     if (plain_fits(k, v, j, first, last, open, g)) {
       power_t r = plain_power(k, c->ratio[g - 1] * v[j]);
       if (3240000 * r.q >= e * r.w) return g;
     }
   uint32_t best = 0;
   power_t m = {0, 1};
-  for (uint32_t g = 1; g <= k->ng; g++)
+  for (uint32_t g = k->low; g <= k->ng; g++)
     if (plain_fits(k, v, j, first, last, open, g)) {
       power_t r = plain_power(k, c->ratio[g - 1] * v[j]);
       if (!best || m.q * r.w <= r.q * m.w) best = g, m = r;
@@ -259,19 +264,19 @@ INLINE uint32_t plain_choose(const prep_t *k, const uint16_t *v, size_t j, int f
 /* 10 on [lo, hi), which begins and ends at rest: a dry run of first choices through each trip. */
 static __attribute__((noinline)) verdict_t want(const prep_t *k, const uint16_t *v, const uint8_t *h, size_t second, uint8_t gear, size_t lo, size_t hi) {
   size_t open = 0;
-  uint32_t last = 0, t = 2, ng = k->ng;
+  uint32_t last = 0, low = k->low, t = low + 1, ng = k->ng;
   for (size_t i = lo + 1; i < hi; i++) {
     uint32_t x = v[i], held = i == second ? gear : h[i];
     if (x < 10) last = 0;
     else if (held) last = held;
     else {
 #ifdef PLAIN_CHOOSE
-      (void)t, (void)ng;
+      (void)t, (void)ng, (void)low;
       last = plain_choose(k, v, i, last == 0, last, &open);
 #else
       while (t < ng && x >= k->lo[t + 1]) t++;
-      while (t > 2 && x < k->lo[t]) t--;
-      if (last == 0) last = x <= k->hi[1];
+      while (t > low + 1 && x < k->lo[t]) t--;
+      if (last == 0) last = x <= k->hi[low] ? low : 0;
       else last = choose(k, v, i, last, &open, t);
 #endif
       if (!last) return say(10, i);
@@ -302,7 +307,7 @@ INLINE uint8_t byte_of(const prep_t *k, uint32_t g, uint32_t v, int32_t d) {
 
 #ifdef PLAIN_PASSES
 static __attribute__((noinline)) void passes(const prep_t *k, const uint16_t *v, const uint8_t *h, uint8_t *g, size_t n) {
-  uint32_t ng = k->ng, t = 2;
+  uint32_t ng = k->ng, low = k->low, t = low + 1;
   size_t open = 0;
   const uint16_t *ratio = k->c->ratio;
   uint32_t top = 1000u * k->c->nmax;
@@ -313,10 +318,10 @@ static __attribute__((noinline)) void passes(const prep_t *k, const uint16_t *v,
     g[j] = h[j] ? h[j] : (uint8_t)plain_choose(k, v, j, j == 0, j ? g[j - 1] : 0, &open);
 #else
     if (h[j]) g[j] = h[j];
-    else if (j == 0) g[j] = 1;
+    else if (j == 0) g[j] = (uint8_t)low;
     else {
       while (t < ng && x >= k->lo[t + 1]) t++;
-      while (t > 2 && x < k->lo[t]) t--;
+      while (t > low + 1 && x < k->lo[t]) t--;
       g[j] = (uint8_t)choose(k, v, j, g[j - 1], &open, t);
     }
 #endif
@@ -339,7 +344,7 @@ static __attribute__((noinline)) void passes(const prep_t *k, const uint16_t *v,
   size_t j = n;
   while (j > 1 && v[j - 1] > v[j]) j--;
   for (; j < n; j++)
-    if (!h[j] && g[j] == 1) g[j] = 2;
+    if (!h[j] && g[j] == low) g[j] = (uint8_t)(low + 1);
   for (j = 0; j < n; j++) g[j] = byte_of(k, g[j], v[j], (int32_t)v[j + 1] - (int32_t)v[j]);
 }
 INLINE size_t trip(const prep_t *k, const uint16_t *v, const uint8_t *h, uint8_t *card, size_t a) {
@@ -353,8 +358,8 @@ INLINE size_t trip(const prep_t *k, const uint16_t *v, const uint8_t *h, uint8_t
 /* A trip from a on, its card and that of the second before; answers the standing second after it. */
 INLINE size_t trip(const prep_t *k, const uint16_t *v, const uint8_t *h, uint8_t *card, size_t a) {
   size_t j = a, run = a, open = a;
-  uint32_t t = 2, ng = k->ng, x = v[a], next = v[a + 1];
-  uint32_t g = h[a] ? h[a] : 1; /* the first choice here */
+  uint32_t low = k->low, t = low + 1, ng = k->ng, x = v[a], next = v[a + 1];
+  uint32_t g = h[a] ? h[a] : low; /* the first choice here */
   uint32_t pa = 0, b1 = 0, b2 = 0, before = 0;
   card[a - 1] = (uint8_t)(16 + g);
   for (;;) {
@@ -370,7 +375,7 @@ INLINE size_t trip(const prep_t *k, const uint16_t *v, const uint8_t *h, uint8_t
 #else
       if (!q) {
         while (t < ng && next >= k->lo[t + 1]) t++;
-        while (t > 2 && next < k->lo[t]) t--;
+        while (t > low + 1 && next < k->lo[t]) t--;
         q = choose(k, v, j + 1, g, &open, t);
       }
 #endif
@@ -403,7 +408,7 @@ INLINE size_t trip(const prep_t *k, const uint16_t *v, const uint8_t *h, uint8_t
   }
   if (run == a) run = a + 1;
   for (; run < j; run++) /* C */
-    if ((card[run] & 15) == 1 && !h[run]) card[run] = byte_of(k, 2, v[run], -1);
+    if ((card[run] & 15) == low && !h[run]) card[run] = byte_of(k, low + 1, v[run], -1);
   return j;
 }
 #endif
@@ -438,8 +443,7 @@ INLINE verdict_t edit(const car_t *vehicle, const uint16_t *v, size_t n, uint8_t
   if (UNLIKELY(r.number)) return r;
   if (second >= n) return say(11, second);
   if (v[second] < 10) {
-    if (gear > vehicle->ng) return say(7, second);
-    if (gear) return say(8, second);
+    if (gear) return say(not_driven(1u + vehicle->profile, vehicle->ng, gear) ? 7 : 8, second);
     h[second] = 0;
     return say(0, 0);
   }
@@ -537,10 +541,14 @@ INLINE verdict_t parse(struct gearcard_job *r, const uint8_t *s, size_t end, uin
   if (UNLIKELY(y - 1u > 254u)) return say(15, from);                 \
   next = x + 1
   GROUP(x);
-  if (x - 1u > 1u) return say(14, 0);
+  if (x - 1u > 2u) return say(14, 0);
   r->version = (uint16_t)x;
+  if (r->version == 3) {
+    FIELD(c->profile);
+    if (x > 1) return say(3, 1);
+  }
   FIELD(c->ng);
-  if (x - 2u > 8u) return say(3, 1);
+  if (x - 2u - c->profile > 8u - c->profile) return say(3, 1);
   for (uint32_t i = 0; i < c->ng; i++) {
     FIELD(c->ratio[i]);
   }
@@ -558,7 +566,7 @@ INLINE verdict_t parse(struct gearcard_job *r, const uint8_t *s, size_t end, uin
   for (uint32_t i = 0; i < c->points; i++) {
     FIELD(c->n[i]);
     FIELD(c->p[i]);
-    if (r->version == 2) {
+    if (r->version >= 2) {
       FIELD(c->m[i]);
     }
   }
@@ -661,7 +669,7 @@ static __attribute__((noinline)) verdict_t exact_written(const car_t *c, const u
     else if (step > 150 || step < -150) no = 5;
     else if (x >= 10 && (i == 0 || i == n - 1)) no = 6;
     else if (held) {
-      if (held > c->ng) no = 7;
+      if (not_driven(1u + c->profile, c->ng, held)) no = 7;
       else if (x < 10) no = 8;
       else if (c->ratio[held - 1] * x > 1000u * c->nmax) no = 9;
     }
@@ -682,13 +690,14 @@ INLINE uint8_t *put(uint8_t *s, uint32_t x) {
 INLINE uint32_t values_of(uint16_t version, const car_t *c, uint16_t *to) {
   uint32_t k = 0, i;
   to[k++] = version;
+  if (version == 3) to[k++] = c->profile;
   to[k++] = c->ng;
   for (i = 0; i < c->ng; i++) to[k++] = c->ratio[i];
   to[k++] = c->idle, to[k++] = c->rated, to[k++] = c->nmax, to[k++] = c->f0, to[k++] = (uint16_t)(c->f1 + 5000);
   to[k++] = c->f2, to[k++] = c->tm, to[k++] = c->margin, to[k++] = c->points;
   for (i = 0; i < c->points; i++) {
     to[k++] = c->n[i], to[k++] = c->p[i];
-    if (version == 2) to[k++] = c->m[i];
+    if (version >= 2) to[k++] = c->m[i];
   }
   return k;
 }
@@ -696,8 +705,9 @@ INLINE uint32_t values_of(uint16_t version, const car_t *c, uint16_t *to) {
 struct gearcard_written twin_write(uint16_t version, car_t vehicle, const uint16_t *v, size_t n, const uint8_t *h, size_t nh, uint8_t *room, size_t nr) {
   const car_t *c = &vehicle;
   struct gearcard_written r = {say(14, 0), 0};
-  if (UNLIKELY(version - 1u > 1u)) return r;
+  if (UNLIKELY(version - 1u > 2u)) return r;
   r.verdict = opening(c, n, nh, n);
+  if (UNLIKELY(version < 3 && c->profile && (!r.verdict.number || r.verdict.number == 3))) r.verdict = say(3, 1); /* nor 1 and 2 for a profile */
   if (version == 1 && (!r.verdict.number || (r.verdict.number == 3 && r.verdict.place == 13))) { /* version 1 has no place for a margin */
     unsigned marked = 0;
     for (uint32_t k = 0; k < c->points; k++) marked |= c->m[k];
@@ -706,7 +716,7 @@ struct gearcard_written twin_write(uint16_t version, car_t vehicle, const uint16
   if (UNLIKELY(r.verdict.number)) return r;
   unsigned held = any(h, 0, n), odd = speeds_odd(v, 0, n, 2000) | (v[0] >= 10) | (v[n - 1] >= 10);
   if (held)
-    for (size_t j = 0; j < n; j++) odd |= h[j] && (h[j] > c->ng || v[j] < 10 || c->ratio[h[j] - 1] * v[j] > 1000 * c->nmax);
+    for (size_t j = 0; j < n; j++) odd |= h[j] && (not_driven(1u + c->profile, c->ng, h[j]) || v[j] < 10 || c->ratio[h[j] - 1] * v[j] > 1000 * c->nmax);
   if (UNLIKELY(odd)) {
     r.verdict = exact_written(c, v, n, h);
     if (UNLIKELY(r.verdict.number)) return r;

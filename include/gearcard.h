@@ -19,10 +19,11 @@
 /* The seconds of the built-in Class 3 cycle, 0 to 1800. */
 #define GEARCARD_CYCLE 1801
 
-/* Document 01's vehicle record, with its numbers of fields, which refusal 3 gives; field 13 is that the first n is at most idle and the last at least
-   nmax. Places of ratio past ng, and of n, p and m past points, are no part of it: they may hold any number. */
+/* Document 01's vehicle record and the profile, with the numbers of the fields, which refusal 3 gives; field 13 is that the first n is at most idle and the last at least
+   nmax. Places of ratio past ng, and of n, p and m past points, are no part of it: they may hold any number. In profile 1 gears 2, 3 and 4 take the parts of
+   first, second and third gear in every rule; the crawler keeps its number and its ratio, and is in no card. */
 struct gearcard_vehicle {
-  uint16_t ng;        /* 1: gear count, 2 to 10 */
+  uint16_t ng;        /* 1: gear count, 2 to 10; 3 to 10 in profile 1 */
   uint16_t ratio[10]; /* 2: engine speed over road speed, hundredths of min^-1 per km/h, 1 to 50,000, falling */
   uint16_t idle;      /* 3: min^-1, 300 to 3,000 */
   uint16_t rated;     /* 4: min^-1, above idle, at most 12,000 */
@@ -36,6 +37,7 @@ struct gearcard_vehicle {
   uint16_t n[64];     /* 12: engine speed, min^-1, 1 to 16,000, rising by 1 to 1,000 */
   uint16_t p[64];     /* 12: full-load power, tenths of kW, 0 to 5,000 */
   uint16_t m[64];     /* 12: the point's own safety margin, per cent, 0 to 50, and at most 90 with margin */
+  uint16_t profile;   /* 1: 1 where first gear is a crawler that is not driven, as in some vans, else 0 */
 };
 
 /* The answer: number 0 and place 0 where it is accepted, else the refusal and its place. Seconds and bytes count from 0. Where several apply,
@@ -48,20 +50,24 @@ struct gearcard_vehicle {
        in gearcard_cycle, a room under 1,801;
        in gearcard_downscale, a room not 1,801
     3  a vehicle field out of bounds, the first such;                 field, 1 to 13
-       in gearcard_write also a margin m above 0 in version 1         12
+       in gearcard_read only profile, ng and points, as it meets
+       them;
+       in gearcard_write also profile 1 in version 1 or 2,            1
+       and a margin m above 0 in version 1                            12
    11  second outside the trace (gearcard_hold, gearcard_release,     second asked
        gearcard_mend)
     4  speed over 2,000                                               second
     5  step from the second before over 150                           second
     6  first, then last, sample is moving                             second
-    7  hold above ng; in gearcard_hold, gear 0                        second
+    7  hold above ng, or of gear 1 in profile 1;                      second
+       in gearcard_hold, gear 0
     8  hold at a standing second                                      second
     9  held gear turns the engine past nmax                           second
    10  no gear fits, no hold; in gearcard_hold and gearcard_release   second
        it may be a later second of the trip
    12  job ends early                                                 its length
    13  group not shortest, or over 65,535, or longer than 3 bytes     group's first byte
-   14  version neither 1 nor 2 (gearcard_write: before all others)    place 0
+   14  version not 1, 2 or 3 (gearcard_write: before all others)      place 0
    15  hold second not rising or past the trace,                      first byte of the second
        or its gear 0 or over 255
    16  bytes after the end                                            first of them
@@ -80,16 +86,16 @@ struct gearcard_verdict {
 };
 
 /* What gearcard_read answers; where it refuses, the version is 0, the vehicle all zeros and the count 0. Version 2 has a margin m behind each p; in version 1
-   every m is 0. */
+   every m is 0. Version 3 is version 2 with the profile behind the version; in versions 1 and 2 it is 0. */
 struct gearcard_job {
   struct gearcard_verdict verdict;
-  uint16_t version; /* 1 or 2 */
+  uint16_t version; /* 1, 2 or 3 */
   struct gearcard_vehicle vehicle;
   size_t count; /* seconds of the trace */
 };
 
 /* Reads a job: fills the first count places of speeds and of holds, hold 0 where the job names none. Room beyond is untouched. It
-   judges the counts and the holds' seconds, and that a held gear is 1 to 255: other bounds are left to gearcard_work. */
+   judges the profile, the counts and the holds' seconds, and that a held gear is 1 to 255: other bounds are left to gearcard_work. */
 struct gearcard_job gearcard_read(const uint8_t *job, size_t job_length, uint16_t *speeds, size_t speeds_length, uint8_t *holds, size_t holds_length);
 
 /* What gearcard_write answers; where it refuses, the length is 0. */
@@ -112,7 +118,7 @@ struct gearcard_verdict gearcard_work(struct gearcard_vehicle vehicle, const uin
    Of the trace it checks these and the standing second after, and no others. Where the card was the right one for the holds, it is then the one that
    gearcard_work would give for the new holds. */
 
-/* Holds one second in a gear from 1. Gear 0 is refused by 7, in the order above; at a standing second every gear is refused. */
+/* Holds one second in a gear from 1, in profile 1 from 2. Gear 0 is refused by 7, in the order above; at a standing second every gear is refused. */
 struct gearcard_verdict gearcard_hold(struct gearcard_vehicle vehicle, const uint16_t *speeds, size_t speeds_length, uint8_t *holds, size_t holds_length,
                                       uint8_t *card, size_t card_length, size_t second, uint8_t gear);
 

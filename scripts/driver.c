@@ -48,6 +48,7 @@ static void vehicle_fields(struct gearcard_vehicle *v, void (*pass)(void *, size
   pass(v->n, sizeof v->n);
   pass(v->p, sizeof v->p);
   pass(v->m, sizeof v->m);
+  pass(&v->profile, sizeof v->profile);
 }
 
 /* Elements of a slice and its guards, which a room must hold. */

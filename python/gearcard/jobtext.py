@@ -37,6 +37,9 @@ SCALARS: tuple[tuple[str, str, Unit], ...] = (
 #: A point of the curve; its margin from version 2 on.
 CURVE: tuple[Unit, ...] = (units.ENGINE_SPEED, units.POWER, units.PER_CENT)
 
+#: The version from which on a vehicle has a profile.
+PROFILE = 3
+
 #: Where a trace comes from, and the keys that go with each.
 WAYS = {"speeds": ("speeds",), "csv": ("csv", "column"), "cycle": ("cycle", "part", "downscale")}
 
@@ -142,7 +145,8 @@ def parse(text: str, name: str, folder: File) -> Draft:
     source = _Source(name, text)
     top = _Table(source, (), _read_toml(source), ("version", "vehicle", "trace", "holds"))
     version = _version(top)
-    vehicle = _vehicle(top.table("vehicle", ("ratios", *(key for key, _, _ in SCALARS), "curve")), version)
+    profile = ("profile",) if version >= PROFILE else ()
+    vehicle = _vehicle(top.table("vehicle", ("ratios", *(key for key, _, _ in SCALARS), *profile, "curve")), version)
     speeds, speed_name = _trace(top.table("trace", [key for keys in WAYS.values() for key in keys]), folder)
     holds = _holds(top.table("holds", None), len(speeds)) if top.has("holds") else bytearray(len(speeds))
     names = Names(_field_name(source, vehicle), speed_name, lambda second, gear: f"holds.{second} = {gear}")
@@ -165,6 +169,8 @@ def _vehicle(table: _Table, version: int) -> Vehicle:
     ratios = [source.number(table.path + ("ratios", k), ratio, units.RATIO) for k, ratio in enumerate(table.typed("ratios", list))]
     numbers = {field: table.number(key, unit) for key, field, unit in SCALARS}
     curve = [_point(source, table.path + ("curve", k), row, version) for k, row in enumerate(table.typed("curve", list))]
+    if version >= PROFILE:
+        numbers["profile"] = table.number("profile", units.PROFILE)
     return Vehicle(ratios=tuple(ratios), curve=tuple(curve), **numbers)
 
 
@@ -250,6 +256,8 @@ def _field_name(source: _Source, vehicle: Vehicle) -> Callable[[int], str]:
     shown = {key: unit.text(getattr(vehicle, field)) for key, field, unit in SCALARS}
 
     def name(number: int) -> str:
+        if number == 1 and vehicle.profile > 1:
+            return f"vehicle.profile = {vehicle.profile}"
         key = FIELDS[number][0]
         value = f" = {shown[key]}" if key in shown else ""
         return f"vehicle.{key}{value}"
@@ -265,6 +273,8 @@ def show(job: Job) -> str:
     for key, field, unit in SCALARS:
         value = getattr(vehicle, field)
         lines.append(noted(f"{key} = {unit.text(value)}", unit, value))
+    if job.version >= PROFILE:
+        lines.append(noted(f"profile = {vehicle.profile}", units.PROFILE, vehicle.profile))
     columns = _curve(job.version)
     lines.append(_beside("curve = [", f"{_columns(columns)}; {_and(unit.paper for unit in columns)}"))
     for point in vehicle.curve:

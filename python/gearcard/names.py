@@ -40,7 +40,7 @@ def named(refused: Refused, job: Job | None, names: Names, file: str) -> Refused
         4: f"{speed} is over 200 km/h",
         5: f"{speed} is more than 15 km/h from the second before",
         6: f"{speed} is not at rest, as the first and the last second must be",
-        7: f"{hold} is no gear to hold: the vehicle has {len(job.vehicle.ratios)}",
+        7: f"{hold} is no gear to hold: the vehicle has {len(job.vehicle.ratios)}{', of which the first is not driven' if job.vehicle.profile else ''}",
         8: f"{hold} is at a standing second",
         9: f"{hold} would turn the engine past nmax",
         10: f"{speed} has no gear that fits, and no hold",

@@ -17,7 +17,7 @@ WORDS: dict[int, str] = {
     10: "no gear fits at second {place}, and there is no hold",
     12: "the bytes end early, after {place} of them",
     13: "the group at byte {place} is not in its shortest form, is over 65,535 or is too long",
-    14: "the version is neither 1 nor 2",
+    14: "the version is none of 1, 2 and 3",
     15: "the hold at byte {place} has a second that does not rise or is past the trace, or a gear that is 0 or over 255",
     16: "bytes follow after the end, from byte {place} on",
     17: "the room is too short for the job, which has {place} bytes",
@@ -31,7 +31,7 @@ WORDS: dict[int, str] = {
 
 #: The vehicle's fields, as refusal 3 numbers them: the key in a text, and what document 01 asks of it, in a text's units.
 FIELDS: dict[int, tuple[str, str]] = {
-    1: ("ratios", "a vehicle has 2 to 10 gears"),
+    1: ("ratios", "a vehicle has 2 to 10 gears, with profile 1 at least 3; a profile is 0 or 1, and only version 3 has one"),
     2: ("ratios", "each is 0.01 to 500.00 min^-1 per km/h, and falls with the gear"),
     3: ("idle", "it is 300 to 3,000 min^-1"),
     4: ("rated", "it is above idle and at most 12,000 min^-1"),

@@ -9,8 +9,8 @@ from typing import NamedTuple, Sequence
 #: Places of the record, as include/gearcard.h has them.
 GEARS, POINTS = 10, 64
 
-#: ng, the ratios, idle to F0, F1, F2 to the point count, and the points column by column.
-_WIRE = struct.Struct(f"<H{GEARS}H4Hi4H{POINTS}H{POINTS}H{POINTS}H")
+#: ng, the ratios, idle to F0, F1, F2 to the point count, the points column by column, and the profile.
+_WIRE = struct.Struct(f"<H{GEARS}H4Hi4H{POINTS}H{POINTS}H{POINTS}HH")
 WIRE_SIZE = _WIRE.size
 
 
@@ -49,6 +49,8 @@ class Vehicle:
     """safety margin, per cent"""
     curve: Sequence[Point | Sequence[int]]
     """the power curve; each point may be given as a plain tuple or list, and is a `Point` then"""
+    profile: int = 0
+    """1 where first gear is a crawler that is not driven, else 0"""
 
     def __post_init__(self) -> None:
         object.__setattr__(self, "ratios", tuple(self.ratios))
@@ -58,13 +60,13 @@ class Vehicle:
         """The record as the child program takes it. Past its places a list is cut: its count, which is sent whole, is refused before it is looked at."""
         for name, value in (("ratios", len(self.ratios)), ("curve", len(self.curve))):
             _within(f"len({name})", value, 0, 65535)
-        for name in ("idle", "rated", "nmax", "f0", "f2", "tm", "margin"):
+        for name in ("idle", "rated", "nmax", "f0", "f2", "tm", "margin", "profile"):
             _within(name, getattr(self, name), 0, 65535)
         _within("f1", self.f1, -(2**31), 2**31 - 1)
         ratios = _column("ratios", list(self.ratios), GEARS)
         numbers = (self.idle, self.rated, self.nmax, self.f0, self.f1, self.f2, self.tm, self.margin)
         columns = [number for k, name in enumerate(Point._fields) for number in _column(f"curve {name}", [point[k] for point in self.curve], POINTS)]
-        return _WIRE.pack(len(self.ratios), *ratios, *numbers, len(self.curve), *columns)
+        return _WIRE.pack(len(self.ratios), *ratios, *numbers, len(self.curve), *columns, self.profile)
 
     @classmethod
     def from_wire(cls, data: bytes) -> Vehicle:
@@ -73,7 +75,7 @@ class Vehicle:
         ng, ratios, rest = values[0], values[1 : 1 + GEARS], values[1 + GEARS :]
         numbers, points, columns = rest[:8], rest[8], rest[9:]
         curve = zip(*(columns[k * POINTS :][:points] for k in range(len(Point._fields))))
-        return cls(ratios[:ng], *numbers, curve)
+        return cls(ratios[:ng], *numbers, curve, values[-1])
 
 
 #: Lent where a function takes no vehicle.

@@ -57,12 +57,20 @@ class Functions(unittest.TestCase):
                     write(job.vehicle, job.speeds, job.holds)
                 self.assertEqual((raised.exception.number, raised.exception.place), (9, 4))
             else:
-                self.assertEqual(write(job.vehicle, job.speeds, job.holds), path.read_bytes())
+                self.assertEqual(write(job.vehicle, job.speeds, job.holds, job.version), path.read_bytes())
         for seed in range(2000):
             job = seeded.job(seed)
             self.assertEqual(write(job.vehicle, list(job.speeds), list(job.holds), job.version), seeded.encoded(job), f"seed {seed}")
         margin = replace(seeded.CAR_Z, curve=[(*point[:2], 1) for point in seeded.CAR_Z.curve])
-        for car, version, number, place in ((seeded.CAR_Z, 0, 14, 0), (seeded.CAR_Z, 65535, 14, 0), (margin, 1, 3, 12)):
+        for car, version, number, place in (
+            (seeded.CAR_Z, 0, 14, 0),
+            (seeded.CAR_Z, 65535, 14, 0),
+            (margin, 1, 3, 12),
+            (replace(seeded.CAR_Z, profile=1), 1, 3, 1),
+            (replace(margin, profile=1), 2, 3, 1),
+            (replace(margin, profile=1, ratios=seeded.CAR_Z.ratios[:2]), 3, 3, 1),
+            (replace(margin, profile=2), 3, 3, 1),
+        ):
             with self.assertRaises(Refused) as raised:
                 write(car, [0], None, version)
             self.assertEqual((raised.exception.number, raised.exception.place), (number, place))

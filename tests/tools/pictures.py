@@ -106,7 +106,7 @@ class Pictures(unittest.TestCase):
             self.assertAlmostEqual(shown.speeds[second], speed / 10, delta=max(job.speeds) / 10 * 0.0005 + 0.02)
 
     def test_examples(self) -> None:
-        for name in ("car-z", "car-z-held", "class-3"):
+        for name in ("car-z", "car-z-held", "van", "class-3"):
             self.check(read(Path(f"examples/{name}.job").read_bytes()))
 
     def test_seeded(self) -> None:

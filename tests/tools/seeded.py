@@ -39,7 +39,7 @@ def vehicle(r: random.Random, version: int = 1) -> Vehicle:
         n.append(n[-1] + r.randint(500, 1000))
     curve = tuple((each, r.randint(0, 5000), r.randint(0, 40) if version > 1 else 0) for each in n[:64])
     loads = (r.randint(0, 10000), r.randint(-5000, 5000), r.randint(0, 20000), r.randint(400, 4000), r.randint(0, 50))
-    return Vehicle(tuple(reversed(ratios)), idle, rated, nmax, *loads, curve)
+    return Vehicle(tuple(reversed(ratios)), idle, rated, nmax, *loads, curve, r.randint(0, 1) if version > 2 and ng > 2 else 0)
 
 
 def speeds(r: random.Random, count: int) -> array[int]:
@@ -56,7 +56,7 @@ def speeds(r: random.Random, count: int) -> array[int]:
 def job(seed: int) -> Job:
     """A job of that seed; some of its moving seconds are held, in the top gear, which the engine can always turn."""
     r = random.Random(seed)
-    version = 1 + seed % 2
+    version = 1 + seed % 3
     car, trace = vehicle(r, version), speeds(r, r.choice((1, 2, 5, 60, 400)))
     holds = bytearray(len(trace))
     for second, speed in enumerate(trace):
@@ -78,7 +78,7 @@ def group(value: int) -> bytes:
 def encoded(job: Job) -> bytes:
     """A job's bytes, as document 01 lists them."""
     car = job.vehicle
-    numbers = [job.version, len(car.ratios), *car.ratios, car.idle, car.rated, car.nmax, car.f0, car.f1 + 5000, car.f2, car.tm, car.margin]
+    numbers = [job.version, *([car.profile] if job.version > 2 else []), len(car.ratios), *car.ratios, car.idle, car.rated, car.nmax, car.f0, car.f1 + 5000, car.f2, car.tm, car.margin]
     numbers += [len(car.curve), *(number for point in car.curve for number in (point if job.version > 1 else point[:2]))]
     numbers += [len(job.speeds), *job.speeds]
     held = [(second, gear) for second, gear in enumerate(job.holds) if gear]

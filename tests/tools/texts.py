@@ -114,6 +114,7 @@ FAULTS: tuple[tuple[str, str, int, str], ...] = (
     ("version = 1\n", "\n", 1, "version is missing"),
     ("version = 1\n", "version = '1'\n", 1, "version must be a whole number, and not a string"),
     ("version = 1\n", "version = 2\n", 14, "vehicle.curve[0] must have 3 numbers in version 2, min^-1, kW and per cent, and has 2"),
+    ("margin = 10\n", "margin = 10\nprofile = 0\n", 13, "there is no key vehicle.profile"),
     ("version = 1\n", "version = 65536\n", 1, "version = 65536 is not from 0 to 65535, which is what a job can carry"),
     ("version = 1\n", "version = 1.0\n", 1, "version must be a whole number, and not a number"),
     ("[vehicle]", "[car]", 3, "there is no key car (there are version, vehicle, trace, holds)"),
@@ -203,6 +204,13 @@ class Faults(unittest.TestCase):
                 load(path)
             with self.assertRaisesRegex(Misuse, "none.toml could not be read: No such file or directory"):
                 load(Path(folder) / "none.toml")
+
+    def test_profile(self) -> None:
+        text = show(seeded.Job(seeded.CAR_Z, seeded.array("H", [0]), bytearray(1), 3))
+        self.assertIn("\nprofile = 0 ", text)
+        self.assertEqual(parsed(text.replace("profile = 0 ", "profile = 1 ")).vehicle.profile, 1)
+        self.expect(text.replace("profile = 0 ", "# "), 3, "vehicle.profile is missing")
+        self.expect(text.replace("profile = 0 ", "profile = true"), 13, "vehicle.profile must be a number, and not true or false")
 
     def test_lines_of_forms(self) -> None:
         text = 'a."b c".d = 3\nq = { x = 1, y = [1,\n2] }\ns = """x\n[t]\ny = 3\\""""\nl = \'\'\'\n\'\'\'\n[[m.n]]\nz = 1 # [u]\n[[m.n]]\nz = "#"\n'

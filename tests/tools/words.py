@@ -64,7 +64,7 @@ class Words(unittest.TestCase):
 
 class Card(Words):
     def test_jobs(self) -> None:
-        for name in ("car-z", "car-z-held", "class-3"):
+        for name in ("car-z", "car-z-held", "van", "class-3"):
             self.assertEqual(self.answers("card", f"{name}.job"), (EXAMPLES / f"{name}.txt").read_text())
         self.assertEqual(
             self.answers("card", "car-z-held.job", "--csv"),
@@ -75,8 +75,10 @@ class Card(Words):
     def test_texts(self) -> None:
         self.file("car.toml", TEXT)
         self.assertEqual(self.answers("card", "car.toml"), (EXAMPLES / "car-z-held.txt").read_text())
-        for name in ("car-z", "class-3"):
+        for name in ("car-z", "van", "class-3"):
             self.assertEqual(self.answers("card", EXAMPLES / f"{name}.toml"), (EXAMPLES / f"{name}.txt").read_text())
+            self.answers("make", EXAMPLES / f"{name}.toml", "-o", "again.job")
+            self.assertEqual((self.folder / "again.job").read_bytes(), (EXAMPLES / f"{name}.job").read_bytes())
         self.file("car.txt", TEXT)
         self.assertEqual(self.answers("card", "car.txt"), (EXAMPLES / "car-z-held.txt").read_text())
         shutil.copy(self.folder / "car-z.job", self.folder / "car.data")
@@ -94,7 +96,7 @@ class Card(Words):
 
         for old, new, said in (
             (TEXT[TEXT.index("  0.0, 5.0,") :], "]\n", "refused 1 at 0: the trace is empty or over 16,384 seconds"),
-            ("ratios = [120.00, 70.00, 45.00, 35.00, 28.00]", "ratios = [28.00]", "refused 3 at 1: vehicle.ratios: a vehicle has 2 to 10 gears"),
+            ("ratios = [120.00, 70.00, 45.00, 35.00, 28.00]", "ratios = [28.00]", f"refused 3 at 1: vehicle.ratios: {FIELDS[1][1]}"),
             ("120.00, 70.00", "70.00, 120.00", "refused 3 at 2: vehicle.ratios: each is 0.01 to 500.00 min^-1 per km/h, and falls with the gear"),
             ("idle = 800", "idle = 200", "refused 3 at 3: vehicle.idle = 200: it is 300 to 3,000 min^-1"),
             ("nmax = 6000", "nmax = 5000", "refused 3 at 5: vehicle.nmax = 5000: it is from rated to 15,000 min^-1"),
@@ -113,10 +115,17 @@ class Card(Words):
         later = TEXT.replace("version = 1\n", "version = 7\n")
         for kw in ("10", "30", "50", "70", "85", "90", "88"):
             later = later.replace(f", {kw}.0]", f", {kw}.0, 40]")
+        later = later.replace("margin = 10\n", "margin = 10\nprofile = 1\n")
         self.file("car.toml", later)
-        self.ends(1, "refused 14 at 0: version = 7: the version is neither 1 nor 2", "card", "car.toml")
-        self.file("car.toml", later.replace("version = 7", "version = 2").replace("88.0, 40", "88.0, 51"))
+        self.ends(1, "refused 14 at 0: version = 7: the version is none of 1, 2 and 3", "card", "car.toml")
+        self.file("car.toml", later.replace("version = 7", "version = 3").replace("88.0, 40", "88.0, 51"))
         self.ends(1, f"refused 3 at 12: vehicle.curve: {FIELDS[12][1]}", "card", "car.toml")
+        self.file("car.toml", later.replace("version = 7", "version = 3").replace("2 = 3", "2 = 1"))
+        self.ends(1, "refused 7 at 2: holds.2 = 1 is no gear to hold: the vehicle has 5, of which the first is not driven", "card", "car.toml")
+        self.file("car.toml", later.replace("version = 7", "version = 3").replace("profile = 1", "profile = 2"))
+        self.ends(1, f"refused 3 at 1: vehicle.profile = 2: {FIELDS[1][1]}", "card", "car.toml")
+        self.file("car.toml", later.replace("version = 7", "version = 3").replace("[120.00, 70.00, 45.00, 35.00, 28.00]", "[70.00, 28.00]"))
+        self.ends(1, f"refused 3 at 1: vehicle.ratios: {FIELDS[1][1]}", "card", "car.toml")
         fast = TEXT.replace("15, # whole numbers too\n", "15, 30, 45, 51, 45, 30, 15, # whole numbers too\n").replace("2 = 3", "5 = 1")
         self.file("car.toml", fast)
         self.ends(1, "refused 9 at 5: holds.5 = 1 would turn the engine past nmax", "card", "car.toml")
@@ -135,7 +144,8 @@ class Card(Words):
         for data, said in (
             (b"", "refused 12 at 0: damaged.job: the bytes end early, after 0 of them"),
             (whole[:-1], f"refused 12 at {end - 1}: damaged.job: the bytes end early, after {end - 1} of them"),
-            (b"\x04" + whole[1:], "refused 14 at 0: damaged.job: the version is neither 1 nor 2"),
+            (b"\x04" + whole[1:], "refused 14 at 0: damaged.job: the version is none of 1, 2 and 3"),
+            (b"\x03\x02" + whole[1:], f"refused 3 at 1: damaged.job: field 1 of the vehicle is out of bounds: ratios, {FIELDS[1][1]}"),
             (whole + b"\0", f"refused 16 at {end}: damaged.job: bytes follow after the end, from byte {end} on"),
         ):
             self.file("damaged.job", data)
@@ -230,6 +240,9 @@ class Edits(Words):
         for words, said in (
             (("hold", "car-z.job", 2, 9), "refused 7 at 2: gear 9, held at second 2, is no gear to hold: the vehicle has 5"),
             (("hold", "car-z.job", 2, 0), "refused 7 at 2: gear 0, held at second 2, is no gear to hold: the vehicle has 5"),
+            (("hold", "van.job", 31, 1), "refused 7 at 31: gear 1, held at second 31, is no gear to hold: the vehicle has 6, of which the first is not driven"),
+            (("hold", "van.job", 0, 1), "refused 7 at 0: gear 1, held at second 0, is no gear to hold: the vehicle has 6, of which the first is not driven"),
+            (("hold", "van.job", 0, 2), "refused 8 at 0: gear 2, held at second 0, is at a standing second"),
             (("hold", "car-z.job", 0, 1), "refused 8 at 0: gear 1, held at second 0, is at a standing second"),
             (("hold", "car-z.job", 5, 1), "refused 11 at 5: second 5 is outside the trace, which has 5"),
             (("release", "car-z.job", 2**64 - 1), f"refused 11 at {2**64 - 1}: second {2**64 - 1} is outside the trace, which has 5"),

@@ -22,7 +22,7 @@ use Rattle.rules.specs.Vocabulary.{InBounds, IsTrip}
 use Rattle.rules.proofs.Laws.Words.{patch-in, clash, by-test, by-order, both, or-left, or-right, at-part, length-part}
 use Rattle.rules.proofs.Laws.Range.{natAbs-gap}
 use Rattle.rules.proofs.Laws.Trips.{trip-of, stop-le, stop-to, stop-after, stop-in, stop-standing, standing-past}
-use Rattle.rules.proofs.Laws.Checks.{passed}
+use Rattle.rules.proofs.Laws.Checks.{passed, driven}
 use Rattle.rules.proofs.Laws.Cards.{fit-of, byte-gear}
 use Rattle.gears.specs.declared.Numbers.{Numbers}
 use Rattle.gears.specs.Parts.{Counts}
@@ -80,7 +80,7 @@ module _ {vs hs old : List ℕ} {a b : ℕ} (B : Between vs hs old a b) where
   -- what the work on the trip asks
   pub ready : {car : Vehicle} {k : Numbers} → Counts car k → Fitting car vs hs a b → Ready k (part vs a (b + 1)) (part hs a b) (part old a b)
   unfolding bad
-  ready K F =
+  ready {car = car} K F =
       let x = B .trip .some-second in
       let l = B .after in
       let us : length (part vs a (suc b)) ≡ suc b - a = length-part vs a (suc b) l in
@@ -92,7 +92,7 @@ module _ {vs hs old : List ℕ} {a b : ℕ} (B : Between vs hs old a b) where
           speed = λ j h. rw (at-part vs a (suc b) j (omega arith)) (B .speed-to (a + j) (omega arith) (omega arith));
           step = λ j h. rw (rise-part j (omega arith)) (B .step-to (a + j) (omega arith) (omega arith));
         };
-        hold = λ j h. rw (at-part hs a b j (omega arith)) (rw (← ng-of K) (ltb-false _ _ (F (a + j) (omega arith) (omega arith) .hold-in-ng)));
+        hold = λ j h. rw (at-part hs a b j (omega arith)) (rw (← ng-of K) (driven car _ (F (a + j) (omega arith) (omega arith) .hold-in-ng) .0));
         moves = λ j h. rw (at-part vs a (suc b) j (omega arith)) (B .trip .inside (a + j) (omega arith) (omega arith));
       })
 

@@ -5,10 +5,11 @@ use native.Mathlib.Omega.{arith}
 use mathlib.Core.Path.{_≡_, refl, sym, ap, _∙_}
 use mathlib.Core.Logic.{inl}
 use mathlib.Core.Option.{Option, none}
+use mathlib.Core.Bool.{true, false}
 use mathlib.Core.List.{List}
 use lib.ListN.{length, set}
 use lib.Seq.{set-out}
-use borrow.Author.Tests.{lt-ltb, le-ltb, eq-eqb, ne-eqb}
+use borrow.Author.Tests.{eq-eqb, ne-eqb}
 use Rattle.rules.specs.declared.Vehicle.{Vehicle}
 use Rattle.rules.specs.declared.Refusal.{Refusal}
 use Rattle.rules.specs.declared.Refusal.the-variants.{HoldOverNg, HoldStanding}
@@ -16,7 +17,7 @@ use Rattle.rules.specs.declared.Answer.{Answer}
 use Rattle.rules.specs.declared.Answer.the-variants.{Done, Refused}
 use Rattle.rules.specs.Words.{patch}
 use Rattle.rules.specs.Corrections.{card-at, card}
-use Rattle.rules.specs.Refusals.{Fault, said, refuse-at, _orelse_, when, span-fault, work-fault, work-card}
+use Rattle.rules.specs.Refusals.{Fault, said, refuse-at, _orelse_, when, span-fault, work-fault, work-card, not-driven}
 use Rattle.rules.specs.Quick.{standing-fault}
 use Rattle.rules.proofs.Laws.Words.{by-order}
 use Rattle.rules.proofs.Laws.Trips.{standing-past}
@@ -91,14 +92,14 @@ module _ {car : Vehicle} {vs hs old : List ℕ} (O : Opened car vs hs old) where
 -- ---- a hold at a standing second
 
 module _ (car : Vehicle) (s g : ℕ) where
-  pub standing-over : car .ng < g → said (Refused (HoldOverNg s)) ≡ standing-fault car s g
+  pub standing-over : true ≡ not-driven car g → said (Refused (HoldOverNg s)) ≡ standing-fault car s g
   unfolding said standing-fault when refuse-at _orelse_
-  standing-over h = rw (lt-ltb (car .ng) g h)
+  standing-over h = rw (← h)
 
-  pub standing-gear : g ≤ car .ng → (g ≡ 0 → ⊥) → said (Refused (HoldStanding s)) ≡ standing-fault car s g
+  pub standing-gear : false ≡ not-driven car g → (g ≡ 0 → ⊥) → said (Refused (HoldStanding s)) ≡ standing-fault car s g
   unfolding said standing-fault when refuse-at _orelse_
-  standing-gear h n = rw (le-ltb (car .ng) g h, ne-eqb g 0 n)
+  standing-gear h n = rw (← h, ne-eqb g 0 n)
 
-  pub standing-clear : g ≤ car .ng → g ≡ 0 → said Done ≡ standing-fault car s g
+  pub standing-clear : false ≡ not-driven car g → g ≡ 0 → said Done ≡ standing-fault car s g
   unfolding said standing-fault when refuse-at _orelse_
-  standing-clear h e = rw (le-ltb (car .ng) g h, eq-eqb g 0 e)
+  standing-clear h e = rw (← h, eq-eqb g 0 e)

@@ -11,17 +11,18 @@ use checks::check_span;
 use checks::trip_start;
 use checks::trip_stop;
 use gears::derate;
+use gears::not_driven;
 use gears::numbers_of;
 use rules::Answer;
 use rules::Refusal;
 use rules::Vehicle;
 use rules::moving;
 
-// At a standing second: 0 is accepted; a gear is refused, by 7 if above ng, else by 8.
+// At a standing second: 0 is accepted; a gear is refused, by 7 if it is not driven, else by 8.
 fn check_standing(vehicle: Vehicle, second: usize, gear: u8) -> Answer
     ensures { λ r. ⌜ said r ≡ standing-fault vehicle second gear ⌝ }
 {
-    if vehicle.ng < gear as u16 {
+    if not_driven(numbers_of(vehicle), gear) {
         return Answer::Refused(Refusal::HoldOverNg(second));
     }
     if gear != 0 {

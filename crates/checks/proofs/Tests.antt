@@ -13,13 +13,13 @@ use Rattle.rules.specs.Words.{if_then_else_, _and_, _or_, at, highest}
 use Rattle.rules.specs.Units.{fastest, steepest, moving}
 use Rattle.rules.specs.Gears.{engine, under-nmax, fits}
 use Rattle.rules.specs.Corrections.{place-at}
-use Rattle.rules.specs.Refusals.{speed, step, ends, over-ng, at-rest, over-rev, no-gear, check-number, checks, bad}
+use Rattle.rules.specs.Refusals.{not-driven, speed, step, ends, over-ng, at-rest, over-rev, no-gear, check-number, checks, bad}
 use Rattle.rules.proofs.Laws.Words.{by-order, and-no}
 use Rattle.rules.proofs.Laws.Cards.{first-at-is}
 use Rattle.rules.proofs.Laws.Choice.{choice-none-fits}
 use Rattle.gears.specs.declared.Numbers.{Numbers}
 use Rattle.gears.specs.Parts.{Has}
-use Rattle.gears.proofs.Parts.{ng-of, nmax-of, engine-of}
+use Rattle.gears.proofs.Parts.{nmax-of, engine-of}
 use Rattle.checks.specs.Checks.{fault-no, hold-checks}
 
 -- a number that is not below k, nor k, as the last arm of a match knows it of each arm before
@@ -71,16 +71,16 @@ module _ (car : Vehicle) (vs hs : List ℕ) (lo i : ℕ) where
   unfolding bad _and_ _or_
   ends-between h n m = rw (h, ne-eqb i 0 n, ne-eqb (suc i) (length vs) (λ z. m (omega arith)))
 
-  -- ---- 7, the hold above ng
+  -- ---- 7, the hold above ng or below the lowest gear
 
-  over-yes : car .ng < at hs i → bad over-ng car vs hs lo i ≡ true
+  over-is : {held : ℕ} {t : Bool} → at hs i ≡ held → t ≡ not-driven car held → bad over-ng car vs hs lo i ≡ t
   unfolding bad
-  over-yes h = lt-ltb _ _ h
+  over-is e h = rw (e, h)
 
   -- no hold is gear 0, which no ng is below
-  over-no : at hs i ≤ car .ng → bad over-ng car vs hs lo i ≡ false
-  unfolding bad
-  over-no h = le-ltb _ _ h
+  over-none : at hs i ≡ 0 → bad over-ng car vs hs lo i ≡ false
+  unfolding bad not-driven _or_ _and_
+  over-none e = rw (e, le-ltb (car .ng) 0 (omega arith))
 
   -- ---- 8, the hold at a standing second
 
@@ -137,19 +137,19 @@ module _ (car : Vehicle) (vs hs : List ℕ) (lo i : ℕ) where
 -- without a hold 7, 8 and 9 pass
 pub free-good : (car : Vehicle) (vs hs : List ℕ) (lo i : ℕ) → at hs i ≡ 0 → 10 ≡ fault-no car vs hs lo i hold-checks
 unfolding fault-no hold-checks
-free-good car vs hs lo i e = rw (over-no car vs hs lo i (omega arith), rest-free car vs hs lo i e, rev-free car vs hs lo i e)
+free-good car vs hs lo i e = rw (over-none car vs hs lo i e, rest-free car vs hs lo i e, rev-free car vs hs lo i e)
 
 module _ {car : Vehicle} {k : Numbers} {ratio : List ℕ} (H : Has car k ratio) (vs hs : List ℕ) (lo i : ℕ) {held : ℕ} (shows : at hs i ≡ held) where
   -- 7 goes before 8 and 9, at a standing second too
-  pub held-over : k .ng < held → 7 ≡ fault-no car vs hs lo i hold-checks
+  pub held-over : true ≡ not-driven car held → 7 ≡ fault-no car vs hs lo i hold-checks
   unfolding fault-no hold-checks check-number
-  held-over a = rw (over-yes car vs hs lo i (omega (arith, ng-of (H .counts))))
+  held-over a = rw (over-is car vs hs lo i shows a)
 
-  module _ (n : held ≡ 0 → ⊥) (a : held ≤ k .ng) where
+  module _ (n : held ≡ 0 → ⊥) (a : false ≡ not-driven car held) where
     -- 8 goes before 9
     pub held-standing : moving (at vs i) ≡ false → 8 ≡ fault-no car vs hs lo i hold-checks
     unfolding fault-no hold-checks check-number
-    held-standing l = rw (over-no car vs hs lo i (omega (arith, ng-of (H .counts))), rest-yes car vs hs lo i l (λ z. n (sym shows ∙ z)))
+    held-standing l = rw (over-is car vs hs lo i shows a, rest-yes car vs hs lo i l (λ z. n (sym shows ∙ z)))
 
     module _ (l : moving (at vs i) ≡ true) where
       turns : engine car (at hs i) (at vs i) ≡ at ratio (held - 1) * at vs i
@@ -160,7 +160,7 @@ module _ {car : Vehicle} {k : Numbers} {ratio : List ℕ} (H : Has car k ratio) 
       unfolding fault-no hold-checks check-number
       held-over-rev x =
           rw (
-            over-no car vs hs lo i (omega (arith, ng-of (H .counts))),
+            over-is car vs hs lo i shows a,
             rest-moving car vs hs lo i l,
             rev-yes car vs hs lo i (λ z. n (sym shows ∙ z)) (omega (arith, turns, nmax-of (H .counts))),
           )
@@ -170,7 +170,7 @@ module _ {car : Vehicle} {k : Numbers} {ratio : List ℕ} (H : Has car k ratio) 
       unfolding fault-no hold-checks
       held-good x =
           rw (
-            over-no car vs hs lo i (omega (arith, ng-of (H .counts))),
+            over-is car vs hs lo i shows a,
             rest-moving car vs hs lo i l,
             rev-no car vs hs lo i (omega (arith, turns, nmax-of (H .counts))),
           )

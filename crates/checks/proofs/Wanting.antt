@@ -9,7 +9,7 @@ use mathlib.Core.List.{List}
 use mathlib.Core.Option.{Option, none, some}
 use lib.Dec.{eqb}
 use lib.ListN.{length, drop}
-use borrow.Author.Tests.{le-leb, leb-false, eqb-true, eqb-false, ne-eqb, not-true}
+use borrow.Author.Tests.{le-leb, leb-false, eqb-true, eqb-false, ne-eqb, not-true, eq-eqb}
 use Rattle.rules.specs.declared.Vehicle.{Vehicle}
 use Rattle.rules.specs.declared.Place.{Place}
 use Rattle.rules.specs.declared.Place.the-variants.{AfterLow}
@@ -24,8 +24,8 @@ use Rattle.rules.proofs.Laws.Trips.{start-le}
 use Rattle.rules.proofs.Laws.Checks.{step-passed}
 use Rattle.rules.proofs.Theorems.{fits-at-any}
 use Rattle.gears.specs.declared.Numbers.{Numbers}
-use Rattle.gears.specs.Parts.{Has}
-use Rattle.gears.proofs.Parts.{low-is, ng-of, nmax-of, engine-of}
+use Rattle.gears.specs.Parts.{Has, low-in}
+use Rattle.gears.proofs.Parts.{low-of, ng-of, nmax-of, engine-of}
 use Rattle.checks.specs.Calm.{Each, AtMost, gap-at, Stands, Follows, NoGap}
 use Rattle.checks.proofs.Tests.{step-large, gear-standing, gear-held, gear-free}
 use Rattle.checks.proofs.Scans.{start-more}
@@ -54,41 +54,45 @@ first-place car false false before = by-test (eqb before (low car)) (λ t. rw t)
 
 module _ {car : Vehicle} {k : Numbers} {ratio : List ℕ} (H : Has car k ratio) (v : ℕ) where
   -- the lowest gear has no minimum, and may fit at any second
-  low-fits : (here : Place) → at ratio 0 * v ≤ 1000 * k .nmax → fits car here v 1 ≡ true
+  low-fits : (here : Place) → at ratio (low-in k - 1) * v ≤ 1000 * k .nmax → fits car here v (low-in k) ≡ true
   unfolding fits allowed over-minimum under-nmax _and_ _or_
-  low-fits here h = let l : engine car 1 v ≤ 1000 * car .nmax = omega (arith, engine-of H 1 v, nmax-of (H .counts)) in rw (low-is car, le-leb _ _ l)
+  low-fits here h =
+      let l : engine car (low-in k) v ≤ 1000 * car .nmax = omega (arith, engine-of H (low-in k) v, nmax-of (H .counts)) in
+      rw (low-of (H .counts), le-leb (low-in k) (low-in k) (omega arith), eq-eqb (low-in k) (low-in k) refl, le-leb _ _ l)
 
   -- a gear above it, after the lowest gear, where its minimum is highest
-  high-fits : (g : ℕ) → 1 ≤ g → 1000 * minimum car AfterLow (g + 1) ≤ at ratio g * v → at ratio g * v ≤ 1000 * k .nmax → fits car AfterLow v (g + 1) ≡ true
+  high-fits : (g : ℕ) → low-in k ≤ g → 1000 * minimum car AfterLow (g + 1) ≤ at ratio g * v → at ratio g * v ≤ 1000 * k .nmax → fits car AfterLow v (g + 1) ≡ true
   unfolding fits allowed over-minimum under-nmax is-first _and_ _or_
   high-fits g a l h =
       let e : g + 1 - 1 ≡ g = omega arith in
       let x : engine car (g + 1) v ≡ at ratio g * v = engine-of H (g + 1) v ∙ rw e in
       let up : 1000 * minimum car AfterLow (g + 1) ≤ engine car (g + 1) v = omega arith in
       let to : engine car (g + 1) v ≤ 1000 * car .nmax = omega (arith, nmax-of (H .counts)) in
-      rw (low-is car, le-leb 1 (g + 1) (omega arith), ne-eqb (g + 1) 1 (λ z. omega arith), le-leb _ _ up, le-leb _ _ to)
+      rw (low-of (H .counts), le-leb (low-in k) (g + 1) (omega arith), ne-eqb (g + 1) (low-in k) (λ z. omega arith), le-leb _ _ up, le-leb _ _ to)
 
-  module _ (on : Each (Follows k ratio) 1 (k .ng)) (here : Place) (later : is-first here ≡ false) where
+  module _ (on : Each (Follows k ratio) (low-in k) (k .ng)) (here : Place) (later : is-first here ≡ false) where
     -- from a gear that turns no faster than nmax down to the floor, which fits: it is the lowest, or the gear below it turns past nmax
-    floor-fits : (j : ℕ) → j < k .ng → at ratio j * v ≤ 1000 * k .nmax → true ≡ not (eqb (highest (fits car here v) (k .ng)) 0)
-    floor-fits zero a h = one-holds _ (k .ng) 1 (omega arith) (omega arith) (low-fits here h)
-    floor-fits (suc j) a h =
-        by-order (1000 * k .nmax) (at ratio j * v)
+    floor-fits : (j : ℕ) → low-in k ≤ suc j → j < k .ng → at ratio j * v ≤ 1000 * k .nmax → true ≡ not (eqb (highest (fits car here v) (k .ng)) 0)
+    floor-fits zero b a h = let e : low-in k ≡ 1 = omega arith in one-holds _ (k .ng) (low-in k) (omega arith) (omega arith) (low-fits here (rw e h))
+    floor-fits (suc j) b a h =
+        by-eq b
+        (λ e. let z : low-in k - 1 ≡ suc j = omega arith in one-holds _ (k .ng) (low-in k) (omega arith) (omega arith) (low-fits here (rw z h)))
+        (λ above. by-order (1000 * k .nmax) (at ratio j * v)
         (λ over.
         let e : suc j - 1 ≡ j = omega arith in
         let m = minimum car AfterLow (suc j + 1) in
         let o : m * at ratio j ≤ k .nmax * at ratio (suc j) = rw e at (on (suc j) (omega arith) a car (H .counts)) in
         one-holds _ (k .ng) (suc j + 1) (omega arith) (omega arith)
         (fits-at-any car here v (suc j + 1) later (high-fits (suc j) (omega arith) (reached (at ratio j) (at ratio (suc j)) v m (k .nmax) over o) h)))
-        (λ under. floor-fits j (omega arith) under)
+        (λ under. floor-fits j (omega arith) (omega arith) under))
 
   -- so that some gear fits at every speed up to `most`, and at the first second of a trip at every speed up to 159
   some-gear : {most : ℕ} → NoGap k ratio most → v ≤ most → (here : Place) → (is-first here ≡ true → v ≤ 159)
       → true ≡ not (eqb (highest (fits car here v) (k .ng)) 0)
   some-gear d a here b =
       by-test (is-first here)
-      (λ t. one-holds _ (k .ng) 1 (omega arith) (d .some) (low-fits here (le-trans (mul-le-mul-left (at ratio 0) (b t)) (d .at-first))))
-      (λ t. floor-fits (d .covered) here t (k .ng - 1) (omega (arith, d .some)) (le-trans (mul-le-mul-left (at ratio (k .ng - 1)) a) (d .at-most)))
+      (λ t. one-holds _ (k .ng) (low-in k) (omega arith) (d .some) (low-fits here (le-trans (mul-le-mul-left (at ratio (low-in k - 1)) (b t)) (d .at-first))))
+      (λ t. floor-fits (d .covered) here t (k .ng - 1) (omega (arith, d .some)) (omega (arith, d .some)) (le-trans (mul-le-mul-left (at ratio (k .ng - 1)) a) (d .at-most)))
 
 -- ---- so no second wants one
 

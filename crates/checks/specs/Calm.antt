@@ -12,7 +12,7 @@ use Rattle.rules.specs.Words.{at}
 use Rattle.rules.specs.Units.{moving}
 use Rattle.rules.specs.Gears.{minimum}
 use Rattle.gears.specs.declared.Numbers.{Numbers}
-use Rattle.gears.specs.Parts.{Counts, Has}
+use Rattle.gears.specs.Parts.{low-in, Counts, Has}
 use Rattle.checks.specs.Checks.{fault-no, hold-checks}
 
 -- seconds of the trace, from lo up to hi
@@ -52,12 +52,12 @@ HandsOn k g below this = (car : Vehicle) → Counts car k → minimum car AfterL
 abbrev pub Follows : Numbers → List ℕ → ℕ → Type 0
 Follows k ratio j = HandsOn k (j + 1) (at ratio (j - 1)) (at ratio j)
 
--- up to the speed `most` some gear fits; at the first second of a trip, up to 159, gear 1 does
+-- up to the speed `most` some gear fits; at the first second of a trip, up to 159, the lowest does
 pub record NoGap (k : Numbers) (ratio : List ℕ) (most : ℕ) : Type 0 where
-  pub some : 1 ≤ k .ng
-  pub at-first : at ratio 0 * 159 ≤ 1000 * k .nmax
+  pub some : low-in k ≤ k .ng
+  pub at-first : at ratio (low-in k - 1) * 159 ≤ 1000 * k .nmax
   pub at-most : at ratio (k .ng - 1) * most ≤ 1000 * k .nmax
-  pub covered : Each (Follows k ratio) 1 (k .ng)
+  pub covered : Each (Follows k ratio) (low-in k) (k .ng)
 
 -- a second passes the checks that look at a hold, if it is held
 abbrev pub HoldPasses : Numbers → List ℕ → List ℕ → List ℕ → ℕ → ℕ → Type 0

@@ -14,6 +14,7 @@ use crate::Span;
 use crate::calm::calm;
 use gears::Numbers;
 use gears::engine;
+use gears::not_driven;
 use gears::top;
 use rules::Answer;
 use rules::FASTEST;
@@ -92,7 +93,7 @@ pub fn held_fault(k: Numbers, ratio: &[u16; 10], v: u16, held: u8) -> u32
     requires { ⌜ HeldGear k held ⌝ }
     ensures { λ r. ⌜ ((car : Vehicle) → Has car k (now (ratio .entry)) → (vs hs : List ℕ) (lo i : ℕ) → at vs i ≡ v → at hs i ≡ held → r ≡ fault-no car vs hs lo i hold-checks) ⌝ }
 {
-    if k.ng < held as u16 {
+    if not_driven(k, held) {
         return 7;
     }
     if !moving(v) {

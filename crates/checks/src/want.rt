@@ -8,7 +8,7 @@ ghost use lib.ListN.{length, set};
 ghost use Rattle.rules.specs.declared.Vehicle.{Vehicle};
 ghost use Rattle.rules.specs.Corrections.{first-at};
 ghost use Rattle.rules.specs.Refusals.{no-gear, bad, said, seconds-fault, gear-fault};
-ghost use Rattle.gears.specs.Parts.{Has, Lent, Parts};
+ghost use Rattle.gears.specs.Parts.{low-in, Has, Lent, Parts};
 ghost use Rattle.gears.specs.Second.{Lowest, Geared};
 ghost use Rattle.checks.specs.Checks.{Spanned};
 ghost use Rattle.checks.specs.Calm.{Each, HandsOn, Follows, NoGap};
@@ -23,6 +23,7 @@ use crate::seconds::hold_at;
 use crate::seconds::speed_at;
 use gears::Numbers;
 use gears::engine;
+use gears::lowest;
 use gears::minimum;
 use gears::top;
 use rules::Answer;
@@ -44,13 +45,13 @@ fn hands_on(k: Numbers, g: usize, below: u16, this: u16) -> bool
     minimum(k, Place::AfterLow, g) * (below as u64) <= (k.nmax as u64) * (this as u64)
 }
 
-// So every gear above gear 1: then no speed lies between two gears.
+// So every gear above the lowest: then no speed lies between two gears.
 fn covered(k: Numbers, ratio: &[u16; 10]) -> bool
     requires { ⌜ Geared k ⌝ }
-    ensures { λ r. ⌜ (r ≡ true → Each (Follows k (now (ratio .entry))) 1 (k .ng)) ⌝ }
+    ensures { λ r. ⌜ (r ≡ true → Each (Follows k (now (ratio .entry))) (low-in k) (k .ng)) ⌝ }
 {
     let ng = k.ng as usize;
-    let mut j: usize = 1;
+    let mut j = lowest(k);
     while j < ng {
         if !hands_on(k, j + 1, ratio[j - 1], ratio[j]) {
             return false;
@@ -66,11 +67,12 @@ pub fn no_gap(k: Numbers, ratio: &[u16; 10], most: u16) -> bool
     ensures { λ r. ⌜ (r ≡ true → NoGap k (now (ratio .entry)) most) ⌝ }
 {
     let ng = k.ng as usize;
-    if ng == 0 {
+    let low = lowest(k);
+    if ng < low {
         return false;
     }
     let most_turns = top(k);
-    if most_turns < engine(ratio, 1, FIRST_FASTEST) {
+    if most_turns < engine(ratio, low, FIRST_FASTEST) {
         return false;
     }
     if most_turns < engine(ratio, ng, most) {

@@ -25,12 +25,12 @@ use Rattle.rules.proofs.Laws.Choice.{choose-strongest, choose-highest, first-ch
 use Rattle.gears.specs.declared.Numbers.{Numbers}
 use Rattle.gears.specs.declared.Power as code
 use Rattle.gears.specs.declared.Best.{Best}
-use Rattle.gears.specs.Parts.{Has, Lent}
+use Rattle.gears.specs.Parts.{low-in, Has, Lent}
 use Rattle.gears.specs.Choosing.{power-of, PowerSized, enough-for, suits-for, InGear, Strongest, only-first, next-down}
 use Rattle.gears.proofs.Powers.{turning-of, turning-enough, sized-of}
-use Rattle.gears.proofs.Speeds.{fits-not, fits-under}
-use Rattle.gears.proofs.Down.{Down, drops, again}
-use Rattle.gears.proofs.Parts.{low-is, engine-of}
+use Rattle.gears.proofs.Speeds.{fits-not, fits-below, fits-under}
+use Rattle.gears.proofs.Down.{Down, drops, again, ends}
+use Rattle.gears.proofs.Parts.{low-of, engine-of}
 
 -- the strongest of the gears up to g, by whether g beats the one of those below
 step : (car : Vehicle) (here : Place) (v g : ℕ) → 1 ≤ g
@@ -95,48 +95,60 @@ module _ {car : Vehicle} {k : Numbers} {ratio n p : List ℕ} (L : Lent car k ra
           let m′ : more (power car v (b .gear)) (power car v g) ≡ false = rw (← s .its-power o, ← q) m in
           record { is = sym (strongest-step ∙ rw (f, ne-eqb (b .gear) 0 o, m′)); its-power = λ z. q }
 
--- the loop over the gears from the lowest up: no gear yet, and one more
-pub none-yet : (car : Vehicle) (here : Place) (v : ℕ) (a : code.Power) → Strongest car here v 0 (record { gear = 0; power = a })
-unfolding strongest
-none-yet car here v a = record { is = refl; its-power = λ n. absurd (n refl) }
+-- no gear below the lowest is the strongest
+none-below : (car : Vehicle) (here : Place) (v j : ℕ) → j < low car → strongest car here v j ≡ 0
+unfolding strongest beats _and_
+none-below car here v zero l = refl
+none-below car here v (suc j) l = rw (fits-below car here v (suc j) l) (none-below car here v j (omega arith))
+
+-- the loop over the gears from the lowest up: no gear yet
+pub none-yet : (car : Vehicle) (here : Place) (v j : ℕ) (a : code.Power) → j < low car → Strongest car here v j (record { gear = 0; power = a })
+none-yet car here v j a l = record { is = sym (none-below car here v j l); its-power = λ n. absurd (n refl) }
 
 -- ---- the gears out of reach
 
--- where third gear's X is below the shared minimum, no gear from there on fits: ratios fall
-module _ {car : Vehicle} {k : Numbers} {ratio n p : List ℕ} (L : Lent car k ratio n p) (here : Place) (later : is-first here ≡ false) (v : ℕ) {least : ℕ} (e : least ≡ 1000 * minimum car here 3) (h : at ratio 2 * v < least) where
-  out-of-reach : (g : ℕ) → 2 < g → g ≤ car .ng → at ratio (g - 1) * v < least
+-- where X of the gear two above the lowest is below the shared minimum, no gear from there on fits: ratios fall
+module _ {car : Vehicle} {k : Numbers} {ratio n p : List ℕ} (L : Lent car k ratio n p) (here : Place) (later : is-first here ≡ false) (v : ℕ) {least : ℕ} (e : least ≡ 1000 * minimum car here (low-in k + 2)) (h : at ratio (low-in k + 1) * v < least) where
+  out-of-reach : (g : ℕ) → low-in k + 1 < g → g ≤ car .ng → at ratio (g - 1) * v < least
   out-of-reach g a b =
-      let d : 3 + (g - 3) ≡ g = omega arith in
-      let x : engine car g v ≤ engine car 3 v = rw d at (higher car (L .bounds) v 3 (g - 3) (omega (arith, low-is car)) (omega arith)) in
-      omega (arith, engine-of (L .has) g v, engine-of (L .has) 3 v)
+      let d : low-in k + 2 + (g - (low-in k + 2)) ≡ g = omega arith in
+      let x : engine car g v ≤ engine car (low-in k + 2) v = rw d at (higher car (L .bounds) v (low-in k + 2) (g - (low-in k + 2)) (omega (arith, low-of (L .has .counts))) (omega arith)) in
+      let z : low-in k + 2 - 1 ≡ low-in k + 1 = omega arith in
+      omega (arith, engine-of (L .has) g v, rw z at (engine-of (L .has) (low-in k + 2) v))
 
-  unsuited : (x : ℤ) (g : ℕ) → 2 < g → g ≤ car .ng → suits-for car here v x g ≡ false
+  unsuited : (x : ℤ) (g : ℕ) → low-in k + 1 < g → g ≤ car .ng → suits-for car here v x g ≡ false
   unsuited x g a b = sym (unfit L here v g x (sym (fits-under (L .has) here v g e a later (out-of-reach g a b))))
 
-  -- so the search may go on at second gear
-  pub skips : (x : ℤ) {g : ℕ} → g ≤ car .ng → 2 < g → Down (suits-for car here v x) (car .ng) g → Down (suits-for car here v x) (car .ng) 2
-  skips x b a inv = drops inv 2 (omega arith) (λ i c d. unsuited x i c (omega arith))
+  -- so the search may go on at the gear above the lowest
+  pub skips : (x : ℤ) {g : ℕ} → g ≤ car .ng → low-in k + 1 < g → Down (suits-for car here v x) (car .ng) g → Down (suits-for car here v x) (car .ng) (low-in k + 1)
+  skips x b a inv = drops inv (low-in k + 1) (omega arith) (λ i c d. unsuited x i c (omega arith))
+
+-- below the lowest gear none suits, so that the search has ended
+pub ends-below : (car : Vehicle) (here : Place) (v : ℕ) (x : ℤ) {g : ℕ} → g < low car → Down (suits-for car here v x) (car .ng) g → highest (suits-for car here v x) (car .ng) ≡ 0
+unfolding suits-for _and_
+ends-below car here v x l inv = ends (drops inv 0 (omega arith) (λ i c d. rw (fits-below car here v i (omega arith)))) refl
 
 -- the next gear down is below
-down-less : (t : Bool) (g : ℕ) → 1 ≤ g → next-down t g < g
+down-less : (lowest : ℕ) (t : Bool) (g : ℕ) → 1 ≤ g → next-down lowest t g < g
 unfolding next-down _or_
-down-less true g h = omega arith
-down-less false g h = by-order 3 g (λ a. rw (lt-leb g 3 a) (omega arith)) (λ a. rw (le-leb g 3 a) (omega arith))
+down-less lowest true g h = omega arith
+down-less lowest false g h = by-order (lowest + 2) g (λ a. rw (lt-leb g (lowest + 2) a) (omega arith)) (λ a. rw (le-leb g (lowest + 2) a) (omega arith))
 
-pub down-of : (t : Bool) {g r : ℕ} → r ≡ next-down t g → 1 ≤ g → r < g
-down-of t {g} e h = rw e (down-less t g h)
+pub down-of : (lowest : ℕ) (t : Bool) {g r : ℕ} → r ≡ next-down lowest t g → 1 ≤ g → r < g
+down-of lowest t {g} e h = rw e (down-less lowest t g h)
 
 -- from a gear that does not suit the search goes on at the next one down
-module _ {car : Vehicle} {k : Numbers} {ratio n p : List ℕ} (L : Lent car k ratio n p) (here : Place) (later : is-first here ≡ false) (v : ℕ) {least : ℕ} (e : least ≡ 1000 * minimum car here 3) where
-  pub goes-down : (y : ℤ) {g r : ℕ} → r ≡ next-down (leb least (at ratio 2 * v)) g → 1 ≤ g → g ≤ car .ng → suits-for car here v y g ≡ false
+module _ {car : Vehicle} {k : Numbers} {ratio n p : List ℕ} (L : Lent car k ratio n p) (here : Place) (later : is-first here ≡ false) (v : ℕ) {least : ℕ} (e : least ≡ 1000 * minimum car here (low-in k + 2)) where
+  pub goes-down : (y : ℤ) {g r : ℕ} → r ≡ next-down (low-in k) (leb least (at ratio (low-in k + 1) * v)) g → 1 ≤ g → g ≤ car .ng → suits-for car here v y g ≡ false
       → Down (suits-for car here v y) (car .ng) g → Down (suits-for car here v y) (car .ng) r
   unfolding next-down _or_
   goes-down y {g} {r} d a b fails inv =
-      by-order (at ratio 2 * v) least
-      (λ l. by-order 3 g
-      (λ c. let z : r ≡ 2 = d ∙ rw (lt-leb least (at ratio 2 * v) l, lt-leb g 3 c) in rw z (skips L here later v e l y b (omega arith) inv))
-      (λ c. let z : r ≡ g - 1 = d ∙ rw (lt-leb least (at ratio 2 * v) l, le-leb g 3 c) in rw z (again inv a fails)))
-      (λ l. let z : r ≡ g - 1 = d ∙ rw (le-leb least (at ratio 2 * v) l) in rw z (again inv a fails))
+      let x = at ratio (low-in k + 1) * v in
+      by-order x least
+      (λ l. by-order (low-in k + 2) g
+      (λ c. let z : r ≡ low-in k + 1 = d ∙ rw (lt-leb least x l, lt-leb g (low-in k + 2) c) in rw z (skips L here later v e l y b (omega arith) inv))
+      (λ c. let z : r ≡ g - 1 = d ∙ rw (lt-leb least x l, le-leb g (low-in k + 2) c) in rw z (again inv a fails)))
+      (λ l. let z : r ≡ g - 1 = d ∙ rw (le-leb least x l) in rw z (again inv a fails))
 
 -- ---- the choice, where E is the required power
 
@@ -165,18 +177,18 @@ choice-fits car here v d n =
     (λ t. let o = eqb-false _ _ t in rw (choose-highest car here v d o) (and-left _ _ (highest-holds (suits car here v d) (car .ng) o .0)))
 
 module _ (car : Vehicle) (b : InBounds car) (v : ℕ) where
-  -- a gear that fits there is first gear
-  fits-first : (g : ℕ) → fits car First v g ≡ true → g ≡ 1
+  -- a gear that fits there is the lowest
+  fits-first : (g : ℕ) → fits car First v g ≡ true → g ≡ low car
   unfolding is-first
-  fits-first g t = by-test (eqb g 1) (λ e. eqb-true _ _ e) (λ e. clash t (sym (fits-not car First v g (eqb-false _ _ e) refl)))
+  fits-first g t = by-test (eqb g (low car)) (λ e. eqb-true _ _ e) (λ e. clash t (sym (fits-not car First v g (eqb-false _ _ e) refl)))
 
-  -- the choice is first gear if it fits, otherwise 0
+  -- the choice is the lowest gear if it fits, otherwise 0
   pub choice-first : (d : ℤ) → only-first car v ≡ choose car First v d
   unfolding only-first
   choice-first d =
       let plain = first-choice-plainly car First v d b in
-      by-test (fits car First v 1)
-      (λ t. let n : choose car First v d ≢ 0 = λ z. clash t (plain .none-fits z 1 (omega (arith, b .low-ng, low-is car))) in
+      by-test (fits car First v (low car))
+      (λ t. let n : choose car First v d ≢ 0 = λ z. clash t (plain .none-fits z (low car) (omega (arith, b .low-ng))) in
       rw t (sym (fits-first (choose car First v d) (choice-fits car First v d n))))
       (λ t. let no : NoGear car (fits car First v) = λ g l. by-test (fits car First v g) (λ u. clash (rw (fits-first g u) at u) t) (λ u. u) in
       rw t (sym (plain .choice-none no)))

@@ -8,6 +8,10 @@ use Rattle.once.specs.Determined.{Determined}
 use Rattle.gears.proofs.Parts.{built-has}
 use Rattle.gears.proofs.second.top.Kinds as top-kinds
 use Rattle.gears.proofs.second.top.Reads as top-reads
+use Rattle.gears.proofs.second.lowest.Kinds as lowest-kinds
+use Rattle.gears.proofs.second.lowest.Reads as lowest-reads
+use Rattle.gears.proofs.second.not_driven.Kinds as not-driven-kinds
+use Rattle.gears.proofs.second.not_driven.Reads as not-driven-reads
 use Rattle.gears.proofs.second.engine.Kinds as engine-kinds
 use Rattle.gears.proofs.second.engine.Reads as engine-reads
 use Rattle.gears.proofs.second.minimum.Kinds as minimum-kinds
@@ -45,6 +49,12 @@ use Rattle.gears.proofs.choice.choice_after.Reads as choice-after-reads
 
 pub top : Determined top-kinds.ps top-kinds.r top-reads.Asked top-reads.Learnt
 top κs a asked z z′ ws ws′ p q = (p ∙ sym q, refl)
+
+pub lowest : Determined lowest-kinds.ps lowest-kinds.r lowest-reads.Asked lowest-reads.Learnt
+lowest κs a asked z z′ ws ws′ p q = (p ∙ sym q, refl)
+
+pub not-driven : Determined not-driven-kinds.ps not-driven-kinds.r not-driven-reads.Asked not-driven-reads.Learnt
+not-driven κs a asked z z′ ws ws′ p q = let C = built-has (a .0) [] .counts in (p .1 _ C ∙ sym (q .1 _ C), refl)
 
 pub engine : Determined engine-kinds.ps engine-kinds.r engine-reads.Asked engine-reads.Learnt
 engine κs a asked z z′ ws ws′ p q = (p ∙ sym q, refl)

@@ -23,7 +23,7 @@ pub record Halving (n : List ℕ) (points x lo hi : ℕ) : Type 0 where
 
 -- a vehicle with this curve
 with-curve : List ℕ → ℕ → Vehicle
-with-curve n points = record { ng = 0; ratio = []; idle = 0; rated = 0; nmax = 0; f0 = 0; f1 = pos 0; f2 = 0; tm = 0; margin = 0; points = points; n = n; p = []; m = [] }
+with-curve n points = record { ng = 0; ratio = []; idle = 0; rated = 0; nmax = 0; f0 = 0; f1 = pos 0; f2 = 0; tm = 0; margin = 0; points = points; n = n; p = []; profile = 0; m = [] }
 
 -- all segments, to begin with
 pub begin : {n : List ℕ} {points x : ℕ} → Curve n points x → Halving n points x 0 (points - 2)

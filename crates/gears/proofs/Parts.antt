@@ -11,14 +11,14 @@ use Rattle.rules.specs.Gears.{engine, required}
 use Rattle.rules.specs.Vocabulary.{nested}
 use Rattle.rules.proofs.Laws.Nested.{required-nested}
 use Rattle.gears.specs.declared.Numbers.{Numbers}
-use Rattle.gears.specs.Parts.{numbers-of, Counts, Has}
-
--- the lowest gear, which the code writes as a number
-pub low-is : (car : Vehicle) → low car ≡ 1
-unfolding low
-low-is car = refl
+use Rattle.gears.specs.Parts.{numbers-of, low-in, Counts, Has}
 
 module _ {car : Vehicle} {k : Numbers} (C : Counts car k) where
+  -- the lowest gear, from the numbers
+  pub low-of : low car ≡ low-in k
+  unfolding low
+  low-of = ap low-in (C .numbers)
+
   pub ng-of : car .ng ≡ k .ng
   ng-of = ap (λ (x : Numbers). x .ng) (C .numbers)
 
@@ -71,6 +71,7 @@ built k ratio = record {
   tm = k .tm;
   margin = 0;
   points = k .points;
+  profile = k .profile;
   n = [];
   p = [];
   m = [];

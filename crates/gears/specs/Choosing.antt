@@ -1,6 +1,6 @@
 -- The rules of a choice over the parts that the functions are lent, and what those functions ask of them.
 -- Assumes nothing.
-use Prim.Native.Nat.{ℕ, suc, _-_, _*_, _≤_, _<_}
+use Prim.Native.Nat.{ℕ, suc, _+_, _-_, _*_, _≤_, _<_}
 use mathlib.Core.Path.{_≡_, refl}
 use mathlib.Core.Logic.{_≢_}
 use mathlib.Core.Bool.{Bool, true}
@@ -15,7 +15,7 @@ use Rattle.rules.specs.declared.Place.{Place}
 use Rattle.rules.specs.declared.Place.the-variants.{First}
 use Rattle.rules.specs.Words.{if_then_else_, _and_, _or_, at, first, pass}
 use Rattle.rules.specs.Gears.{Power, fits, power, strongest, choose, reaches, segment}
-use Rattle.rules.specs.Units.{fastest, steepest, rise}
+use Rattle.rules.specs.Units.{low, fastest, steepest, rise}
 use Rattle.rules.specs.Corrections.{here, first-choice}
 use Rattle.gears.specs.declared.Numbers.{Numbers}
 use Rattle.gears.specs.declared.Power as code
@@ -102,13 +102,20 @@ pub record Pace (v : ℕ) (d : ℤ) : Type 0 where
   pub v-to : v ≤ fastest
   pub d-in : natAbs d ≤ steepest
 
--- the choice at a trip's first second: first gear if it fits, otherwise 0
+-- the choice at a trip's first second: the lowest gear if it fits, otherwise 0
 unfoldable pub only-first : Vehicle → ℕ → ℕ
-only-first car v = if fits car First v 1 then 1 else 0
+only-first car v = if fits car First v (low car) then low car else 0
 
--- the gear to look at after gear g: second gear, where no gear above it is in reach, else the one below g
-unfoldable pub next-down : Bool → ℕ → ℕ
-next-down reached g = if reached or leb g 3 then g - 1 else 2
+-- the gear to look at after gear g: the one above the lowest, where no gear above that is in reach, else the one below g
+unfoldable pub next-down : ℕ → Bool → ℕ → ℕ
+next-down lowest reached g = if reached or leb g (lowest + 2) then g - 1 else lowest + 1
+
+-- a lowest gear of either profile, and a gear from it on
+pub record FromLowest (lowest g : ℕ) : Type 0 where
+  pub one-or-two : lowest ≤ 2
+  pub from : 1 ≤ lowest
+  pub above : lowest ≤ g
+  pub to : g ≤ 10
 
 -- the first choice: the held gear if there is one, otherwise the rules' choice; 0 where no gear fits
 unfoldable pub first-of : Vehicle → Place → ℕ → ℤ → ℕ → ℕ

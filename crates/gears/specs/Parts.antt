@@ -1,7 +1,7 @@
 -- A vehicle in parts: what its numbers and its lent arrays say of it. A contract that does not look at a part holds for every vehicle that has the
 -- others.
 -- Assumes nothing.
-use Prim.Native.Nat.{ℕ, _<_}
+use Prim.Native.Nat.{ℕ, _+_, _<_}
 use mathlib.Core.Path.{_≡_}
 use mathlib.Core.List.{List}
 use lib.IntN.{pos}
@@ -23,7 +23,12 @@ numbers-of car = record {
   f2 = car .f2;
   tm = car .tm;
   points = car .points;
+  profile = car .profile;
 }
+
+-- their lowest gear
+abbrev pub low-in : Numbers → ℕ
+low-in k = 1 + k .profile
 
 -- the vehicle has these numbers
 pub record Counts (car : Vehicle) (k : Numbers) : Type 0 where

@@ -8,15 +8,16 @@ use Rattle.rules.specs.declared.Vehicle.{Vehicle}
 use Rattle.rules.specs.Words.{at}
 use Rattle.rules.specs.Units.{fastest, steepest}
 use Rattle.gears.specs.declared.Numbers.{Numbers}
+use Rattle.gears.specs.Parts.{low-in}
 
 -- a gear that the array of ratios has a place for
 pub record Gear (g : ℕ) : Type 0 where
   pub from : 1 ≤ g
   pub to : g ≤ 10
 
--- gear 1 or above, of a vehicle whose rated speed is not below idle
+-- the lowest gear or above, of a vehicle whose rated speed is not below idle
 pub record Lowest (k : Numbers) (g : ℕ) : Type 0 where
-  pub from : 1 ≤ g
+  pub from : low-in k ≤ g
   pub rated-from : k .idle ≤ k .rated
 
 -- a gear, of a vehicle whose rated speed is not below idle
@@ -24,6 +25,11 @@ pub record GearOf (k : Numbers) (g : ℕ) : Type 0 where
   pub from : 1 ≤ g
   pub to : g ≤ 10
   pub rated-from : k .idle ≤ k .rated
+
+-- a vehicle whose gears all have a place, and whose lowest is one of them
+pub record Driven (k : Numbers) : Type 0 where
+  pub ng-to : k .ng ≤ 10
+  pub low-to : low-in k ≤ k .ng
 
 -- a vehicle whose gears all have a place, and whose rated speed is not below idle
 pub record Geared (k : Numbers) : Type 0 where

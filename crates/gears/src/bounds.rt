@@ -158,11 +158,21 @@ fn ends_good(n: &[u16; 64], points: u16, idle: u16, nmax: u16) -> bool
     nmax <= n[last]
 }
 
+// The profile is 0 or 1, and above a crawler there are two gears at least.
+fn gears_good(profile: u16, ng: u16) -> bool
+    ensures { λ r. ⌜ r ≡ (leb profile 1 and within (1 + profile + 1) 10 ng) ⌝ }
+{
+    if 1 < profile {
+        return false;
+    }
+    within(profile + 2, 10, ng)
+}
+
 // The first field out of bounds is refused.
 pub fn check_vehicle(car: Vehicle) -> Answer
     ensures { λ r. ⌜ said r ≡ vehicle-fault car ⌝ }
 {
-    if !within(2, 10, car.ng) {
+    if !gears_good(car.profile, car.ng) {
         return Answer::Refused(Refusal::VehicleField(1));
     }
     if !ratios_good(&car.ratio, car.ng) {

@@ -1,16 +1,16 @@
 // The first choice of one second.
 ghost use mathlib.Core.Path.{_≡_};
 ghost use mathlib.Core.Bool.{false};
-ghost use Prim.Native.Nat.{_-_, _*_, _≤_};
+ghost use Prim.Native.Nat.{_+_, _-_, _*_, _≤_};
 ghost use lib.Dec.{leb};
 ghost use lib.IntN.{pos, natAbs, _-ℤ_};
 ghost use Rattle.rules.specs.Words.{at};
 ghost use Rattle.rules.specs.declared.Vehicle.{Vehicle};
 ghost use Rattle.rules.specs.Gears.{is-first, minimum, fits, more, strongest, choose};
 ghost use Rattle.rules.specs.Corrections.{place-of};
-ghost use Rattle.gears.specs.Parts.{Counts, Has, Lent, Parts};
+ghost use Rattle.gears.specs.Parts.{low-in, Counts, Has, Lent, Parts};
 ghost use Rattle.gears.specs.Second.{GearOf};
-ghost use Rattle.gears.specs.Choosing.{power-of, PowerSized, most-E, Weighed, enough-for, suits-for, InGear, Strongest, Pace, only-first, next-down, first-of};
+ghost use Rattle.gears.specs.Choosing.{power-of, PowerSized, most-E, Weighed, enough-for, suits-for, InGear, Strongest, Pace, FromLowest, only-first, next-down, first-of};
 use crate::Best;
 use crate::Numbers;
 use crate::Power;
@@ -18,6 +18,7 @@ use crate::curve::power_at;
 use crate::second::engine;
 use crate::second::fits;
 use crate::second::is_first;
+use crate::second::lowest;
 use crate::second::minimum;
 use crate::second::required;
 use crate::second::step_of;
@@ -40,12 +41,12 @@ pub fn more(a: Power, b: Power) -> bool
     b.q * a.w < a.q * b.w
 }
 
-// Whether a gear fits at a later second of a trip. Third gear and those above share one minimum, of engine speed `least`.
+// Whether a gear fits at a later second of a trip. The gears from two above the lowest on share one minimum, of engine speed `least`.
 fn fits_later(k: Numbers, ratio: &[u16; 10], here: Place, v: u16, least: u64, g: usize) -> bool
-    requires { ⌜ GearOf k g × (is-first here ≡ false) × ((car : Vehicle) → Counts car k → least ≡ 1000 * minimum car here 3) ⌝ }
+    requires { ⌜ GearOf k g × (is-first here ≡ false) × ((car : Vehicle) → Counts car k → least ≡ 1000 * minimum car here (low-in k + 2)) ⌝ }
     ensures { λ r. ⌜ ((car : Vehicle) → Has car k (now (ratio .entry)) → r ≡ fits car here v g) ⌝ }
 {
-    if g <= 2 {
+    if g <= lowest(k) + 1 {
         return fits(k, ratio, here, v, g);
     }
     let x = engine(ratio, g, v);
@@ -67,7 +68,7 @@ fn suits<'a>(
     least: u64,
     g: usize,
 ) -> bool
-    requires { ⌜ Parts k (now ratio) (now n) (now p) × InGear k g × (natAbs e ≤ most-E) × (is-first here ≡ false) × ((car : Vehicle) → Counts car k → least ≡ 1000 * minimum car here 3) ⌝ }
+    requires { ⌜ Parts k (now ratio) (now n) (now p) × InGear k g × (natAbs e ≤ most-E) × (is-first here ≡ false) × ((car : Vehicle) → Counts car k → least ≡ 1000 * minimum car here (low-in k + 2)) ⌝ }
     ensures { λ r. ⌜ ((car : Vehicle) → Lent car k (now (ratio .entry)) (now (n .entry)) (now (p .entry)) → r ≡ suits-for car here v e g) ⌝ }
 {
     if fits_later(k, ratio, here, v, least, g) {
@@ -125,7 +126,7 @@ pub fn strongest<'a>(
         gear: 0,
         power: Power { q: 0, w: 1 },
     };
-    let mut g: usize = 0;
+    let mut g = lowest(k) - 1;
     while g < k.ng as usize {
         g += 1;
         best = stronger(best, k, ratio, n, p, here, v, g);
@@ -133,25 +134,26 @@ pub fn strongest<'a>(
     best.gear
 }
 
-// The choice at a trip's first second: first gear, the only one that may fit; 0 where it does not.
+// The choice at a trip's first second: the lowest gear, the only one that may fit; 0 where it does not.
 fn only_first(k: Numbers, ratio: &[u16; 10], v: u16) -> usize
-    requires { ⌜ k .idle ≤ k .rated ⌝ }
+    requires { ⌜ (k .idle ≤ k .rated) × (low-in k ≤ 10) ⌝ }
     ensures { λ r. ⌜ ((car : Vehicle) → Has car k (now (ratio .entry)) → r ≡ only-first car v) ⌝ }
 {
-    if fits(k, ratio, Place::First, v, 1) {
-        return 1;
+    let low = lowest(k);
+    if fits(k, ratio, Place::First, v, low) {
+        return low;
     }
     0
 }
 
-// The next gear to look at below g. Where third gear does not reach the minimum that it shares with those above, none of them does.
-fn below(ratio: &[u16; 10], v: u16, least: u64, g: usize) -> usize
-    requires { ⌜ 1 ≤ g ⌝ }
-    ensures { λ r. ⌜ r ≡ next-down (leb least (at (now (ratio .entry)) 2 * v)) g ⌝ }
+// The next gear to look at below g. Where the gear two above the lowest does not reach the minimum that it shares with those above, none of them does.
+fn below(low: usize, ratio: &[u16; 10], v: u16, least: u64, g: usize) -> usize
+    requires { ⌜ FromLowest low g ⌝ }
+    ensures { λ r. ⌜ r ≡ next-down low (leb least (at (now (ratio .entry)) (low + 1) * v)) g ⌝ }
 {
-    if 3 < g {
-        if engine(ratio, 3, v) < least {
-            return 2;
+    if low + 2 < g {
+        if engine(ratio, low + 2, v) < least {
+            return low + 1;
         }
         return g - 1;
     }
@@ -171,21 +173,22 @@ pub fn choose<'a>(
     requires { ⌜ Parts k (now ratio) (now n) (now p) × Pace v d ⌝ }
     ensures { λ r. ⌜ ((car : Vehicle) → Lent car k (now (ratio .entry)) (now (n .entry)) (now (p .entry)) → r ≡ choose car here v d) ⌝ }
 {
-    // a trip begins in first gear, whatever power it has
+    // a trip begins in the lowest gear, whatever power it has
     if is_first(here) {
         return only_first(k, ratio, v);
     }
     let e = required(k, v, d);
-    let least = 1000 * minimum(k, here, 3);
+    let low = lowest(k);
+    let least = 1000 * minimum(k, here, low + 2);
     let mut g = k.ng as usize;
     loop {
-        if g == 0 {
+        if g < low {
             break strongest(k, ratio, n, p, here, v);
         }
         if suits(k, ratio, n, p, here, v, e, least, g) {
             break g;
         }
-        g = below(ratio, v, least, g);
+        g = below(low, ratio, v, least, g);
     }
 }
 
@@ -210,8 +213,8 @@ pub fn first_choice<'a>(
 }
 
 // What a second is in its trip: the first of these that it is. `before` is the first choice of the second before.
-fn place_of(begins: bool, closes: bool, before: u8) -> Place
-    ensures { λ r. ⌜ ((car : Vehicle) → r ≡ place-of car begins closes before) ⌝ }
+fn place_of(k: Numbers, begins: bool, closes: bool, before: u8) -> Place
+    ensures { λ r. ⌜ ((car : Vehicle) → Counts car k → r ≡ place-of car begins closes before) ⌝ }
 {
     if begins {
         return Place::First;
@@ -219,7 +222,7 @@ fn place_of(begins: bool, closes: bool, before: u8) -> Place
     if closes {
         return Place::Closing;
     }
-    if before == 1 {
+    if before as usize == lowest(k) {
         return Place::AfterLow;
     }
     Place::Inner
@@ -242,6 +245,6 @@ pub fn choice_after<'a>(
     requires { ⌜ Parts k (now ratio) (now n) (now p) × Pace v (pos next -ℤ pos v) ⌝ }
     ensures { λ r. ⌜ ((car : Vehicle) → Lent car k (now (ratio .entry)) (now (n .entry)) (now (p .entry)) → r ≡ first-of car (place-of car begins closes before) v (pos next -ℤ pos v) hold) ⌝ }
 {
-    let here = place_of(begins, closes, before);
+    let here = place_of(k, begins, closes, before);
     first_choice(k, ratio, n, p, here, v, step_of(v, next), hold)
 }

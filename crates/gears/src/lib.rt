@@ -14,7 +14,9 @@ pub use curve::derate;
 use rules::Vehicle;
 pub use second::engine;
 pub use second::floor;
+pub use second::lowest;
 pub use second::minimum;
+pub use second::not_driven;
 pub use second::step_of;
 pub use second::top;
 
@@ -29,6 +31,7 @@ pub struct Numbers {
     pub f2: u16,
     pub tm: u16,
     pub points: u16,
+    pub profile: u16,
 }
 
 // The available power at a gear: Q/(100,000 w) tenths of kW.
@@ -57,5 +60,6 @@ pub fn numbers_of(car: Vehicle) -> Numbers
         f2: car.f2,
         tm: car.tm,
         points: car.points,
+        profile: car.profile,
     }
 }

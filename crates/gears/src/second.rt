@@ -1,13 +1,15 @@
 // One second of a trip: engine speed, minimum speed, which gears fit, the floor, the step D and the required power E.
 ghost use mathlib.Core.Path.{_≡_};
+ghost use mathlib.Core.Bool.{false};
 ghost use Prim.Native.Nat.{_+_, _-_, _*_, _≤_};
 ghost use lib.IntN.{pos, _-ℤ_};
 ghost use Rattle.rules.specs.Words.{at};
 ghost use Rattle.rules.specs.Gears.{is-first, next-minimum, minimum, fits, required};
 ghost use Rattle.rules.specs.Corrections.{floor};
+ghost use Rattle.rules.specs.Refusals.{not-driven};
 ghost use Rattle.rules.specs.declared.Vehicle.{Vehicle};
-ghost use Rattle.gears.specs.Parts.{Counts, Has};
-ghost use Rattle.gears.specs.Second.{Gear, Lowest, GearOf, Load};
+ghost use Rattle.gears.specs.Parts.{low-in, Counts, Has};
+ghost use Rattle.gears.specs.Second.{Gear, Lowest, GearOf, Driven, Load};
 use crate::Numbers;
 use rules::Place;
 
@@ -16,6 +18,27 @@ fn wide(x: u16) -> u64
     ensures { λ r. ⌜ (r ≡ x) × (r ≤ 65535) ⌝ }
 {
     x as u64
+}
+
+// The lowest gear that is driven.
+pub fn lowest(k: Numbers) -> usize
+    ensures { λ r. ⌜ r ≡ low-in k ⌝ }
+{
+    1 + k.profile as usize
+}
+
+// Whether a gear that may be held is not driven: above ng, or below the lowest. 0 is no gear.
+pub fn not_driven(k: Numbers, gear: u8) -> bool
+    ensures driven { λ r. ⌜ (r ≡ false → gear ≤ k .ng) ⌝ }
+    ensures rule { λ r. ⌜ ((car : Vehicle) → Counts car k → r ≡ not-driven car gear) ⌝ }
+{
+    if k.ng < gear as u16 {
+        return true;
+    }
+    if gear == 0 {
+        return false;
+    }
+    (gear as usize) < lowest(k)
 }
 
 // Engine speed X = G x V.
@@ -60,9 +83,9 @@ pub fn minimum(k: Numbers, here: Place, g: usize) -> u64
 {
     let idle = wide(k.idle);
     let rated = wide(k.rated);
-    match g {
-        1 => idle,
-        2 => next_minimum(k, here),
+    match g - lowest(k) {
+        0 => idle,
+        1 => next_minimum(k, here),
         _ => idle + (rated - idle + 4) / 8,
     }
 }
@@ -83,8 +106,9 @@ pub fn fits(k: Numbers, ratio: &[u16; 10], here: Place, v: u16, g: usize) -> boo
     if top(k) < x {
         return false;
     }
-    if g == 1 {
-        return true;
+    let low = lowest(k);
+    if g <= low {
+        return g == low;
     }
     if is_first(here) {
         return false;
@@ -94,12 +118,12 @@ pub fn fits(k: Numbers, ratio: &[u16; 10], here: Place, v: u16, g: usize) -> boo
 
 // The floor: the lowest gear whose X is at most 1000 x nmax; ng + 1 where there is none.
 pub fn floor(k: Numbers, ratio: &[u16; 10], v: u16) -> usize
-    requires { ⌜ k .ng ≤ 10 ⌝ }
+    requires { ⌜ Driven k ⌝ }
     ensures { λ r. ⌜ ((car : Vehicle) → Has car k (now (ratio .entry)) → r ≡ floor car v) ⌝ }
 {
     let ng = k.ng as usize;
     let most = top(k);
-    let mut g: usize = 1;
+    let mut g = lowest(k);
     while g <= ng {
         if engine(ratio, g, v) <= most {
             return g;

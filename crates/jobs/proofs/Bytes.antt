@@ -10,24 +10,30 @@ use lib.Dec.{leb}
 use Rattle.rules.specs.declared.Vehicle.{Vehicle}
 use Rattle.rules.specs.Words.{at, table}
 use Rattle.rules.specs.Groups.{form}
-use Rattle.rules.specs.Forms.{value, checked, bounded, _then_, seen, row-write, row, many, counted}
-use Rattle.rules.specs.Job.{version, gearbox, numbers, point, curve, seconds, trace, hold, rising, points-of, parts-of, vehicle, gather, holds, fields, stages, job}
+use Rattle.rules.specs.Forms.{value, only-if, checked, bounded, _then_, seen, row-write, row, many, counted}
+use Rattle.rules.specs.Job.{version, profile, gearbox, numbers, point, curve, seconds, trace, hold, rising, points-of, parts-of, vehicle, gather, holds, fields, stages, job}
 use Rattle.rules.specs.Write.{job-from, job-bytes}
 use Rattle.rules.specs.Vocabulary.{InBounds}
 use Rattle.rules.proofs.Laws.Words.{by-test, length-table, table-at}
 use Rattle.rules.proofs.Laws.Groups.{form-one, form-size}
 use Rattle.rules.proofs.Laws.Writes.{points-many}
-use Rattle.jobs.specs.Writing.{values-bytes, pair, pairs-bytes, margin, margins-bytes, points-bytes}
-use Rattle.jobs.proofs.Pieces.{values-left, values-more, values-none, values-all, points-left, points-more, points-none, margins-left, margins-more, margins-none, margins-all, margins-late, margins-early, pair-more, pair-none}
+use Rattle.jobs.specs.Writing.{values-bytes, pair, pairs-bytes, since, margin, margins-bytes, points-bytes}
+use Rattle.jobs.proofs.Pieces.{values-left, values-more, values-none, values-all, points-left, points-more, points-none, margins-left, margins-more, margins-none, margins-all, margins-late, margins-early, since-late, since-early, pair-more, pair-none}
 
--- the gears, the eight numbers, the curve
+-- the profile is written as a value
+profile-bytes : (v x : ℕ) → profile v .write x ≡ since 3 v .write x
+unfolding profile only-if bounded checked
+profile-bytes v x = by-test (leb 3 v) (λ t. rw t) (λ t. rw t)
+
+-- the profile, the gears, the eight numbers, the curve
 pub vehicle-bytes : (v : ℕ) (car : Vehicle) → vehicle v .write car
-    ≡ (form (car .ng) ++ values-bytes (car .ratio) (car .ng))
-    ++ (values-bytes (parts-of car .1 .0) 8 ++ (form (car .points) ++ points-bytes v (points-of (car .points) (car .n) (car .p) (car .m))))
+    ≡ since 3 v .write (car .profile)
+    ++ ((form (car .ng) ++ values-bytes (car .ratio) (car .ng))
+    ++ (values-bytes (parts-of car .1 .1 .0) 8 ++ (form (car .points) ++ points-bytes v (points-of (car .points) (car .n) (car .p) (car .m)))))
 unfolding vehicle parts-of seen _then_ gearbox numbers curve counted bounded checked value many row row-write table
-vehicle-bytes v car = rw (length-table (at (car .ratio)) 0 (car .ng), points-many (car .points) (car .n) (car .p) (car .m))
+vehicle-bytes v car = rw (profile-bytes v (car .profile), length-table (at (car .ratio)) 0 (car .ng), points-many (car .points) (car .n) (car .p) (car .m))
 
-pub eight-long : (car : Vehicle) → length (parts-of car .1 .0) ≡ 8
+pub eight-long : (car : Vehicle) → length (parts-of car .1 .1 .0) ≡ 8
 unfolding parts-of
 eight-long car = refl
 
@@ -91,17 +97,24 @@ pub margins-short : (v : ℕ) (ms : List ℕ) (k : ℕ) → length (margins-byte
 margins-short v ms k =
     by-test (leb 2 v) (λ e. rw (margins-late v ms k e) (values-short ms k)) (λ e. let n : length (margins-bytes v ms k) ≡ 0 = ap length (margins-early v ms k e) in omega arith)
 
+-- and of a value that not every version has
+pub since-short : (first v m : ℕ) → length (since first v .write m) ≤ 3
+since-short first v m =
+    by-test (leb first v) (λ e. rw (since-late first v m e) (form-size m .1)) (λ e. let n : length (since first v .write m) ≡ 0 = ap length (since-early first v m e) in omega arith)
+
 pub vehicle-length : (v : ℕ) (car : Vehicle) → length (vehicle v .write car)
-    ≡ length (form (car .ng)) + length (values-bytes (car .ratio) (car .ng)) + length (values-bytes (parts-of car .1 .0) 8)
+    ≡ length (since 3 v .write (car .profile))
+    + (length (form (car .ng)) + length (values-bytes (car .ratio) (car .ng))) + length (values-bytes (parts-of car .1 .1 .0) 8)
     + (length (form (car .points)) + length (values-bytes (car .n) (car .points)) + length (values-bytes (car .p) (car .points)))
     + length (margins-bytes v (car .m) (car .points))
 vehicle-length v car =
     let a = form (car .ng) in
     let b = values-bytes (car .ratio) (car .ng) in
-    let c = values-bytes (parts-of car .1 .0) 8 in
+    let c = values-bytes (parts-of car .1 .1 .0) 8 in
     let d = form (car .points) in
     let e = points-bytes v (points-of (car .points) (car .n) (car .p) (car .m)) in
-    omega (arith, ap length (vehicle-bytes v car), length-append (a ++ b) (c ++ (d ++ e)), length-append a b, length-append c (d ++ e), length-append d e, points-size v (car .n) (car .p) (car .m) (car .points))
+    let f = since 3 v .write (car .profile) in
+    omega (arith, ap length (vehicle-bytes v car), length-append f ((a ++ b) ++ (c ++ (d ++ e))), length-append (a ++ b) (c ++ (d ++ e)), length-append a b, length-append c (d ++ e), length-append d e, points-size v (car .n) (car .p) (car .m) (car .points))
 
 -- pairs are six bytes at most
 pub pairs-short : (l : List (ℕ × ℕ)) → length (pairs-bytes l) ≤ 6 * length l
@@ -109,7 +122,7 @@ pairs-short [] = omega (arith, ap length pair-none)
 pairs-short (x ∷ l) =
     omega (arith, ap length (pair-more x l), length-append (form (x .0)) (form (x .1) ++ pairs-bytes l), length-append (form (x .1)) (pairs-bytes l), form-size (x .0) .1, form-size (x .1) .1, pairs-short l)
 
-pub job-length : (v : ℕ) (car : Vehicle) (vs hs : List ℕ) → v ≤ 2 → length (job-bytes v car vs hs)
+pub job-length : (v : ℕ) (car : Vehicle) (vs hs : List ℕ) → v ≤ 3 → length (job-bytes v car vs hs)
     ≡ 1 + length (vehicle v .write car) + (length (form (length vs)) + length (values-bytes vs (length vs))) + length (form (length (gather 0 hs))) + length (pairs-bytes (gather 0 hs))
 job-length v car vs hs small =
     let a = vehicle v .write car in
@@ -120,6 +133,6 @@ job-length v car vs hs small =
     omega (arith, ap length (job-pieces v car vs hs), length-append (form v) (a ++ ((b ++ c) ++ (d ++ e))), length-append a ((b ++ c) ++ (d ++ e)), length-append (b ++ c) (d ++ e), length-append b c, length-append d e, ap length (form-one v (omega arith)))
 
 -- a vehicle in bounds has no more bytes than this
-pub vehicle-short : (v : ℕ) (car : Vehicle) → InBounds car → length (vehicle v .write car) ≤ 636
+pub vehicle-short : (v : ℕ) (car : Vehicle) → InBounds car → length (vehicle v .write car) ≤ 639
 vehicle-short v car b =
-    omega (arith, b .ng-to, b .points-to, vehicle-length v car, margins-short v (car .m) (car .points), form-size (car .ng) .1, values-short (car .ratio) (car .ng), values-short (parts-of car .1 .0) 8, form-size (car .points) .1, values-short (car .n) (car .points), values-short (car .p) (car .points))
+    omega (arith, b .ng-to, b .points-to, vehicle-length v car, since-short 3 v (car .profile), margins-short v (car .m) (car .points), form-size (car .ng) .1, values-short (car .ratio) (car .ng), values-short (parts-of car .1 .1 .0) 8, form-size (car .points) .1, values-short (car .n) (car .points), values-short (car .p) (car .points))

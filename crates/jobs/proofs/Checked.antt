@@ -18,21 +18,21 @@ use Rattle.rules.specs.declared.Answer.the-variants.{Done, Refused}
 use Rattle.rules.specs.Words.{if_then_else_, _and_, within, at, every}
 use Rattle.rules.specs.Units.{bad-field}
 use Rattle.rules.specs.Refusals.{Fault, number, place, answer-place, said, refuse-at, _orelse_, when, trace-fault, room-fault, vehicle-fault, seconds-fault}
-use Rattle.rules.specs.Write.{holds-fault, version-fault, margin-field, lower-field, fields-fault, checks-fault}
+use Rattle.rules.specs.Write.{holds-fault, version-fault, profile-field, margin-field, lower-field, fields-fault, checks-fault}
 use Rattle.rules.proofs.Laws.Words.{by-test, by-order, and-no}
 use Rattle.rules.proofs.Laws.Checks.{orelse-none, none-orelse, orelse-assoc, refuse-none, none-when}
 use Rattle.rules.proofs.Laws.Vehicle.{every-all}
 use Rattle.rules.proofs.Laws.Walk.{Every}
 use Rattle.rules.proofs.Laws.Writes.{lower-none}
 use Rattle.checks.proofs.Rows.{opening, Opened, opened, said-first, said-none}
-use Rattle.jobs.specs.Writing.{told-fault, before-margin}
+use Rattle.jobs.specs.Writing.{told-fault, before-field}
 
 and-true : (a : Bool) → a and true ≡ a
 unfolding _and_
 and-true true = refl
 and-true false = refl
 
--- ---- a margin in version 1
+-- ---- a field that the version has no place for
 
 -- past the end of a list of margins nothing is marked
 pub none-past : (m : List ℕ) {k hi : ℕ} {r : Bool} → Every (λ j. eqb (at m j) 0) k hi r → length m ≤ k → k ≤ hi → r ≡ true
@@ -46,21 +46,45 @@ lower-alone none = refl
 lower-alone (some f) = refl
 
 -- what refuses before the fields stands
-keeps : (n : ℕ) (t : Bool) (r s : Option Fault) → before-margin r ≡ s → before-margin (refuse-at n (when t 0) orelse r) ≡ (refuse-at n (when t 0) orelse s)
-unfolding before-margin refuse-at when _orelse_
-keeps n true r s e = refl
-keeps n false r s e = e
+keeps : (d n : ℕ) (t : Bool) (r s : Option Fault) → before-field d r ≡ s → before-field d (refuse-at n (when t 0) orelse r) ≡ (refuse-at n (when t 0) orelse s)
+unfolding before-field refuse-at when _orelse_
+keeps d n true r s e = rw (le-ltb d 0 (omega arith))
+keeps d n false r s e = e
 
 -- of the fields the lower one is named
-lowers : (f : Option ℕ) → before-margin (refuse-at 3 f) ≡ refuse-at 3 (lower-field f (some 12))
-unfolding before-margin refuse-at lower-field
-lowers none = refl
-lowers (some f) =
-    by-order 12 f
-    (λ h. let e : min f 12 ≡ 12 = omega arith in rw (lt-ltb 12 f h, e))
-    (λ h. let e : min f 12 ≡ f = omega arith in rw (le-ltb 12 f h, e))
+lowers : (d : ℕ) (f : Option ℕ) → before-field d (refuse-at 3 f) ≡ refuse-at 3 (lower-field f (some d))
+unfolding before-field refuse-at lower-field
+lowers d none = refl
+lowers d (some f) =
+    by-order d f
+    (λ h. let e : min f d ≡ d = omega arith in rw (lt-ltb d f h, e))
+    (λ h. let e : min f d ≡ f = omega arith in rw (le-ltb d f h, e))
+
+-- there is no field before the first, so it is named whether or not a margin has a place
+one-first : (f : Option ℕ) (t : Bool) → lower-field (lower-field f (some 1)) (when t 12) ≡ lower-field f (some 1)
+unfolding lower-field when
+one-first none true = refl
+one-first none false = refl
+one-first (some f) true = let e : min (min f 1) 12 ≡ min f 1 = omega arith in rw e
+one-first (some f) false = refl
 
 module _ (v : ℕ) (car : Vehicle) where
+  -- the lowest of the fields, where one has no place
+  abbrev pub named : Option ℕ
+  named = lower-field (lower-field (bad-field car) (profile-field v car)) (margin-field v car)
+
+  module _ {t : Bool} (e : t ≡ (not (leb 3 v) and not (eqb (car .profile) 0))) where
+    pub profile-absent : t ≡ false → profile-field v car ≡ none
+    unfolding profile-field when
+    profile-absent f = rw (← e, f)
+
+    pub profile-named : t ≡ true → named ≡ lower-field (bad-field car) (some 1)
+    unfolding profile-field margin-field when
+    profile-named f = rw (← e, f) (one-first (bad-field car) (not (leb 2 v) and not (every (λ k. eqb (at (car .m) k) 0) 0 (car .points))))
+
+  pub margin-named : profile-field v car ≡ none → margin-field v car ≡ some 12 → named ≡ lower-field (bad-field car) (some 12)
+  margin-named p m = rw (p, m, lower-alone)
+
   pub margin-late : 2 ≤ v → margin-field v car ≡ none
   unfolding margin-field when _and_
   margin-late h = rw (le-leb 2 v h)
@@ -79,17 +103,17 @@ module _ {x : Answer} {q : Refusal} (e : x ≡ Refused q) {p : ℕ} (f : p ≡ a
   its-place : p ≡ place q
   its-place = f ∙ ap answer-place e
 
-  pub gives-way : 12 < p → said (Refused (VehicleField 12)) ≡ before-margin (said x)
-  unfolding said before-margin
-  gives-way h = rw (e, lt-ltb 12 (place q) (omega (arith, its-place)))
+  pub gives-way : (d : ℕ) → d < p → said (Refused (VehicleField d)) ≡ before-field d (said x)
+  unfolding said before-field
+  gives-way d h = rw (e, lt-ltb d (place q) (omega (arith, its-place)))
 
-  pub is-kept : p ≤ 12 → said x ≡ before-margin (said x)
-  unfolding said before-margin
-  is-kept h = rw (e, le-ltb 12 (place q) (omega (arith, its-place)))
+  pub is-kept : (d : ℕ) → p ≤ d → said x ≡ before-field d (said x)
+  unfolding said before-field
+  is-kept d h = rw (e, le-ltb d (place q) (omega (arith, its-place)))
 
-pub in-its-place : said (Refused (VehicleField 12)) ≡ before-margin (said Done)
-unfolding said before-margin
-in-its-place = refl
+pub in-its-place : (d : ℕ) → said (Refused (VehicleField d)) ≡ before-field d (said Done)
+unfolding said before-field
+in-its-place d = refl
 
 -- ---- 14, and 1 to 3
 
@@ -99,24 +123,24 @@ module _ (v : ℕ) (car : Vehicle) (vs hs : List ℕ) where
   unfolding room-fault holds-fault
   one-room = let e = eq-eqb (length vs) (length vs) refl in rw (e, and-true)
 
-  pub told-version : within 1 2 v ≡ false → said (Refused BadVersion) ≡ told-fault v car vs hs
+  pub told-version : within 1 3 v ≡ false → said (Refused BadVersion) ≡ told-fault v car vs hs
   unfolding told-fault version-fault said refuse-at when _orelse_
   told-version e = rw e
 
-  module _ (known : within 1 2 v ≡ true) where
+  module _ (known : within 1 3 v ≡ true) where
     after-version : (r : Option Fault) → (version-fault v orelse r) ≡ r
     unfolding version-fault
     after-version r = none-orelse _ _ (none-when 14 _ 0 (rw known))
 
-    pub told-plain : margin-field v car ≡ none → {f : Option Fault} → f ≡ opening car vs hs vs → f ≡ told-fault v car vs hs
+    pub told-plain : profile-field v car ≡ none → margin-field v car ≡ none → {f : Option Fault} → f ≡ opening car vs hs vs → f ≡ told-fault v car vs hs
     unfolding told-fault fields-fault vehicle-fault
-    told-plain m e = e ∙ sym (after-version _ ∙ rw (m, lower-alone, one-room))
+    told-plain p m e = e ∙ sym (after-version _ ∙ rw (p, m, lower-alone, lower-alone, one-room))
 
-    pub told-marked : margin-field v car ≡ some 12 → {f : Option Fault} → f ≡ opening car vs hs vs → before-margin f ≡ told-fault v car vs hs
+    pub told-named : (d : ℕ) → named v car ≡ lower-field (bad-field car) (some d) → {f : Option Fault} → f ≡ opening car vs hs vs → before-field d f ≡ told-fault v car vs hs
     unfolding told-fault fields-fault vehicle-fault trace-fault holds-fault
-    told-marked m {f} e =
-        rw e (ap (λ (r : Option Fault). before-margin (trace-fault vs orelse r orelse vehicle-fault car)) one-room
-        ∙ keeps 1 _ _ _ (keeps 2 _ _ _ (lowers (bad-field car) ∙ rw m)))
+    told-named d m {f} e =
+        rw e (ap (λ (r : Option Fault). before-field d (trace-fault vs orelse r orelse vehicle-fault car)) one-room
+        ∙ keeps d 1 _ _ _ (keeps d 2 _ _ _ (lowers d (bad-field car) ∙ rw m)))
         ∙ sym (after-version _)
 
   -- ---- and then 4 to 9
@@ -137,7 +161,7 @@ module _ (v : ℕ) (car : Vehicle) (vs hs : List ℕ) where
         let a = orelse-none _ _ (said-none e h) in
         let b = orelse-none _ _ (a .1) in
         let c = orelse-none _ _ (b .1) in
-        let f = lower-none _ _ (refuse-none 3 _ (c .1)) .0 in
+        let f = lower-none _ _ (lower-none _ _ (refuse-none 3 _ (c .1)) .0) .0 in
         opened {x = Done} (sym (none-orelse _ _ (b .0) ∙ none-orelse _ _ (one-room ∙ c .0) ∙ rw f)) refl
 
     -- then 4 to 9 decide, and no hold is replaced

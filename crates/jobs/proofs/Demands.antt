@@ -59,7 +59,7 @@ module _ {v : ℕ} {car : Vehicle} {vs hs room : List ℕ} {w : Written} {room�
       (W .room-left ∙ fills-none room n, W .the-length ∙ ap length n)
 
 -- ---- Demand 2. From request One on it speaks of both directions: what is written reads back as the same job, and a job that is read and passes the working's
--- checks is written as the same bytes; from request Six on of both versions
+-- checks is written as the same bytes; from request Six on of each version
 
 module _ {v : ℕ} {car : Vehicle} {vs hs room : List ℕ} {w : Written} {room′ : List ℕ} (W : WriteAs v car vs hs room w room′) where
   pub demand-2-reads-back : w .answer ≡ Done → {s₀ h₀ s h : List ℕ} {r : Reading} → length vs ≤ length s₀ → length vs ≤ length h₀ → ReadAs (take (w .length) room′) s₀ h₀ r s h

@@ -16,7 +16,7 @@ use Rattle.rules.specs.Forms.{value, known, only-if, _then_, row-write, row, ma
 use Rattle.rules.specs.Job.{point, points-of, gather}
 use Rattle.rules.proofs.Laws.Words.{by-test}
 use Rattle.rules.proofs.Laws.Groups.{form-size}
-use Rattle.jobs.specs.Writing.{values-bytes, pair, pairs-bytes, margin, margins-bytes, points-bytes, hold-bytes, held-one, Put}
+use Rattle.jobs.specs.Writing.{values-bytes, pair, pairs-bytes, since, margin, margins-bytes, points-bytes, hold-bytes, held-one, Put}
 
 -- ---- one piece after another
 
@@ -168,14 +168,14 @@ pub margins-early : (v : ℕ) (ms : List ℕ) (k : ℕ) → leb 2 v ≡ false �
 unfolding only-if many row
 margins-early v ms k e = rw e (no-bytes (table (at ms) 0 k))
 
--- a margin alone
-pub margin-late : (v m : ℕ) → leb 2 v ≡ true → margin v .write m ≡ form m
+-- a value alone, in the versions that have it and before them
+pub since-late : (first v m : ℕ) → leb first v ≡ true → since first v .write m ≡ form m
 unfolding only-if value
-margin-late v m e = rw e
+since-late first v m e = rw e
 
-pub margin-early : (v m : ℕ) → leb 2 v ≡ false → margin v .write m ≡ []
+pub since-early : (first v m : ℕ) → leb first v ≡ false → since first v .write m ≡ []
 unfolding only-if known
-margin-early v m e = rw e
+since-early first v m e = rw e
 
 -- holds, of which those of the seconds before i are put
 abbrev pub held-left : List ℕ → ℕ → List (ℕ × ℕ)

@@ -15,7 +15,7 @@ use Rattle.rules.specs.Words.{_and_, within, at}
 use Rattle.rules.specs.Refusals.{Fault}
 use Rattle.rules.specs.Groups.{Read, got, refused, hand-on, _>>=_, give, demand, early, group-if, group}
 use Rattle.rules.specs.Forms.{Form, value, known, only-if, checked, bounded, _then_, seen, many, counted}
-use Rattle.rules.specs.Job.{version, gearbox, numbers, point, curve, hold, padded, vehicle-of, vehicle}
+use Rattle.rules.specs.Job.{version, profile, gearbox, numbers, point, curve, hold, padded, vehicle-of, vehicle}
 use Rattle.rules.proofs.Laws.Reading.{ends-first, ends-second, two-bad, ends-third, three-of, good, three-if}
 use Rattle.rules.proofs.Laws.Words.{by-test, by-order, and-left, and-right}
 use Rattle.rules.proofs.Laws.Vehicle.{within-lo, within-hi}
@@ -25,7 +25,7 @@ use Rattle.rules.proofs.Laws.Jobs.{point-sound}
 use Rattle.jobs.specs.Stages.{reached, Comes, used, into, gears, columns, car-of}
 use Rattle.jobs.specs.declared.Came.{Came}
 use Rattle.jobs.specs.declared.Came.the-variants as came-is
-use Rattle.jobs.proofs.Steps.{joined, ext, never, use-as-is, many-length}
+use Rattle.jobs.proofs.Steps.{joined, ext, same-value, never, use-as-is, many-length}
 
 -- ---- tests
 
@@ -129,16 +129,18 @@ module _ (job : List ℕ) (next count i : ℕ) (some-second : 1 ≤ count) where
     unfolding hand-on
     hold-gives f = rw (hold-is, ← e, ← f)
 
--- ---- a point
+-- ---- a part that versions have from the first so numbered on
 
-module _ (job : List ℕ) (v i : ℕ) where
-  pub no-margin : v < 2 → got 0 i ≡ only-if (leb 2 v) 0 value .read job i
+module _ (part : Form ℕ) (job : List ℕ) (first v i : ℕ) where
+  pub not-yet : v < first → got 0 i ≡ only-if (leb first v) 0 part .read job i
   unfolding only-if known
-  no-margin h = rw (lt-leb 2 v h)
+  not-yet h = rw (lt-leb first v h)
 
-  pub a-margin : 2 ≤ v → {r : Read ℕ} → r ≡ group job i → r ≡ only-if (leb 2 v) 0 value .read job i
-  unfolding only-if value
-  a-margin h e = rw (le-leb 2 v h) e
+  pub from-then-on : first ≤ v → {r : Read ℕ} → r ≡ part .read job i → r ≡ only-if (leb first v) 0 part .read job i
+  unfolding only-if
+  from-then-on h e = rw (le-leb first v h) e
+
+-- ---- a point
 
 module _ (job : List ℕ) (v i : ℕ) where
   pub n-stops : {f : Fault} → refused f ≡ group job i → refused f ≡ point v .read job i
@@ -202,15 +204,23 @@ module _ {A B : Type 0} (count : Form ℕ) (part : Form A) (job : List ℕ) (i :
         ∙ (ext (many part v .read job j) (λ l k come. rw (same l (many-length s job v j come))) ∙ counted-on))
 
 module _ (job : List ℕ) (i : ℕ) where
-  pub gearbox-stops : {f : Fault} → refused f ≡ bounded 2 10 3 1 .read job i → refused f ≡ used gears gearbox job i
-  unfolding gearbox
-  gearbox-stops e = counted-stops _ value job i gears e
+  -- the profile is 0 or 1
+  pub profile-in : (w : ℕ) {v j : ℕ} → got v j ≡ profile w .read job i → v ≤ 1
+  unfolding profile only-if known
+  profile-in w {v} e =
+      by-test (leb 3 w)
+      (λ t. bounded-in job 0 1 3 1 i (rw t at e) .1)
+      (λ t. let z : v ≡ 0 = same-value (rw t at e) in omega arith)
 
-  pub gearbox-on : {v j : ℕ} → got v j ≡ bounded 2 10 3 1 .read job i → (p : Came) (room : List ℕ)
-      → reached p room ≡ used (sets (replicate 10 0) 0) (many value v) job j → reached p (v, room) ≡ used gears gearbox job i
+  pub gearbox-stops : (w : ℕ) {f : Fault} → refused f ≡ bounded (2 + w) 10 3 1 .read job i → refused f ≡ used gears (gearbox w) job i
   unfolding gearbox
-  gearbox-on {v} e p room h =
-      let few = bounded-in job 2 10 3 1 i e .1 in
+  gearbox-stops w e = counted-stops _ value job i gears e
+
+  pub gearbox-on : (w : ℕ) {v j : ℕ} → got v j ≡ bounded (2 + w) 10 3 1 .read job i → (p : Came) (room : List ℕ)
+      → reached p room ≡ used (sets (replicate 10 0) 0) (many value v) job j → reached p (v, room) ≡ used gears (gearbox w) job i
+  unfolding gearbox
+  gearbox-on w {v} e p room h =
+      let few = bounded-in job (2 + w) 10 3 1 i e .1 in
       counted-reached _ value job i gears e value-sound (sets (replicate 10 0) 0) (λ x. (v, x))
       (λ l n. rw (into-zeros 10 l (omega arith), n)) p room h
 
@@ -237,26 +247,31 @@ eight-filled job i = use-as-is (many value 8) job i (λ l k come. all-filled (re
 
 -- the vehicle as its parts are read
 vehicle-is : (w : ℕ) (job : List ℕ) (i : ℕ) → vehicle w .read job i
-    ≡ hand-on (used gears gearbox job i) (λ b j. hand-on (numbers .read job j) (λ ns k. hand-on (used columns (curve w) job k) (λ c. give (car-of b ns c))))
+    ≡ hand-on (profile w .read job i) (λ x h. hand-on (used gears (gearbox x) job h) (λ b j. hand-on (numbers .read job j) (λ ns k. hand-on (used columns (curve w) job k) (λ c. give (car-of x b ns c)))))
 unfolding vehicle vehicle-of seen _then_ used hand-on
 vehicle-is w job i = simp joined
 
 module _ (job : List ℕ) (i : ℕ) where
-  pub version-stops : {f : Fault} → refused f ≡ bounded 1 2 14 0 .read job i → refused f ≡ head .read job i
+  pub version-stops : {f : Fault} → refused f ≡ bounded 1 3 14 0 .read job i → refused f ≡ head .read job i
   unfolding version _then_ hand-on
   version-stops e = rw (← e)
 
-  module _ {v j : ℕ} (e : got v j ≡ bounded 1 2 14 0 .read job i) where
-    pub gears-stop : {f : Fault} → refused f ≡ used gears gearbox job j → refused f ≡ head .read job i
+  module _ {v j : ℕ} (e : got v j ≡ bounded 1 3 14 0 .read job i) where
+    pub profile-stops : {f : Fault} → refused f ≡ profile v .read job j → refused f ≡ head .read job i
     unfolding version _then_ hand-on
-    gears-stop g = rw (← e, vehicle-is, ← g)
+    profile-stops g = rw (← e, vehicle-is, ← g)
 
-    module _ {b : ℕ × List ℕ} {k : ℕ} (g : got b k ≡ used gears gearbox job j) where
-      pub numbers-stop : {f : Fault} → refused f ≡ used (sets (replicate 8 0) 0) (many value 8) job k → refused f ≡ head .read job i
+    module _ {x h : ℕ} (q : got x h ≡ profile v .read job j) where
+      pub gears-stop : {f : Fault} → refused f ≡ used gears (gearbox x) job h → refused f ≡ head .read job i
       unfolding version _then_ hand-on
-      numbers-stop n = rw (← e, vehicle-is, ← g, ← eight-filled, ← n)
+      gears-stop g = rw (← e, vehicle-is, ← q, ← g)
 
-      pub car-on : {ns : List ℕ} {l : ℕ} → got ns l ≡ used (sets (replicate 8 0) 0) (many value 8) job k → (p : Came) (c : ℕ × (List ℕ × (List ℕ × List ℕ)))
-          → reached p c ≡ used columns (curve v) job l → reached p (v, car-of b ns c) ≡ head .read job i
-      unfolding version _then_ hand-on
-      car-on {ns} n p c h = rw (← e, vehicle-is, ← g, ← eight-filled, ← n) (reached-on p c (λ x. (v, car-of b ns x)) h ∙ simp joined)
+      module _ {b : ℕ × List ℕ} {k : ℕ} (g : got b k ≡ used gears (gearbox x) job h) where
+        pub numbers-stop : {f : Fault} → refused f ≡ used (sets (replicate 8 0) 0) (many value 8) job k → refused f ≡ head .read job i
+        unfolding version _then_ hand-on
+        numbers-stop n = rw (← e, vehicle-is, ← q, ← g, ← eight-filled, ← n)
+
+        pub car-on : {ns : List ℕ} {l : ℕ} → got ns l ≡ used (sets (replicate 8 0) 0) (many value 8) job k → (p : Came) (c : ℕ × (List ℕ × (List ℕ × List ℕ)))
+            → reached p c ≡ used columns (curve v) job l → reached p (v, car-of x b ns c) ≡ head .read job i
+        unfolding version _then_ hand-on
+        car-on {ns} n p c r = rw (← e, vehicle-is, ← q, ← g, ← eight-filled, ← n) (reached-on p c (λ y. (v, car-of x b ns y)) r ∙ simp joined)

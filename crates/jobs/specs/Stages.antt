@@ -69,9 +69,9 @@ columns points = (
   (padded most-points (map (λ x. x .0) points), (padded most-points (map (λ x. x .1 .0) points), padded most-points (map (λ x. x .1 .1) points))),
 )
 
--- the vehicle of these gears, of the eight numbers between, F1 with 5,000 added, and of these columns
-abbrev pub car-of : ℕ × List ℕ → List ℕ → ℕ × (List ℕ × (List ℕ × List ℕ)) → Vehicle
-car-of gearbox numbers curve = record {
+-- the vehicle of this profile, of these gears, of the eight numbers between, F1 with 5,000 added, and of these columns
+abbrev pub car-of : ℕ → ℕ × List ℕ → List ℕ → ℕ × (List ℕ × (List ℕ × List ℕ)) → Vehicle
+car-of crawler gearbox numbers curve = record {
   ng = gearbox .0;
   ratio = gearbox .1;
   idle = at numbers 0;
@@ -86,4 +86,5 @@ car-of gearbox numbers curve = record {
   n = curve .1 .0;
   p = curve .1 .1 .0;
   m = curve .1 .1 .1;
+  profile = crawler;
 }

@@ -26,9 +26,13 @@ pair = value then λ a. value
 abbrev pub pairs-bytes : List (ℕ × ℕ) → List ℕ
 pairs-bytes l = many pair (length l) .write l
 
+-- a value that versions have from the first so numbered on; before, it is 0 and no group
+abbrev pub since : ℕ → ℕ → Form ℕ
+since first v = only-if (leb first v) 0 value
+
 -- the first k margins, from version 2 on; and points in a row
 abbrev pub margin : ℕ → Form ℕ
-margin v = only-if (leb 2 v) 0 value
+margin v = since 2 v
 
 abbrev pub margins-bytes : ℕ → List ℕ → ℕ → List ℕ
 margins-bytes v ms k = many (margin v) k .write (table (at ms) 0 k)
@@ -57,10 +61,10 @@ pub record Put (bytes room : List ℕ) (at r : ℕ) (room′ : List ℕ) : Type 
 unfoldable pub told-fault : ℕ → Vehicle → List ℕ → List ℕ → Option Fault
 told-fault v car vs hs = version-fault v orelse trace-fault vs orelse holds-fault vs hs orelse fields-fault v car
 
--- what is refused where a margin has no place: field 12, or what comes before it
-unfoldable pub before-margin : Option Fault → Option Fault
-before-margin none = some (record { no = 3; spot = 12 })
-before-margin (some f) = if ltb 12 (f .spot) then some (record { no = 3; spot = 12 }) else some f
+-- what is refused where a field has no place: that field, or what comes before it
+unfoldable pub before-field : ℕ → Option Fault → Option Fault
+before-field field none = some (record { no = 3; spot = field })
+before-field field (some f) = if ltb field (f .spot) then some (record { no = 3; spot = field }) else some f
 
 -- these bytes, which passed the checks before, are written, or the room is too short for them
 pub record BytesAs (bytes room : List ℕ) (r : Written) (room′ : List ℕ) : Type 0 where

@@ -6,7 +6,7 @@ ghost use lib.ListN.{length};
 ghost use Rattle.rules.specs.Groups.{form};
 ghost use Rattle.rules.specs.Job.{points-of, gather, vehicle};
 ghost use Rattle.rules.specs.Vocabulary.{InBounds};
-ghost use Rattle.jobs.specs.Writing.{values-bytes, pairs-bytes, margin, points-bytes, hold-bytes, Put, Short};
+ghost use Rattle.jobs.specs.Writing.{values-bytes, pairs-bytes, since, points-bytes, hold-bytes, Put, Short};
 use crate::numbers::numbers_of;
 use rules::Vehicle;
 
@@ -99,15 +99,15 @@ pub fn put_trace(room: &mut [u8], at: usize, speeds: &[u16]) -> usize
     put_speeds(room, first, speeds)
 }
 
-// A point's margin, from version 2 on; nothing before.
-fn put_margin(room: &mut [u8], at: usize, version: u16, m: u16) -> usize
-    requires { ⌜ at + length (margin version .write m) ≤ length (now room) ⌝ }
-    ensures { λ r. ⌜ Put (margin version .write m) (now (room .entry)) at r (now (room .exit)) ⌝ }
+// A value that versions have from the first so numbered on; nothing before.
+fn put_since(room: &mut [u8], at: usize, first: u16, version: u16, v: u16) -> usize
+    requires { ⌜ at + length (since first version .write v) ≤ length (now room) ⌝ }
+    ensures { λ r. ⌜ Put (since first version .write v) (now (room .entry)) at r (now (room .exit)) ⌝ }
 {
-    if version < 2 {
+    if version < first {
         return at;
     }
-    put_group(room, at, m)
+    put_group(room, at, v)
 }
 
 // n, p and m of so many points in turn.
@@ -128,7 +128,7 @@ fn put_points<'a>(
     while i < count {
         let then = put_group(room, next, ns[i]);
         let last = put_group(room, then, ps[i]);
-        next = put_margin(room, last, version, ms[i]);
+        next = put_since(room, last, 2, version, ms[i]);
         i += 1;
     }
     next
@@ -163,13 +163,14 @@ pub fn put_held(room: &mut [u8], at: usize, holds: &[u8], count: u16) -> usize
     next
 }
 
-// The vehicle: the gears, the eight numbers, the curve.
+// The vehicle: the profile, from version 3 on; the gears, the eight numbers, the curve.
 pub fn put_vehicle(room: &mut [u8], at: usize, version: u16, car: Vehicle) -> usize
     requires { ⌜ InBounds car × (at + length (vehicle version .write car) ≤ length (now room)) ⌝ }
     ensures { λ r. ⌜ Put (vehicle version .write car) (now (room .entry)) at r (now (room .exit)) ⌝ }
 {
     let numbers = numbers_of(car);
-    let middle = put_counted(room, at, &car.ratio, car.ng);
+    let gears = put_since(room, at, 3, version, car.profile);
+    let middle = put_counted(room, gears, &car.ratio, car.ng);
     let curve = put_values(room, middle, &numbers, 8);
     let first = put_group(room, curve, car.points);
     put_points(

@@ -5,7 +5,7 @@ ghost use lib.ListN.{length};
 ghost use Rattle.rules.specs.Groups.{form};
 ghost use Rattle.rules.specs.Job.{gather, vehicle};
 ghost use Rattle.rules.specs.Vocabulary.{InBounds};
-ghost use Rattle.jobs.specs.Writing.{values-bytes, pairs-bytes, margins-bytes, hold-bytes, held-one};
+ghost use Rattle.jobs.specs.Writing.{values-bytes, pairs-bytes, since, margins-bytes, hold-bytes, held-one};
 use crate::Tally;
 use crate::numbers::numbers_of;
 use rules::Vehicle;
@@ -116,6 +116,16 @@ fn margins_size(version: u16, margins: &[u16], count: usize) -> usize
     values_size(margins, count)
 }
 
+// The bytes of a value that versions have from the first so numbered on; none before.
+fn since_size(first: u16, version: u16, v: u16) -> usize
+    ensures { λ r. ⌜ r ≡ length (since first version .write v) ⌝ }
+{
+    if version < first {
+        return 0;
+    }
+    group_size(v)
+}
+
 // The bytes of the vehicle.
 pub fn vehicle_size(version: u16, car: Vehicle) -> usize
     requires { ⌜ InBounds car ⌝ }
@@ -127,5 +137,6 @@ pub fn vehicle_size(version: u16, car: Vehicle) -> usize
     let gearbox = group_size(car.ng) + values_size(&car.ratio, gears);
     let curve = group_size(car.points) + values_size(&car.n, points) + values_size(&car.p, points);
     let margins = margins_size(version, &car.m, points);
-    gearbox + values_size(&numbers, 8) + curve + margins
+    let profile = since_size(3, version, car.profile);
+    profile + gearbox + values_size(&numbers, 8) + curve + margins
 }

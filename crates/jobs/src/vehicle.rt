@@ -5,7 +5,7 @@ ghost use lib.ListN.{length};
 ghost use lib.IntN.{pos, _-ℤ_};
 ghost use lib.Dec.{leb};
 ghost use Rattle.rules.specs.Forms.{_then_, value, only-if, many};
-ghost use Rattle.rules.specs.Job.{version, gearbox, point, curve, vehicle, blank};
+ghost use Rattle.rules.specs.Job.{version, profile, gearbox, point, curve, vehicle, blank};
 ghost use Rattle.jobs.specs.Reader.{told};
 ghost use Rattle.jobs.specs.Stages.{reached, used, into, gears, columns, car-of};
 use crate::Came;
@@ -49,15 +49,28 @@ pub fn blank() -> Vehicle
         n: [0u16; 64],
         p: [0u16; 64],
         m: [0u16; 64],
+        profile: 0,
     }
 }
 
-// The gear count and the ratios; places past the gears stay 0.
-fn gearbox_at(job: &[u8], at: usize) -> Gearbox
-    ensures { λ r. ⌜ reached (r .at) (r .ng, r .ratio) ≡ used gears gearbox (now (job .entry)) at ⌝ }
+// The profile, 0 or 1, from version 3 on; before, it is 0 and no group.
+fn profile_at(job: &[u8], at: usize, version: u16) -> Group
+    ensures { λ r. ⌜ told r ≡ profile version .read (now (job .entry)) at ⌝ }
+{
+    if version < 3 {
+        return Group::Value(0, at);
+    }
+    bounded(job, at, 0, 1, Refusal::VehicleField(1))
+}
+
+// The gear count, which is one more above a crawler, and the ratios; places past the gears stay 0.
+fn gearbox_at(job: &[u8], at: usize, profile: u16) -> Gearbox
+    requires { ⌜ profile ≤ 1 ⌝ }
+    ensures { λ r. ⌜ reached (r .at) (r .ng, r .ratio) ≡ used gears (gearbox profile) (now (job .entry)) at ⌝ }
 {
     let mut ratio = [0u16; 10];
-    let count = bounded(job, at, FEWEST_GEARS, MOST_GEARS, Refusal::VehicleField(1));
+    let fewest = FEWEST_GEARS + profile;
+    let count = bounded(job, at, fewest, MOST_GEARS, Refusal::VehicleField(1));
     let Group::Value(ng, next) = count else {
         return Gearbox {
             at: count.came(),
@@ -150,8 +163,8 @@ fn curve_at(job: &[u8], at: usize, version: u16) -> Curve
 }
 
 // The vehicle of its parts; the numbers are idle, rated, nmax, F0, F1, F2, TM and M.
-fn vehicle_of(gearbox: Gearbox, numbers: [u16; 8], curve: Curve) -> Vehicle
-    ensures { λ r. ⌜ r ≡ car-of (gearbox .ng, gearbox .ratio) numbers (curve .points, (curve .n, (curve .p, curve .m))) ⌝ }
+fn vehicle_of(profile: u16, gearbox: Gearbox, numbers: [u16; 8], curve: Curve) -> Vehicle
+    ensures { λ r. ⌜ r ≡ car-of profile (gearbox .ng, gearbox .ratio) numbers (curve .points, (curve .n, (curve .p, curve .m))) ⌝ }
 {
     let ratio = gearbox.ratio;
     let n = curve.n;
@@ -172,6 +185,7 @@ fn vehicle_of(gearbox: Gearbox, numbers: [u16; 8], curve: Curve) -> Vehicle
         n,
         p,
         m,
+        profile,
     }
 }
 
@@ -190,11 +204,15 @@ fn no_car(at: Came) -> Car
 pub fn car_at(job: &[u8]) -> Car
     ensures { λ r. ⌜ reached (r .at) (r .version, r .vehicle) ≡ (version then λ v. vehicle v) .read (now (job .entry)) 0 ⌝ }
 {
-    let version = bounded(job, 0, 1, 2, Refusal::BadVersion);
+    let version = bounded(job, 0, 1, 3, Refusal::BadVersion);
     let Group::Value(v, at) = version else {
         return no_car(version.came());
     };
-    let gearbox = gearbox_at(job, at);
+    let profile = profile_at(job, at, v);
+    let Group::Value(crawler, at) = profile else {
+        return no_car(profile.came());
+    };
+    let gearbox = gearbox_at(job, at, crawler);
     let gears = gearbox.at;
     let Came::To(at) = gears else {
         return no_car(gears);
@@ -209,6 +227,6 @@ pub fn car_at(job: &[u8]) -> Car
     Car {
         at: end,
         version: v,
-        vehicle: vehicle_of(gearbox, numbers, curve),
+        vehicle: vehicle_of(crawler, gearbox, numbers, curve),
     }
 }

@@ -1,18 +1,18 @@
-// The job writer of document 02, requests One and Six. Its length is measured first, so a room that is too short is refused with nothing written.
+// The job writer of document 02, requests One, Six and Thirteen. Its length is measured first, so a room that is too short is refused with nothing written.
 ghost use mathlib.Core.Path.{_≡_};
 ghost use mathlib.Core.Bool.{not};
 ghost use mathlib.Core.List.{List};
 ghost use mathlib.Core.Option.{none};
 ghost use Prim.Native.Nat.{ℕ, _+_, _*_, _≤_};
-ghost use lib.Dec.{eqb};
+ghost use lib.Dec.{leb, eqb};
 ghost use lib.ListN.{length};
-ghost use Rattle.rules.specs.Words.{at, every};
+ghost use Rattle.rules.specs.Words.{_and_, at, every};
 ghost use Rattle.rules.specs.Refusals.{said};
 ghost use Rattle.rules.specs.Groups.{form};
 ghost use Rattle.rules.specs.Job.{gather, vehicle};
 ghost use Rattle.rules.specs.Vocabulary.{InBounds};
 ghost use Rattle.rules.specs.Write.{job-bytes, checks-fault};
-ghost use Rattle.jobs.specs.Writing.{values-bytes, Put, before-margin, told-fault, BytesAs, WriteAs};
+ghost use Rattle.jobs.specs.Writing.{values-bytes, Put, before-field, told-fault, BytesAs, WriteAs};
 use crate::Tally;
 use crate::Written;
 use crate::puts::put_group;
@@ -126,34 +126,48 @@ fn marked(m: &[u16], points: u16) -> bool
     false
 }
 
-// What 1 to 3 answer where a margin has no place: field 12, but for a refusal that comes before it.
-fn before_margin(opening: Answer) -> Answer
-    ensures { λ r. ⌜ said r ≡ before-margin (said opening) ⌝ }
+// Whether the version has no place for this profile, which is not 0.
+fn out_of_place(version: u16, profile: u16) -> bool
+    ensures { λ r. ⌜ r ≡ (not (leb 3 version) and not (eqb profile 0)) ⌝ }
+{
+    if version < 3 {
+        return profile != 0;
+    }
+    false
+}
+
+// What 1 to 3 answer where a field has no place: that field, but for a refusal that comes before it.
+fn before_field(field: usize, opening: Answer) -> Answer
+    ensures { λ r. ⌜ said r ≡ before-field field (said opening) ⌝ }
 {
     let Answer::Done = opening else {
-        if 12 < opening.place() {
-            return Answer::Refused(Refusal::VehicleField(12));
+        if field < opening.place() {
+            return Answer::Refused(Refusal::VehicleField(field));
         }
         return opening;
     };
-    Answer::Refused(Refusal::VehicleField(12))
+    Answer::Refused(Refusal::VehicleField(field))
 }
 
-// 14 before everything else; then 1 to 3, of a trace and holds of these lengths. Version 1 has no place for a margin.
+// 14 before everything else; then 1 to 3, of a trace and holds of these lengths. Versions 1 and 2 have no place for a profile, and version 1 none for a
+// margin.
 fn check_told(version: u16, vehicle: Vehicle, seconds: usize, holds: usize) -> Answer
     ensures { λ r. ⌜ ((vs hs : List ℕ) → length vs ≡ seconds → length hs ≡ holds → said r ≡ told-fault version vehicle vs hs) ⌝ }
 {
     if version < 1 {
         return Answer::Refused(Refusal::BadVersion);
     }
-    if 2 < version {
+    if 3 < version {
         return Answer::Refused(Refusal::BadVersion);
     }
     // there is no card, so the trace itself stands for one of the right length
     let opening = check_opening(vehicle, seconds, holds, seconds);
+    if out_of_place(version, vehicle.profile) {
+        return before_field(1, opening);
+    }
     if version < 2 {
         if marked(&vehicle.m, vehicle.points) {
-            return before_margin(opening);
+            return before_field(12, opening);
         }
     }
     opening

@@ -283,7 +283,7 @@ fn changed_three(at: usize, one: u8, two: u8, three: u8)
 // Each refusal of the reader but 12, 15 and 16, which have lines of their own.
 fn refusals() {
     say(b"refusals:");
-    changed(0, 3);
+    changed(0, 4);
     changed(1, 1);
     changed(1, 11);
     changed(27, 1);
@@ -469,7 +469,7 @@ fn not_written() {
     say(b"\n");
 }
 
-// Car Z with margins at two points: version 1 has no place for them, version 2 puts each behind its p, and reads it back with them; versions 0 and 3 are
+// Car Z with margins at two points: version 1 has no place for them, version 2 puts each behind its p, and reads it back with them; versions 0 and 4 are
 // none, before everything else.
 fn margins() {
     let speeds = [0u16, 50, 150, 100, 0];
@@ -481,7 +481,7 @@ fn margins() {
     say(b"margins:");
     say_written(jobs::write(1, car, &speeds, &none, &mut room));
     say_written(jobs::write(0, car, &speeds, start(&none, 4), &mut room));
-    say_written(jobs::write(3, car, &speeds, &none, &mut room));
+    say_written(jobs::write(4, car, &speeds, &none, &mut room));
     say_written(jobs::write(2, car, &speeds, &none, &mut room));
     say_bytes(&room);
     let mut vs = [7u16; 5];
@@ -493,6 +493,75 @@ fn margins() {
     say_value(back.m[1]);
     say_value(back.m[6]);
     say_value(back.m[7]);
+    say(b"\n");
+}
+
+// Car Z in version 3, which puts its profile 0 behind the version.
+fn plain() {
+    let speeds = [0u16, 50, 150, 100, 0];
+    let none = [0u8; 5];
+    let mut room = [7u8; 72];
+    say(b"version 3:");
+    say_written(jobs::write(3, runs::car_z(), &speeds, &none, &mut room));
+    answer(start(&room, 71));
+    say_bytes(&room);
+    say(b"\n");
+}
+
+// Car Z's gears above a crawler.
+fn van() -> Vehicle {
+    let mut car = runs::car_z();
+    car.profile = 1;
+    car.ng = 6;
+    car.ratio[0] = 20000;
+    car.ratio[1] = 12000;
+    car.ratio[2] = 7000;
+    car.ratio[3] = 4500;
+    car.ratio[4] = 3500;
+    car.ratio[5] = 2800;
+    car
+}
+
+// The van written: versions 1 and 2 have no place for its profile, and a hold of its crawler is refused by 7; version 3 puts the profile behind the version, and
+// reads it back with it.
+fn vans() {
+    let speeds = [0u16, 50, 150, 100, 0];
+    let none = [0u8; 5];
+    let crawling = [0u8, 0, 1, 0, 0];
+    let car = van();
+    let mut room = [7u8; 75];
+    say(b"van:");
+    say_written(jobs::write(1, car, &speeds, &none, &mut room));
+    say_written(jobs::write(2, car, &speeds, &none, &mut room));
+    say_written(jobs::write(3, car, &speeds, &crawling, &mut room));
+    say_written(jobs::write(3, car, &speeds, &none, &mut room));
+    say_bytes(&room);
+    let mut vs = [7u16; 5];
+    let mut hs = [7u8; 5];
+    let reading = jobs::read(start(&room, 74), &mut vs, &mut hs);
+    say_value(reading.version);
+    let back = reading.vehicle;
+    say_value(back.profile);
+    say_value(back.ng);
+    say_value(back.ratio[0]);
+    say_value(back.ratio[5]);
+    say(b"\n");
+}
+
+// The van's job read with profile 2, with two gears, and cut behind the profile and behind the version.
+fn bad_vans() {
+    let speeds = [0u16, 50, 150, 100, 0];
+    let none = [0u8; 5];
+    let mut room = [7u8; 74];
+    say(b"bad van:");
+    say_written(jobs::write(3, van(), &speeds, &none, &mut room));
+    room[1] = 2;
+    answer(start(&room, 74));
+    room[1] = 1;
+    room[2] = 2;
+    answer(start(&room, 74));
+    answer(start(&room, 2));
+    answer(start(&room, 1));
     say(b"\n");
 }
 
@@ -510,4 +579,7 @@ fn main() {
     written();
     not_written();
     margins();
+    plain();
+    vans();
+    bad_vans();
 }

@@ -12,23 +12,23 @@ use Rattle.rules.specs.declared.Place.{Place}
 use Rattle.rules.specs.declared.Place.the-variants.{First, Closing, AfterLow, Inner}
 use Rattle.rules.specs.Words.{if_then_else_, _and_, _or_, within, every, first, highest, pass, table, patch, part}
 use Rattle.rules.specs.Units.{ratio-of, ratio-good, point-good, bounds, first-failed, bad-field, low, longest, moving, rise, start, run, stop, margin-good}
-use Rattle.rules.specs.Gears.{is-first, engine, next-minimum, minimum-of, minimum, under-nmax, over-minimum, allowed, fits, required, between, on-segment, reaches, segment, power-speed, power, enough, more, suits, beats, strongest, choose, derated}
+use Rattle.rules.specs.Gears.{engine, minimum-of, minimum, under-nmax, over-minimum, allowed, fits, required, between, on-segment, reaches, segment, power-speed, power, enough, more, suits, beats, strongest, choose, is-first, next-minimum, derated}
 use Rattle.rules.specs.Corrections.{floor, closing, ceiling, here, first-choice, free, is-peak, peak, too-high, rising, too-low, slowing, firsts, after-A, after-B, gears, trip-speeds, trip-holds, first-at, gear-at, clutch, byte, card-at, card, place-at, place-of}
-use Rattle.rules.specs.Refusals.{Fault, refuse-at, _orelse_, when, trace-fault, room-fault, vehicle-fault, check-number, checks, last-check, bad, fault-of, seconds-fault, gear-fault, span-fault, work-fault, left, second-fault, edit-fault}
+use Rattle.rules.specs.Refusals.{Fault, refuse-at, _orelse_, when, trace-fault, room-fault, vehicle-fault, not-driven, check-number, checks, last-check, bad, fault-of, seconds-fault, gear-fault, span-fault, work-fault, left, second-fault, edit-fault}
 use Rattle.rules.specs.Quick.{span-lo, span-hi, standing-fault, own-fault, quick-fault, reworked, quick-holds, quick-card}
 use Rattle.rules.specs.Holds.{asked, hold-fault, hold-holds, hold-card, release-holds, release-card}
 use Rattle.rules.specs.Groups.{Read, got, refused, hand-on, demand, early, group-if, group, form}
 use Rattle.rules.specs.Forms.{value, checked, bounded, _then_, seen, row-read, row as in-a-row, many, counted, whole, row-write, known, only-if}
-use Rattle.rules.specs.Job.{version, gearbox, numbers as eight-numbers, point, curve, seconds, trace as speeds, hold, rising as rising-holds, padded, vehicle-of, vehicle, put, holds, packed, stages, job, job-read, points-of, parts-of, gather, fields, read-fault, job-of}
-use Rattle.rules.specs.Write.{job-from, job-bytes, job-fault, holds-fault, version-fault, margin-field, lower-field, fields-fault, checks-fault}
+use Rattle.rules.specs.Job.{version, profile, gearbox, numbers as eight-numbers, point, curve, seconds, trace as speeds, hold, rising as rising-holds, padded, vehicle-of, vehicle, put, holds, packed, stages, job, job-read, points-of, parts-of, gather, fields, read-fault, job-of}
+use Rattle.rules.specs.Write.{job-from, job-bytes, job-fault, holds-fault, version-fault, profile-field, margin-field, lower-field, fields-fault, checks-fault}
 use Rattle.rules.specs.Mend.{mend-lo, mend-hi, mend-end, mended-fault, mended-card, mend-fault, mend-speeds, mend-card}
 use Rattle.rules.specs.Text.{digits, decimal, heading, pedal, line, lines, card-text, refusal-text, worked-text, read-text, printed, program-room, printed-fault}
 
--- car Z, with its first ratio, its margins, its idle and rated speeds and its F0
-vehicle-with : ℕ → ℕ → List ℕ → ℕ → ℕ → ℕ → Vehicle
-vehicle-with ratio margin margins idle rated f0 = record {
-  ng = 5;
-  ratio = ratio ∷ 7000 ∷ 4500 ∷ 3500 ∷ 2800 ∷ 0 ∷ 0 ∷ 0 ∷ 0 ∷ 0 ∷ [];
+-- car Z, with its profile, gears and ratios, its margins, its idle and rated speeds and its F0
+vehicle-with : ℕ → ℕ → List ℕ → ℕ → List ℕ → ℕ → ℕ → ℕ → Vehicle
+vehicle-with profile ng ratio margin margins idle rated f0 = record {
+  ng = ng;
+  ratio = ratio;
   idle = idle;
   rated = rated;
   nmax = 6000;
@@ -40,12 +40,17 @@ vehicle-with ratio margin margins idle rated f0 = record {
   points = 7;
   n = 800 ∷ 1800 ∷ 2800 ∷ 3800 ∷ 4800 ∷ 5600 ∷ 6000 ∷ [];
   p = 100 ∷ 300 ∷ 500 ∷ 700 ∷ 850 ∷ 900 ∷ 880 ∷ [];
+  profile = profile;
   m = margins;
 }
 
+-- with its first ratio
+five-gears : ℕ → List ℕ
+five-gears ratio = ratio ∷ 7000 ∷ 4500 ∷ 3500 ∷ 2800 ∷ 0 ∷ 0 ∷ 0 ∷ 0 ∷ 0 ∷ []
+
 -- with no margin at a point
 car-with : ℕ → ℕ → ℕ → ℕ → Vehicle
-car-with ratio = vehicle-with ratio 10 (replicate 64 0)
+car-with ratio = vehicle-with 0 5 (five-gears ratio) 10 (replicate 64 0)
 
 car-of : ℕ → ℕ → ℕ → Vehicle
 car-of = car-with 12000
@@ -68,9 +73,20 @@ halves-after = car-of 810 5600 1000
 gap : Vehicle
 gap = car-with 50000 800 5600 1000
 
+-- below car Z's gears a crawler, in a van of this profile and ng, with the ratios of its two lowest gears
+van-with : ℕ → ℕ → ℕ → ℕ → Vehicle
+van-with profile ng crawler ratio = vehicle-with profile ng (crawler ∷ ratio ∷ 7000 ∷ 4500 ∷ 3500 ∷ 2800 ∷ 0 ∷ 0 ∷ 0 ∷ 0 ∷ []) 10 (replicate 64 0) 800 5600 1000
+
+van : Vehicle
+van = van-with 1 6 20000 12000
+
+-- the gap, above a crawler
+gap-van : Vehicle
+gap-van = van-with 1 6 50000 49000
+
 -- car Z with M and a margin at each point
 margins-Z : ℕ → List ℕ → Vehicle
-margins-Z margin margins = vehicle-with 12000 margin margins 800 5600 1000
+margins-Z margin margins = vehicle-with 0 5 (five-gears 12000) margin margins 800 5600 1000
 
 -- a second that is not its trip's first, not in the closing run and not after gear 1
 inside : Place
@@ -153,9 +169,13 @@ next-minimums car = numbers (minimum car Inner 2 ∷ minimum car Closing 2 ∷ m
 firsts-of : Vehicle → List ℕ → List ℕ → ℕ → Value
 firsts-of car vs hs n = numbers (table (first-at car vs hs) 1 n)
 
+-- a refusal, by number and place
+refused-by : ℕ → ℕ → Value
+refused-by n i = refusal (some (record { no = n; spot = i }))
+
 -- refused for want of a gear
 no-gear-at : ℕ → Value
-no-gear-at i = refusal (some (record { no = 10; spot = i }))
+no-gear-at = refused-by 10
 
 -- a job's version, and the margins of its first eight places
 margins-read : List ℕ → List ℕ
@@ -222,6 +242,24 @@ rows =
     ∷ row (refusal (quick-fault gap dip-closing (replicate 6 0) dip-closing 3 1)) (refusal none)
     ∷ row (refusal (work-fault gap slow-start (0 ∷ 0 ∷ 2 ∷ 0 ∷ 0 ∷ 0 ∷ []) slow-start)) (refusal none)
     ∷ row (refusal (quick-fault gap slow-start (0 ∷ 0 ∷ 2 ∷ 0 ∷ 0 ∷ 0 ∷ []) slow-start 2 0)) (no-gear-at 3)
+    -- request Thirteen: a van's gears are car Z's, each one higher: minima, choices, floors, cards
+    ∷ row (numbers (minimum van Inner 2 ∷ minimum van Inner 3 ∷ minimum van Closing 3 ∷ minimum van AfterLow 3 ∷ minimum van Inner 4 ∷ [])) (numbers (800 ∷ 720 ∷ 800 ∷ 920 ∷ 1400 ∷ []))
+    ∷ row (numbers (choose van inside 500 (pos 0) ∷ choose van inside 500 (pos 36) ∷ choose van First 50 (pos 0) ∷ [])) (numbers (6 ∷ 5 ∷ 2 ∷ []))
+    ∷ row (numbers (floor van 200 ∷ floor van 501 ∷ [])) (numbers (2 ∷ 3 ∷ []))
+    ∷ row (numbers (card van trace (replicate 5 0))) (numbers (18 ∷ 2 ∷ 3 ∷ 19 ∷ 0 ∷ []))
+    ∷ row (numbers (card van trace (0 ∷ 0 ∷ 4 ∷ 0 ∷ 0 ∷ []))) (numbers (18 ∷ 2 ∷ 20 ∷ 19 ∷ 0 ∷ []))
+    ∷ row (numbers (card van (0 ∷ 50 ∷ 120 ∷ 120 ∷ 0 ∷ []) (replicate 5 0))) (numbers (18 ∷ 2 ∷ 2 ∷ 3 ∷ 0 ∷ []))
+    ∷ row (numbers (card van two-trips (replicate 11 0))) (numbers (18 ∷ 18 ∷ 18 ∷ 2 ∷ 2 ∷ 2 ∷ 3 ∷ 5 ∷ 3 ∷ 3 ∷ 0 ∷ []))
+    ∷ row (refusal (quick-fault gap-van dip (replicate 7 0) dip 3 2)) (no-gear-at 4)
+    -- the crawler is not held, at a standing second either, where another gear is refused by 8
+    ∷ row (refusal (work-fault van trace (0 ∷ 0 ∷ 1 ∷ 0 ∷ 0 ∷ []) trace)) (refused-by 7 2)
+    ∷ row (refusal (hold-fault van trace (replicate 5 0) trace 2 1)) (refused-by 7 2)
+    ∷ row (refusal (hold-fault van trace (replicate 5 0) trace 0 1)) (refused-by 7 0)
+    ∷ row (refusal (hold-fault van trace (replicate 5 0) trace 0 2)) (refused-by 8 0)
+    -- the profile is 0 or 1, and a van has three gears at least
+    ∷ row (refusal (work-fault (van-with 2 6 20000 12000) trace (replicate 5 0) trace)) (refused-by 3 1)
+    ∷ row (refusal (work-fault (van-with 1 2 20000 12000) trace (replicate 5 0) trace)) (refused-by 3 1)
+    ∷ row (refusal (work-fault (van-with 1 3 20000 12000) trace (replicate 5 0) trace)) (refusal none)
     -- a second is moving from V 10 on; a trace of one standing second
     ∷ row (numbers (card Z (0 ∷ 10 ∷ 0 ∷ []) (replicate 3 0))) (numbers (17 ∷ 17 ∷ 0 ∷ []))
     ∷ row (numbers (card Z (0 ∷ 9 ∷ 0 ∷ []) (replicate 3 0))) (numbers (0 ∷ 0 ∷ 0 ∷ []))
@@ -290,14 +328,26 @@ rows =
     ∷ row (numbers (margins-read (job-bytes 2 (margins-Z 10 (0 ∷ 50 ∷ 0 ∷ 1 ∷ 0 ∷ 0 ∷ 2 ∷ [])) trace (replicate 5 0)))) (numbers (2 ∷ 0 ∷ 50 ∷ 0 ∷ 1 ∷ 0 ∷ 0 ∷ 2 ∷ 0 ∷ []))
     ∷ row (numbers (margins-read job-Z)) (numbers (1 ∷ 0 ∷ 0 ∷ 0 ∷ 0 ∷ 0 ∷ 0 ∷ 0 ∷ 0 ∷ []))
     -- the writer: 14 before everything else; a margin in version 1 is 3 at field 12, after 11 and before 13
-    ∷ row (refusal (checks-fault 3 Z [] [])) (refusal (some (record { no = 14; spot = 0 })))
+    ∷ row (refusal (checks-fault 4 Z [] [])) (refusal (some (record { no = 14; spot = 0 })))
     ∷ row (refusal (checks-fault 0 Z [] [])) (refusal (some (record { no = 14; spot = 0 })))
     ∷ row (refusal (checks-fault 1 (margins-Z 10 (0 ∷ 0 ∷ 0 ∷ 0 ∷ 0 ∷ 0 ∷ 1 ∷ [])) trace (replicate 5 0))) (refusal (some (record { no = 3; spot = 12 })))
     ∷ row (refusal (checks-fault 1 (margins-Z 51 (0 ∷ 0 ∷ 0 ∷ 0 ∷ 0 ∷ 0 ∷ 1 ∷ [])) trace (replicate 5 0))) (refusal (some (record { no = 3; spot = 10 })))
-    ∷ row (refusal (checks-fault 1 (vehicle-with 12000 10 (1 ∷ []) 799 5600 1000) trace (replicate 5 0))) (refusal (some (record { no = 3; spot = 12 })))
-    ∷ row (refusal (checks-fault 2 (vehicle-with 12000 10 (1 ∷ []) 799 5600 1000) trace (replicate 5 0))) (refusal (some (record { no = 3; spot = 13 })))
+    ∷ row (refusal (checks-fault 1 (vehicle-with 0 5 (five-gears 12000) 10 (1 ∷ []) 799 5600 1000) trace (replicate 5 0))) (refusal (some (record { no = 3; spot = 12 })))
+    ∷ row (refusal (checks-fault 2 (vehicle-with 0 5 (five-gears 12000) 10 (1 ∷ []) 799 5600 1000) trace (replicate 5 0))) (refusal (some (record { no = 3; spot = 13 })))
     ∷ row (refusal (checks-fault 1 (margins-Z 10 (0 ∷ 0 ∷ 0 ∷ 0 ∷ 0 ∷ 0 ∷ 0 ∷ 9 ∷ [])) trace (replicate 5 0))) (refusal none)
     ∷ row (refusal (checks-fault 2 (margins-Z 10 (0 ∷ 0 ∷ 0 ∷ 0 ∷ 0 ∷ 0 ∷ 1 ∷ [])) trace (replicate 5 0))) (refusal none)
+    -- request Thirteen: version 3 has the profile behind the version; 0 or 1, and ng of a van 3 at least, as they are read; another version is 14
+    ∷ row (numbers (take 3 (job-bytes 3 van trace (replicate 5 0)))) (numbers (3 ∷ 1 ∷ 6 ∷ []))
+    ∷ row (numbers (take 3 (job-bytes 3 Z trace (replicate 5 0)))) (numbers (3 ∷ 0 ∷ 5 ∷ []))
+    ∷ row (refusal (read-fault (job-read (3 ∷ 2 ∷ []) 5 5))) (refused-by 3 1)
+    ∷ row (refusal (read-fault (job-read (3 ∷ 1 ∷ 2 ∷ []) 5 5))) (refused-by 3 1)
+    ∷ row (refusal (read-fault (job-read (4 ∷ []) 5 5))) (refused-by 14 0)
+    ∷ row (refusal (read-fault (job-read (job-bytes 3 van trace (replicate 5 0)) 5 5))) (refusal none)
+    -- versions 1 and 2 have no place for it, before any other field
+    ∷ row (refusal (checks-fault 1 van trace (replicate 5 0))) (refused-by 3 1)
+    ∷ row (refusal (checks-fault 2 van trace (replicate 5 0))) (refused-by 3 1)
+    ∷ row (refusal (checks-fault 3 van trace (replicate 5 0))) (refusal none)
+    ∷ row (refusal (checks-fault 3 van trace (0 ∷ 0 ∷ 1 ∷ 0 ∷ 0 ∷ []))) (refused-by 7 2)
     -- what the card program prints of car Z's job
     ∷ row (numbers (printed job-Z)) (numbers (
     115 ∷ 101 ∷ 99 ∷ 111 ∷ 110 ∷ 100 ∷ 32 ∷ 115 ∷ 112 ∷ 101 ∷ 101 ∷ 100 ∷ 32 ∷ 103 ∷ 101 ∷ 97 ∷ 114 ∷ 32 ∷ 99 ∷ 108 ∷ 117 ∷ 116 ∷ 99 ∷ 104 ∷ 10 ∷
@@ -315,5 +365,5 @@ papers [] = []
 papers (r ∷ rs) = r .paper ∷ papers rs
 
 sums-done-on-paper : sums rows ≡ papers rows
-unfolding sums vehicle-with papers rows row choice car-of car-Z Z halves inside free-trip steady up trace two-trips job-Z _and_ _or_ within every first highest pass table patch ratio-of ratio-good point-good bounds first-failed bad-field low longest moving rise start run stop engine minimum-of minimum under-nmax over-minimum allowed fits required between on-segment reaches segment power-speed power enough more suits beats strongest choose floor closing ceiling here first-choice free is-peak peak too-high rising too-low slowing firsts after-A after-B gears trip-speeds trip-holds first-at gear-at clutch byte card-at card refuse-at _orelse_ when trace-fault room-fault vehicle-fault check-number checks last-check bad fault-of seconds-fault gear-fault span-fault work-fault left second-fault edit-fault span-lo span-hi standing-fault own-fault quick-fault reworked quick-holds quick-card asked hold-fault hold-holds hold-card release-holds release-card hand-on demand early group-if group value checked bounded _then_ seen row-read in-a-row many counted whole version gearbox eight-numbers point curve seconds speeds hold rising-holds padded vehicle-of vehicle put holds packed stages job job-read digits decimal heading pedal line lines card-text refusal-text worked-text read-text printed form row-write points-of parts-of gather fields job-from job-bytes split mend-lo mend-hi mend-end mended-fault mended-card mend-fault mend-speeds mend-card next-minimums firsts-of no-gear-at car-with halves-after gap dip dip-closing slow-start is-first next-minimum place-at place-of counting too-long read-fault program-room printed-fault margins-read job-of margins-Z margin-good derated known only-if job-fault holds-fault version-fault margin-field lower-field fields-fault checks-fault
+unfolding sums papers rows row choice vehicle-with five-gears van-with van gap-van refused-by car-of car-Z Z halves inside free-trip steady up trace two-trips job-Z _and_ _or_ within every first highest pass table patch ratio-of ratio-good point-good bounds first-failed bad-field low longest moving rise start run stop engine minimum-of minimum under-nmax over-minimum allowed fits required between on-segment reaches segment power-speed power enough more suits beats strongest choose floor closing ceiling here first-choice free is-peak peak too-high rising too-low slowing firsts after-A after-B gears trip-speeds trip-holds first-at gear-at clutch byte card-at card refuse-at _orelse_ when trace-fault room-fault vehicle-fault not-driven check-number checks last-check bad fault-of seconds-fault gear-fault span-fault work-fault left second-fault edit-fault span-lo span-hi standing-fault own-fault quick-fault reworked quick-holds quick-card asked hold-fault hold-holds hold-card release-holds release-card hand-on demand early group-if group value checked bounded _then_ seen row-read in-a-row many counted whole version profile gearbox eight-numbers point curve seconds speeds hold rising-holds padded vehicle-of vehicle put holds packed stages job job-read digits decimal heading pedal line lines card-text refusal-text worked-text read-text printed next-minimums firsts-of no-gear-at car-with halves-after gap dip dip-closing slow-start is-first next-minimum place-at place-of form row-write points-of parts-of gather fields job-from job-bytes split mend-lo mend-hi mend-end mended-fault mended-card mend-fault mend-speeds mend-card counting too-long read-fault program-room printed-fault margins-read job-of margins-Z margin-good derated known only-if job-fault holds-fault version-fault profile-field margin-field lower-field fields-fault checks-fault
 sums-done-on-paper = refl

@@ -15,10 +15,10 @@ use Rattle.rules.specs.declared.Answer.{Answer}
 use Rattle.rules.specs.declared.Place.{Place}
 use Rattle.rules.specs.declared.Place.the-variants.{AfterLow}
 use Rattle.rules.specs.Words.{if_then_else_, _or_, at, first, pass, patch}
-use Rattle.rules.specs.Units.{bad-field, longest, fastest, steepest, moving, start, stop, rise}
+use Rattle.rules.specs.Units.{bad-field, low, longest, fastest, steepest, moving, start, stop, rise}
 use Rattle.rules.specs.Gears.{engine, under-nmax, fits, required, Power, on-segment, segment, power-speed, choose, is-first, minimum, power, enough, more}
 use Rattle.rules.specs.Corrections.{peak, rising, slowing, gear-at, card-at, card, first-at, place-at}
-use Rattle.rules.specs.Refusals.{said, refuse-at, _orelse_, speed, step, ends, fault-of, span-fault, work-fault, left, work-card, edit-fault}
+use Rattle.rules.specs.Refusals.{said, refuse-at, _orelse_, not-driven, speed, step, ends, fault-of, span-fault, work-fault, left, work-card, edit-fault}
 use Rattle.rules.specs.Job.{most-groups, longest-job, Job, job-read, version, vehicle}
 use Rattle.rules.specs.Text.{printed, refusal-text, program-room}
 use Rattle.rules.specs.Groups.{got, form, group}
@@ -264,11 +264,11 @@ module _ (car : Vehicle) (vs hs old : List ℕ) (s : ℕ) where
   pub none-held-by-7 : work-fault car vs hs old ≡ none → old ≡ card car vs hs → s < length vs → hold-fault car vs hs old s 0 ≡ some (record { no = 7; spot = s })
   none-held-by-7 ok right l = none-held-right car vs hs old s (accepted car vs hs old ok) right l
 
-  -- right or not, in the table's order over the span: 4, 5 and 6, then 7 at the lowest second that is s or has a hold above ng
+  -- right or not, in the table's order over the span: 4, 5 and 6, then 7 at the lowest second that is s or has a hold of a gear that is not driven
   pub none-held-moves : bad-field car ≡ none → moving (at vs s) ≡ true → length hs ≡ length vs
       → own-fault car vs hs s (asked 0)
       ≡ fault-of car vs hs (span-lo vs s) (span-hi vs s) (speed ∷ step ∷ ends ∷ [])
-      orelse refuse-at 7 (first (λ i. eqb i s or ltb (car .ng) (at hs i)) (span-lo vs s) (span-hi vs s - span-lo vs s))
+      orelse refuse-at 7 (first (λ i. eqb i s or not-driven car (at hs i)) (span-lo vs s) (span-hi vs s - span-lo vs s))
   none-held-moves e m n = none-held-moving car vs hs s m n (omega (arith, in-bounds car e .ng-to))
 
   -- and at a standing second 7
@@ -371,14 +371,24 @@ read-writes-back bytes h a b {j} e ok room l =
     let f = none-write (j .version) (j .vehicle) (j .speeds) (j .holds) room (read-passes bytes a b e ok) (rw same l) in
     (f, write-none (j .version) (j .vehicle) (j .speeds) (j .holds) room f .1 ∙ same)
 
+-- ---- Request Thirteen: in profile 0 the lowest gear is 1, so that every rule says what it said before; in profile 1 it is 2
+
+pub lowest-of-a-car : (car : Vehicle) → car .profile ≡ 0 → low car ≡ 1
+unfolding low
+lowest-of-a-car car e = rw e
+
+pub lowest-of-a-van : (car : Vehicle) → car .profile ≡ 1 → low car ≡ 2
+unfolding low
+lowest-of-a-van car e = rw e
+
 -- ---- The card program: of an input that is longer than the longest job that it has room for, as many bytes as that job has and one more say all that
 -- is printed
 
 pub long-input : (bytes : List ℕ) → longest-job program-room < length bytes → printed (take (suc (longest-job program-room)) bytes) ≡ printed bytes
 long-input = long-job
 
--- and that is 37,510 bytes
-pub longest-job-is : suc (longest-job program-room) ≡ 37510
+-- and that is 37,513 bytes
+pub longest-job-is : suc (longest-job program-room) ≡ 37513
 unfolding longest-job most-groups program-room
 longest-job-is = refl
 

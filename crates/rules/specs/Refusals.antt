@@ -12,7 +12,7 @@ use Rattle.rules.specs.declared.Refusal.the-variants.{TraceLength, RoomL
 use Rattle.rules.specs.declared.Answer.{Answer}
 use Rattle.rules.specs.declared.Answer.the-variants.{Done, Refused}
 use Rattle.rules.specs.Words.{if_then_else_, _and_, _or_, within, at, first}
-use Rattle.rules.specs.Units.{bad-field, longest, fastest, steepest, moving}
+use Rattle.rules.specs.Units.{bad-field, low, longest, fastest, steepest, moving}
 use Rattle.rules.specs.Gears.{under-nmax}
 use Rattle.rules.specs.Corrections.{first-at, card}
 
@@ -126,6 +126,10 @@ vehicle-fault car = refuse-at 3 (bad-field car)
 
 -- ---- the table, 4 to 10: the checks of a second
 
+-- a hold, 0 for none, of a gear that is not driven: above ng, or below the lowest
+unfoldable pub not-driven : Vehicle → ℕ → Bool
+not-driven car h = ltb (car .ng) h or (ltb 0 h and ltb h (low car))
+
 pub data Check : Type 0 where
   speed step ends over-ng at-rest over-rev no-gear : Check
 
@@ -154,8 +158,8 @@ bad speed car vs hs lo i = ltb fastest (at vs i)
 bad step car vs hs lo i = ltb lo i and (ltb (at vs (i - 1) + steepest) (at vs i) or ltb (at vs i + steepest) (at vs (i - 1)))
 -- 6: first, then last, sample is moving
 bad ends car vs hs lo i = moving (at vs i) and (eqb i 0 or eqb (suc i) (length vs))
--- 7: hold above ng
-bad over-ng car vs hs lo i = ltb (car .ng) (at hs i)
+-- 7: hold above ng, or below the lowest gear
+bad over-ng car vs hs lo i = not-driven car (at hs i)
 -- 8: hold at a standing second
 bad at-rest car vs hs lo i = not (moving (at vs i)) and not (eqb (at hs i) 0)
 -- 9: held gear's X over 1000 x nmax

@@ -1,4 +1,4 @@
--- Document 02, requests One and Six: a job of a version is written from a vehicle, a trace and holds, in the groups of document 01.
+-- Document 02, requests One, Six and Thirteen: a job of a version is written from a vehicle, a trace and holds, in the groups of document 01.
 -- Assumes nothing.
 use Prim.Native.Nat.{ℕ, min}
 use mathlib.Core.Bool.{not}
@@ -30,9 +30,13 @@ holds-fault vs hs = refuse-at 2 (when (not (eqb (length hs) (length vs))) 0)
 unfoldable pub job-fault : Vehicle → List ℕ → List ℕ → Option Fault
 job-fault car vs hs = trace-fault vs orelse holds-fault vs hs orelse vehicle-fault car orelse seconds-fault car vs hs 0 (length vs)
 
--- 14: version neither 1 nor 2
+-- 14: version not 1, 2 or 3
 unfoldable pub version-fault : ℕ → Option Fault
-version-fault v = refuse-at 14 (when (not (within 1 2 v)) 0)
+version-fault v = refuse-at 14 (when (not (within 1 3 v)) 0)
+
+-- versions 1 and 2 have no place for a profile: field 1, where it is not 0
+unfoldable pub profile-field : ℕ → Vehicle → Option ℕ
+profile-field v car = when (not (leb 3 v) and not (eqb (car .profile) 0)) 1
 
 -- version 1 has no place for a margin: field 12, where a point that counts has one above 0
 unfoldable pub margin-field : ℕ → Vehicle → Option ℕ
@@ -46,7 +50,7 @@ lower-field (some f) (some g) = some (min f g)
 
 -- 3: a field out of bounds, or without a place in the version; the first such
 unfoldable pub fields-fault : ℕ → Vehicle → Option Fault
-fields-fault v car = refuse-at 3 (lower-field (bad-field car) (margin-field v car))
+fields-fault v car = refuse-at 3 (lower-field (lower-field (bad-field car) (profile-field v car)) (margin-field v car))
 
 -- 14 before everything else, then 1 to 9
 unfoldable pub checks-fault : ℕ → Vehicle → List ℕ → List ℕ → Option Fault
@@ -89,4 +93,5 @@ cleared car = record {
   n = padded most-points (table (at (car .n)) 0 (car .points));
   p = padded most-points (table (at (car .p)) 0 (car .points));
   m = padded most-points (table (at (car .m)) 0 (car .points));
+  profile = car .profile;
 }

@@ -42,6 +42,7 @@ pub fn car_z() -> Vehicle {
         n: n,
         p: p,
         m: [0u16; 64],
+        profile: 0,
     }
 }
 

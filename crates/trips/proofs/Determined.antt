@@ -5,7 +5,6 @@ use mathlib.Core.Path.{_≡_, refl, sym, ap, _∙_}
 use mathlib.Core.List.{List, []}
 use lib.IntN.{pos}
 use denote.Ref.{now}
-use Rattle.rules.specs.Job.{blank}
 use Rattle.gears.proofs.Parts.{built-has}
 use Rattle.once.specs.Determined.{Determined}
 use Rattle.rules.specs.declared.Vehicle.{Vehicle}
@@ -53,9 +52,13 @@ pass-b κs a asked z z′ ws ws′ p q = let H = built-has (a .0) (now (a .1 .0)
 pub closing-from : Determined closing-from-kinds.ps closing-from-kinds.r closing-from-reads.Asked closing-from-reads.Learnt
 closing-from κs a asked z z′ ws ws′ p q = (run-once (now (a .0)) z z′ p q, refl)
 
--- pass C, which looks neither at the vehicle nor at the speeds: any vehicle will do, and the speeds that are asked for
+-- pass C, which does not look at the speeds: those that are asked for will do, and some vehicle of these numbers
 pub pass-c : Determined pass-c-kinds.ps pass-c-kinds.r pass-c-reads.Asked pass-c-reads.Learnt
-pass-c κs a asked z z′ ws ws′ p q = let s = asked .speeds in let r = asked .run in (refl, ap (λ (x : List ℕ). (tt, (tt, (x, tt)))) (p blank _ s r ∙ sym (q blank _ s r)))
+pass-c κs a asked z z′ ws ws′ p q =
+    let H = built-has (a .0) [] in
+    let s = asked .1 .speeds in
+    let r = asked .1 .run in
+    (refl, ap (λ (x : List ℕ). (tt, (tt, (tt, (x, tt))))) (p _ _ (H .counts) s r ∙ sym (q _ _ (H .counts) s r)))
 
 -- the first choices of a trip
 pub first-choices : Determined first-choices-kinds.ps first-choices-kinds.r first-choices-reads.Asked first-choices-reads.Learnt

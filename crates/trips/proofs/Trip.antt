@@ -19,23 +19,24 @@ use Rattle.rules.proofs.Laws.Words.{by-order}
 use Rattle.rules.proofs.Laws.Held.{length-gears}
 use Rattle.trips.proofs.Passes.{pass-same, firsts-fresh, gears-to}
 use Rattle.gears.specs.declared.Numbers.{Numbers}
-use Rattle.gears.specs.Parts.{Has, Lent, Parts}
-use Rattle.gears.proofs.Parts.{ng-of}
+use Rattle.gears.specs.Parts.{low-in, Has, Lent, Parts}
+use Rattle.gears.specs.Second.{Driven}
+use Rattle.gears.proofs.Parts.{low-of, ng-of}
 use Rattle.gears.specs.Choosing.{only-first, first-of, first-parts}
 use Rattle.gears.proofs.Speeds.{fits-over, fits-one}
 use Rattle.gears.proofs.Choices.{choice-first}
 use Rattle.trips.specs.Ready.{HasRoom, Ready}
 use Rattle.trips.specs.Trip.{AllMoving, RunFrom, on-way, trip-bytes}
 
--- the first choice of a trip's first second with no hold: first gear where it turns at most at nmax, otherwise none
-module _ {car : Vehicle} {k : Numbers} {ratio : List ℕ} (H : Has car k ratio) (b : InBounds car) (v : ℕ) (d : ℤ) (hold : ℕ) (free : hold ≡ 0) where
-  pub first-none : 1000 * k .nmax < at ratio 0 * v → 0 ≡ first-of car First v d hold
+-- the first choice of a trip's first second with no hold: the lowest gear where it turns at most at nmax, otherwise none
+module _ {car : Vehicle} {k : Numbers} {ratio : List ℕ} (H : Has car k ratio) (b : InBounds car) (v : ℕ) (d : ℤ) (hold : ℕ) (free : hold ≡ 0) {g : ℕ} (e : g ≡ low-in k) where
+  pub first-none : 1000 * k .nmax < at ratio (g - 1) * v → 0 ≡ first-of car First v d hold
   unfolding first-of only-first
-  first-none h = rw (eq-eqb hold 0 free, ← choice-first car b v d, ← fits-over H First v 1 h)
+  first-none h = rw (eq-eqb hold 0 free, ← choice-first car b v d, low-of (H .counts), ← e, ← fits-over H First v g h)
 
-  pub first-one : at ratio 0 * v ≤ 1000 * k .nmax → 1 ≡ first-of car First v d hold
+  pub first-one : at ratio (g - 1) * v ≤ 1000 * k .nmax → g ≡ first-of car First v d hold
   unfolding first-of only-first
-  first-one h = rw (eq-eqb hold 0 free, ← choice-first car b v d, ← fits-one H First v 1 refl h)
+  first-one h = rw (eq-eqb hold 0 free, ← choice-first car b v d, low-of (H .counts), ← e, ← fits-one H First v g (omega (arith, e)) h, eq-eqb g (low-in k) e)
 
 -- and with one: the held gear
 pub first-held : (car : Vehicle) (v : ℕ) (d : ℤ) (hold : ℕ) → (hold ≡ 0 → ⊥) → hold ≡ first-of car First v d hold
@@ -97,9 +98,12 @@ module _ (car : Vehicle) (us hs : List ℕ) where
               rw e (omega (arith, L .bounds .ng-to));
         }
 
--- the gears are no more than the ratios have places
-pub gears-few : {k : Numbers} {ratio n p : List ℕ} → Parts k ratio n p → k .ng ≤ 10
-gears-few P = omega (arith, ng-of (P .lent .has .counts), P .lent .bounds .ng-to)
+-- the gears are no more than the ratios have places, and the lowest is one of them
+pub gears-few : {k : Numbers} {ratio n p : List ℕ} → Parts k ratio n p → Driven k
+gears-few P = record {
+  ng-to = omega (arith, ng-of (P .lent .has .counts), P .lent .bounds .ng-to);
+  low-to = omega (arith, ng-of (P .lent .has .counts), low-of (P .lent .has .counts), P .lent .bounds .low-ng);
+}
 
 -- every second of a trip that is ready is moving
 pub moves-on : {k : Numbers} {us hs gs : List ℕ} → Ready k us hs gs → AllMoving us

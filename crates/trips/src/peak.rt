@@ -7,6 +7,7 @@ ghost use Rattle.rules.specs.Words.{_and_, _or_, pass};
 ghost use Rattle.rules.specs.Corrections.{peak};
 ghost use Rattle.rules.specs.declared.Vehicle.{Vehicle};
 ghost use Rattle.gears.specs.Parts.{Has};
+ghost use Rattle.gears.specs.Second.{Driven};
 ghost use Rattle.trips.specs.Ready.{Aligned, Later};
 ghost use Rattle.trips.specs.Trip.{one-above};
 use gears::Numbers;
@@ -44,7 +45,7 @@ pub fn peak_at(
     j: usize,
     last: u8,
 ) -> u8
-    requires { ⌜ (k .ng ≤ 10) × Aligned (now us) (now hs) (now gs) × Later (now gs) j last × (j < length (now gs)) ⌝ }
+    requires { ⌜ Driven k × Aligned (now us) (now hs) (now gs) × Later (now gs) j last × (j < length (now gs)) ⌝ }
     ensures { λ r. ⌜ ((car : Vehicle) → Has car k (now (ratio .entry)) → r ≡ peak car (now (us .entry)) (now (hs .entry)) j (now (gs .entry))) ⌝ }
 {
     let g = gs[j];
@@ -71,7 +72,7 @@ pub fn peak_at(
 
 // Pass A, one-second peaks. The trip's first second stays, and the gear before goes along, as corrected.
 pub fn pass_a(k: Numbers, ratio: &[u16; 10], us: &[u16], hs: &[u8], gs: &mut [u8])
-    requires { ⌜ (k .ng ≤ 10) × Aligned (now us) (now hs) (now gs) ⌝ }
+    requires { ⌜ Driven k × Aligned (now us) (now hs) (now gs) ⌝ }
     ensures { λ r. ⌜ ((car : Vehicle) → Has car k (now (ratio .entry)) → now (gs .exit) ≡ pass (peak car (now (us .entry)) (now (hs .entry))) (length (now (hs .entry))) (now (gs .entry))) ⌝ }
 {
     if gs.len() < 2 {

@@ -6,6 +6,7 @@ ghost use Rattle.rules.specs.Words.{at, pass};
 ghost use Rattle.rules.specs.Corrections.{ceiling, rising};
 ghost use Rattle.rules.specs.declared.Vehicle.{Vehicle};
 ghost use Rattle.gears.specs.Parts.{Has};
+ghost use Rattle.gears.specs.Second.{Driven};
 ghost use Rattle.trips.specs.Ready.{Aligned, Later};
 use gears::Numbers;
 use gears::floor;
@@ -36,7 +37,7 @@ fn rising_at(
     g: u8,
     last: u8,
 ) -> u8
-    requires { ⌜ (k .ng ≤ 10) × Aligned (now us) (now hs) (now gs) × Later (now gs) j last × (j < length (now gs)) × (g ≡ at (now gs) j) ⌝ }
+    requires { ⌜ Driven k × Aligned (now us) (now hs) (now gs) × Later (now gs) j last × (j < length (now gs)) × (g ≡ at (now gs) j) ⌝ }
     ensures { λ r. ⌜ ((car : Vehicle) → Has car k (now (ratio .entry)) → r ≡ rising car (now (us .entry)) (now (hs .entry)) j (now (gs .entry))) ⌝ }
 {
     if g <= last {
@@ -62,7 +63,7 @@ fn rising_at(
 
 // Pass B, rising speed. The trip's first second stays, and the gear before goes along, as corrected.
 pub fn pass_b(k: Numbers, ratio: &[u16; 10], us: &[u16], hs: &[u8], gs: &mut [u8])
-    requires { ⌜ (k .ng ≤ 10) × Aligned (now us) (now hs) (now gs) ⌝ }
+    requires { ⌜ Driven k × Aligned (now us) (now hs) (now gs) ⌝ }
     ensures { λ r. ⌜ ((car : Vehicle) → Has car k (now (ratio .entry)) → now (gs .exit) ≡ pass (rising car (now (us .entry)) (now (hs .entry))) (length (now (hs .entry))) (now (gs .entry))) ⌝ }
 {
     if gs.len() < 2 {

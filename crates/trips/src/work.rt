@@ -13,6 +13,7 @@ ghost use Rattle.gears.specs.Choosing.{first-of};
 ghost use Rattle.rules.specs.declared.Place.the-variants.{First};
 ghost use Rattle.rules.specs.Vocabulary.{InBounds};
 ghost use Rattle.gears.specs.Parts.{Has, Lent, Parts};
+ghost use Rattle.gears.specs.Second.{Driven};
 ghost use Rattle.trips.specs.Ready.{Aligned, TripSecond, Paced, Ready};
 ghost use Rattle.trips.specs.Trip.{on-way, trip-bytes};
 use crate::byte::bytes;
@@ -23,19 +24,22 @@ use crate::slowing::pass_c;
 use gears::Numbers;
 use gears::choice_after;
 use gears::engine;
+use gears::lowest;
 use gears::top;
 
-// The first choice of a trip's first second: the held gear, or first gear, the only one that may fit; 0 where it does not.
+// The first choice of a trip's first second: the held gear, or the lowest gear, the only one that may fit; 0 where it does not.
 fn choice_first(k: Numbers, ratio: &[u16; 10], v: u16, hold: u8) -> u8
+    requires { ⌜ Driven k ⌝ }
     ensures { λ r. ⌜ ((car : Vehicle) → Has car k (now (ratio .entry)) → InBounds car → (d : ℤ) → r ≡ first-of car First v d hold) ⌝ }
 {
     if hold != 0 {
         return hold;
     }
-    if top(k) < engine(ratio, 1, v) {
+    let low = lowest(k);
+    if top(k) < engine(ratio, low, v) {
         return 0;
     }
-    1
+    low as u8
 }
 
 // Where the trip begins with these seconds, the choice of its first one, so that the loop over the others need not ask. Says how many are done.
@@ -47,7 +51,7 @@ fn begin<'a>(
     begins: bool,
     gs: &mut [u8],
 ) -> usize
-    requires { ⌜ Aligned (now us) (now hs) (now gs) ⌝ }
+    requires { ⌜ Driven k × Aligned (now us) (now hs) (now gs) ⌝ }
     ensures done { λ r. ⌜ r ≤ length (now (gs .entry)) ⌝ }
     ensures later { λ r. ⌜ (r < length (now (gs .entry)) → (begins and eqb r 0) ≡ false) ⌝ }
     ensures gears { λ r. ⌜ ((car : Vehicle) → Has car k (now (ratio .entry)) → InBounds car → (run last : ℕ) → now (gs .exit) ≡ pass (on-way car (now (us .entry)) (now (hs .entry)) begins run last) r (now (gs .entry))) ⌝ }
@@ -140,6 +144,6 @@ pub fn work_trip<'a>(
     first_choices(k, ratio, n, p, us, hs, true, run, 0, gs);
     pass_a(k, ratio, us, hs, gs);
     pass_b(k, ratio, us, hs, gs);
-    pass_c(run, hs, gs);
+    pass_c(k, run, hs, gs);
     bytes(k, ratio, us, gs);
 }

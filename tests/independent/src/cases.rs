@@ -8,13 +8,19 @@ use crate::paper::{self, Edited, Mended, Refusal};
 use crate::revs::Finished;
 use crate::rng::Rng;
 use crate::traces;
-use crate::vehicle::{Vehicle, ZERO};
+use crate::vehicle::{without_crawler, Vehicle, ZERO};
 use crate::vehicles;
 
 pub const KINDS: [&str; 7] = ["read", "work", "hold", "release", "export", "write", "mend"];
 
-/// The number of the answer (0: accepted), or a description of the mismatch.
-pub type Outcome = Result<u32, String>;
+/// The number of the answer (0: accepted), and the profile of the vehicle, of a refused job and of an export 0.
+pub struct Met {
+    pub number: u32,
+    pub profile: u16,
+}
+
+/// Or a description of the mismatch.
+pub type Outcome = Result<Met, String>;
 
 pub fn run(library: &mut Library, seed: u64, kind: usize, index: u64) -> Outcome {
     let mut r = Rng::of_case(seed, kind as u64, index);
@@ -32,6 +38,10 @@ pub fn run(library: &mut Library, seed: u64, kind: usize, index: u64) -> Outcome
 
 fn number<T>(answer: &Result<T, Refusal>) -> u32 {
     answer.as_ref().err().map_or(0, |(number, _)| *number)
+}
+
+fn met<T>(answer: &Result<T, Refusal>, profile: u16) -> Outcome {
+    Ok(Met { number: number(answer), profile })
 }
 
 // ---------------------------------------------------------------- what a case is made of
@@ -124,8 +134,25 @@ fn work_case(library: &mut Library, r: &mut Rng) -> Outcome {
     }
     let expected = paper::work(&c.vehicle, &c.speeds, &c.holds, c.card.len());
     let loan = Loan::new(r, &c.speeds, &c.holds, &c.card);
-    library.work(&c.vehicle, &loan, &expected).map_err(|why| format!("{why}\n{}\nreference: {expected:?}", describe(&c)))?;
-    Ok(number(&expected))
+    let told = |why: String| format!("{why}\n{}\nreference: {expected:?}", describe(&c));
+    library.work(&c.vehicle, &loan, &expected).map_err(told)?;
+    van_as_car(&c, &expected).map_err(told)?;
+    met(&expected, c.vehicle.profile)
+}
+
+/// The paper against itself, request Thirteen: a van's card, or refusal 10, is that of the car without the crawler, each gear and each hold one higher.
+fn van_as_car(c: &Setting, expected: &Result<Vec<u8>, Refusal>) -> Result<(), String> {
+    if c.vehicle.profile != 1 || !matches!(expected, Ok(_) | Err((10, _))) {
+        return Ok(());
+    }
+    let holds: Vec<u8> = c.holds.iter().map(|gear| gear.saturating_sub(1)).collect();
+    let car = paper::work(&without_crawler(&c.vehicle), &c.speeds, &holds, c.card.len());
+    let higher = car.map(|card| card.into_iter().map(|byte| if byte == 0 { 0 } else { byte + 1 }).collect());
+    note(Event::VanAsCar);
+    if higher == *expected {
+        return Ok(());
+    }
+    Err(format!("the reference's van and its car disagree: {higher:?}"))
 }
 
 // ---------------------------------------------------------------- the quick way
@@ -141,7 +168,7 @@ fn hold_case(library: &mut Library, r: &mut Rng) -> Outcome {
     if right {
         agrees_with_whole(&c, &expected).map_err(told)?;
     }
-    Ok(number(&expected))
+    met(&expected, c.vehicle.profile)
 }
 
 fn release_case(library: &mut Library, r: &mut Rng) -> Outcome {
@@ -156,7 +183,7 @@ fn release_case(library: &mut Library, r: &mut Rng) -> Outcome {
         agrees_with_whole(&c, &expected).map_err(told)?;
         free_changes_nothing(&c, second, &expected).map_err(told)?;
     }
-    Ok(number(&expected))
+    met(&expected, c.vehicle.profile)
 }
 
 /// The paper against itself: releasing a free second of a right card changes no byte.
@@ -216,7 +243,7 @@ fn ask_gear(r: &mut Rng, c: &Setting, second: usize) -> u8 {
     let ng = c.vehicle.ng.clamp(2, 10) as i64;
     let nmax = 1000 * c.vehicle.nmax as i128;
     let good: Vec<u8> = match c.speeds.get(second) {
-        Some(&speed) => (1..=ng as u8).filter(|&gear| paper::engine(&c.vehicle, gear, speed) <= nmax).collect(),
+        Some(&speed) => (paper::lowest(&c.vehicle)..=ng as u8).filter(|&gear| paper::engine(&c.vehicle, gear, speed) <= nmax).collect(),
         None => Vec::new(),
     };
     match r.range(0, 99) {
@@ -240,13 +267,14 @@ fn read_case(library: &mut Library, r: &mut Rng) -> Outcome {
         let told = expected.as_ref().map(|job| (job.version, &job.vehicle, &job.speeds, &job.holds));
         format!("{why}\nrooms {rooms:?}\njob ({}) {bytes:?}\nreference: {told:?}", bytes.len())
     })?;
-    Ok(number(&expected))
+    met(&expected, expected.as_ref().map_or(0, |job| job.vehicle.profile))
 }
 
 /// A job that is whole, then damaged in no, one or two ways; now and then no job at all. With it the sample count it had when whole.
 fn job(r: &mut Rng) -> (Vec<u8>, usize) {
     if r.chance(2) {
-        return ((0..r.range(0, 40)).map(|k| if k == 0 { 1 } else { r.next() as u8 & 0x7F }).collect(), 5);
+        let length = if r.chance(50) { r.range(0, 40) } else { r.range(0, 4) };
+        return ((0..length).map(|k| if k == 0 { r.pick(&[1, 3]) } else { r.next() as u8 & 0x7F }).collect(), 5);
     }
     let mut c = sound(r);
     if r.chance(20) {
@@ -256,8 +284,8 @@ fn job(r: &mut Rng) -> (Vec<u8>, usize) {
         c.holds.iter_mut().filter(|gear| **gear != 0).for_each(|gear| *gear = r.range(1, 255) as u8);
     }
     let damages: Vec<i64> = (0..r.pick(&[0, 1, 1, 1, 2])).map(|_| r.range(0, jobs::DAMAGES)).collect();
-    // A version 1 job has no place for margins: they are simply not there.
-    let mut groups = jobs::groups(r.pick(&[1, 2]), &c.vehicle, &c.speeds, &c.holds);
+    // Version 1 has no place for margins, nor 1 and 2 for a profile: they are simply not there.
+    let mut groups = jobs::groups(r.pick(&[1, 2, 3, 3]), &c.vehicle, &c.speeds, &c.holds);
     damages.iter().filter(|kind| **kind <= jobs::GROUP_DAMAGES).for_each(|kind| jobs::damage_groups(r, &mut groups, *kind));
     let mut bytes = groups.all.concat();
     damages.iter().filter(|kind| **kind > jobs::GROUP_DAMAGES).for_each(|kind| jobs::damage_bytes(r, &mut bytes, *kind));
@@ -299,7 +327,7 @@ fn export_case(library: &mut Library, r: &mut Rng) -> Outcome {
     let expected = exports::read(&bytes);
     let loan = Loan::new(r, &[], &[], &bytes);
     library.export(&loan, &expected).map_err(|why| format!("{why}\nexport ({}) {bytes:?}\nreference: {expected:?}", bytes.len()))?;
-    Ok(number(&expected))
+    met(&expected, 0)
 }
 
 // ---------------------------------------------------------------- the writer
@@ -319,7 +347,7 @@ fn write_case(library: &mut Library, r: &mut Rng) -> Outcome {
         reads_back(library, r, version, &c, bytes).map_err(told)?;
         written_as_read(bytes, was.as_deref()).map_err(told)?;
     }
-    Ok(number(&expected))
+    met(&expected, c.vehicle.profile)
 }
 
 /// A version, and what a screen has at hand, sound or spoiled; or what was read of a job, with that job's bytes.
@@ -335,10 +363,15 @@ fn to_write(r: &mut Rng) -> (u16, Setting, Option<Vec<u8>>) {
         spoil(r, &mut c);
     }
     let version = match r.range(0, 99) {
-        0..=44 => 1,
-        45..=94 => 2,
-        _ => r.pick(&[0, 3, 256, 257, 65_535]),
+        0..=29 => 1,
+        30..=54 => 2,
+        55..=94 => 3,
+        _ => r.pick(&[0, 4, 256, 257, 259, 65_535]),
     };
+    // Mostly a version below 3 has no profile to tell.
+    if version < 3 && r.chance(80) {
+        c.vehicle.profile = 0;
+    }
     // Mostly version 1 has no margin to tell.
     if version == 1 && r.chance(70) {
         c.vehicle.m[..(c.vehicle.points as usize).min(64)].fill(0);
@@ -398,13 +431,13 @@ fn mend_case(library: &mut Library, r: &mut Rng) -> Outcome {
     let speed = ask_speed(r, &c, second);
     let was = c.speeds.get(second).copied();
     let expected = mend_once(library, r, &c, right, second, speed)?;
-    let answer = number(&expected);
+    let answer = met(&expected, c.vehicle.profile);
     if let (Ok((speeds, card)), Some(was), true) = (expected, was, r.chance(60)) {
         (c.speeds, c.card) = (speeds, card);
         right &= paper::work(&c.vehicle, &c.speeds, &c.holds, c.card.len()).as_ref() == Ok(&c.card);
         mend_once(library, r, &c, right, second, was).map(drop)?;
     }
-    Ok(answer)
+    answer
 }
 
 fn mend_once(library: &mut Library, r: &mut Rng, c: &Setting, right: bool, second: usize, speed: u16) -> Result<Mended, String> {
@@ -415,7 +448,7 @@ fn mend_once(library: &mut Library, r: &mut Rng, c: &Setting, right: bool, secon
     if right {
         mended_as_whole(c, second, speed, &expected).map_err(told)?;
     }
-    if expected == Err((8, second)) && c.holds[second] <= c.vehicle.ng as u8 && !paper::moving(speed) {
+    if expected == Err((8, second)) && paper::gears(&c.vehicle).contains(&c.holds[second]) && !paper::moving(speed) {
         note(Event::HoldWon);
     }
     Ok(expected)

@@ -8,7 +8,7 @@ use crate::paper;
 use crate::revs::Finished;
 use crate::rng::Rng;
 use crate::traces;
-use crate::vehicle::{car_z, Vehicle};
+use crate::vehicle::{car_z, with_crawler, Vehicle};
 use crate::vehicles;
 use std::path::Path;
 
@@ -47,6 +47,9 @@ fn cars(r: &mut Rng) -> Vec<Vehicle> {
     let mut cars = vec![car_z()];
     cars.extend([5, 7, 64].map(vehicles::mid_size));
     cars.extend((0..REALISTIC).map(|_| vehicles::realistic(r)));
+    // Vans: two of these cars with a crawler, and one whose first gear is said to be one.
+    cars.extend([with_crawler(&car_z(), 20_000), with_crawler(&vehicles::mid_size(7), 20_000)]);
+    cars.push(Vehicle { profile: 1, ..vehicles::realistic(r) });
     cars
 }
 
@@ -155,8 +158,7 @@ impl Drive<'_> {
 
     /// The job of this drive, read back and written: what was put into it comes out.
     fn job(&mut self, holds: &[u8]) -> Result<(), String> {
-        // With margins at its points a drive's job is of version 2.
-        let version = if self.vehicle.m[..self.vehicle.points as usize].iter().any(|m| *m > 0) { 2 } else { 1 };
+        let version = jobs::version_of(self.vehicle);
         let bytes = jobs::groups(version, self.vehicle, self.speeds, holds).all.concat();
         let expected = paper::read(&bytes, self.speeds.len(), paper::LONGEST);
         let same = expected.as_ref().is_ok_and(|job| job.vehicle == *self.vehicle && job.speeds == self.speeds && job.holds == holds);

@@ -1,5 +1,6 @@
 //! How often the reference met the rarer turns of the rules: a turn that is never met is not tested.
 
+use std::cell::Cell;
 use std::sync::atomic::{AtomicU64, Ordering::Relaxed};
 
 #[derive(Clone, Copy)]
@@ -29,9 +30,14 @@ pub enum Event {
     ClosingDecides,
     AfterFirstDecides,
     LaterWithout,
+    CrawlerHeld,
+    CrawlerAtRest,
+    ProfileRead,
+    TwoGearsRead,
+    VanAsCar,
 }
 
-const NAMES: [&str; 25] = [
+const NAMES: [&str; 30] = [
     "pass A lowered a gear",
     "pass A stopped by the floor",
     "pass B lowered a gear to the ceiling",
@@ -53,19 +59,38 @@ const NAMES: [&str; 25] = [
     "trip begun by a mended sample",
     "trip ended by a mended sample",
     "held second not mended to rest",
-    "nine tenths of idle decides for gear 2",
-    "idle decides for gear 2, in the closing run",
-    "1.15 times idle decides for gear 2, after first choice 1",
+    "nine tenths of idle decides for second gear's part",
+    "idle decides for second gear's part, in the closing run",
+    "1.15 times idle decides for second gear's part, after the lowest gear as first choice",
     "hold or release refused, a later second of its trip without a gear",
+    "crawler held, which is not driven",
+    "crawler held at a standing second",
+    "job refused for its profile",
+    "job of two gears refused, the first a crawler",
+    "van's card that of its car without the crawler, each gear one higher",
 ];
 
+/// Of all threads that have handed theirs in.
 static COUNTS: [AtomicU64; NAMES.len()] = [const { AtomicU64::new(0) }; NAMES.len()];
 
-pub fn note(event: Event) {
-    COUNTS[event as usize].fetch_add(1, Relaxed);
+thread_local! {
+    static HERE: [Cell<u64>; NAMES.len()] = const { [const { Cell::new(0) }; NAMES.len()] };
 }
 
-/// How often, so far.
+pub fn note(event: Event) {
+    HERE.with(|here| here[event as usize].set(here[event as usize].get() + 1));
+}
+
+/// What this thread has met counts from here on.
+pub fn hand_in() {
+    HERE.with(|here| {
+        for (all, count) in COUNTS.iter().zip(here) {
+            all.fetch_add(count.take(), Relaxed);
+        }
+    });
+}
+
+/// How often, by what was handed in.
 pub fn met(event: Event) -> u64 {
     COUNTS[event as usize].load(Relaxed)
 }

@@ -17,21 +17,28 @@ pub fn group(value: u16) -> Vec<u8> {
 
 pub struct Groups {
     pub all: Vec<Vec<u8>>,
+    gears_at: usize,
     points_at: usize,
     count_at: usize,
     holds_at: usize,
 }
 
 pub fn groups(version: u16, v: &Vehicle, speeds: &[u16], holds: &[u8]) -> Groups {
-    let mut values = vec![version, v.ng];
+    let mut values = vec![version];
+    // Request Thirteen: version 3 carries the profile after the version.
+    if version >= 3 {
+        values.push(v.profile);
+    }
+    let gears_at = values.len();
+    values.push(v.ng);
     values.extend_from_slice(&v.ratio[..v.ng as usize]);
     values.extend([v.idle, v.rated, v.nmax, v.f0, (v.f1 + 5000) as u16, v.f2, v.tm, v.margin]);
     let points_at = values.len();
     values.push(v.points);
     for k in 0..v.points as usize {
         values.extend([v.n[k], v.p[k]]);
-        // Request Six: version 2 carries m after p.
-        if version == 2 {
+        // Request Six: from version 2 on m after p.
+        if version >= 2 {
             values.push(v.m[k]);
         }
     }
@@ -44,7 +51,17 @@ pub fn groups(version: u16, v: &Vehicle, speeds: &[u16], holds: &[u8]) -> Groups
     for (second, gear) in held {
         values.extend([second as u16, gear as u16]);
     }
-    Groups { all: values.into_iter().map(group).collect(), points_at, count_at, holds_at }
+    Groups { all: values.into_iter().map(group).collect(), gears_at, points_at, count_at, holds_at }
+}
+
+/// The first version that can tell a vehicle.
+pub fn version_of(v: &Vehicle) -> u16 {
+    let marked = v.m[..v.points as usize].iter().any(|m| *m > 0);
+    match (v.profile, marked) {
+        (1, _) => 3,
+        (_, true) => 2,
+        _ => 1,
+    }
 }
 
 /// Kinds of damage to groups; those above the last are done to bytes.
@@ -57,10 +74,11 @@ pub fn damage_groups(r: &mut Rng, g: &mut Groups, kind: i64) {
     match kind {
         0 => stretch(&mut g.all[any]),
         1 => g.all[any] = r.pick(&[&[0xFF, 0xFF, 4][..], &[0x80, 0x80, 4], &[0x80, 0x80, 0x80], &[0x80, 0x80, 0], &[0x80, 0], &[0xFF, 0xFF, 0x83, 0]]).to_vec(),
-        2 => g.all[1] = group(r.pick(&[0, 1, 11, 65_535])),
+        2 if g.gears_at == 2 && r.chance(50) => g.all[1] = group(r.pick(&[0, 1, 2, 2, 3, 128, 256, 65_535])),
+        2 => g.all[g.gears_at] = group(r.pick(&[0, 1, 2, 11, 65_535])),
         3 => g.all[g.points_at] = group(r.pick(&[0, 1, 65, 65_535])),
         4 => g.all[g.count_at] = group(r.pick(&[0, 2_049, 16_384, 16_385, 65_535])),
-        5 => g.all[0] = group(r.pick(&[0, 1, 2, 3, 127, 128, 257, 65_535])),
+        5 => g.all[0] = group(r.pick(&[0, 1, 2, 3, 4, 127, 128, 257, 65_535])),
         6 => g.all[g.holds_at] = group((held as i64 + r.range(-2, 2)).clamp(0, 65_535) as u16),
         7 => g.all[any] = group(r.next() as u16),
         _ => damage_hold(r, g, held),

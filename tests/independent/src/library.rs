@@ -53,6 +53,7 @@ fn put_vehicle(v: &Vehicle, to: &mut Vec<u8>) {
     put_all(&v.n, to);
     put_all(&v.p, to);
     put_all(&v.m, to);
+    v.profile.put(to);
 }
 
 fn get_vehicle(from: &mut impl Read) -> io::Result<Vehicle> {
@@ -69,6 +70,7 @@ fn get_vehicle(from: &mut impl Read) -> io::Result<Vehicle> {
     get_all(&mut v.n, from)?;
     get_all(&mut v.p, from)?;
     get_all(&mut v.m, from)?;
+    v.profile = u16::get(from)?;
     Ok(v)
 }
 

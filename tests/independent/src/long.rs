@@ -7,7 +7,7 @@ use crate::library::{Library, Loan};
 use crate::paper::{self, Refusal};
 use crate::rng::Rng;
 use crate::traces;
-use crate::vehicle::{car_z, Vehicle};
+use crate::vehicle::{car_z, with_crawler, Vehicle};
 use crate::vehicles;
 use std::path::Path;
 
@@ -23,7 +23,7 @@ pub fn run(library: &mut Library, seed: u64, dir: &Path) -> Result<(), String> {
         let mut r = Rng::of_case(seed, KIND, index as u64);
         let speeds = joined(&cycle, length);
         let mut holds = 0;
-        for vehicle in [car_z(), vehicles::mid_size(7), vehicles::mid_size(64)] {
+        for vehicle in [car_z(), vehicles::mid_size(7), vehicles::mid_size(64), with_crawler(&vehicles::mid_size(7), 20_000)] {
             let mut long = Long { library, r: &mut r, vehicle: &vehicle, speeds: &speeds };
             holds += long.drive().map_err(|why| format!("FAILED: {length} seconds, seed {seed}\n{why}"))?;
         }
@@ -110,7 +110,7 @@ impl Long<'_> {
     /// The job, into rooms that are just enough, one too small, and the card program's.
     fn read(&mut self, holds: &[u8]) -> Result<(), String> {
         let count = self.speeds.len();
-        let bytes = jobs::groups(1, self.vehicle, self.speeds, holds).all.concat();
+        let bytes = jobs::groups(jobs::version_of(self.vehicle), self.vehicle, self.speeds, holds).all.concat();
         let mut answers: Vec<Option<Refusal>> = Vec::new();
         for (speeds_room, holds_room) in [(count, count), (count - 1, count), (count, count - 1), (paper::PROGRAM_ROOM, paper::PROGRAM_ROOM)] {
             let expected = paper::read(&bytes, speeds_room, holds_room);

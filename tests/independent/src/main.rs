@@ -2,6 +2,7 @@
 //!
 //!   independent [--seed S] [--cases N] [--cycles DIR] -- DRIVER..    the cycles of DIR, the built-in and the scaled cycle, the long traces, then N cases of each kind (read, work, hold, release, export, write, mend)
 //!   with --class-3 FILE: that job must have the speeds of the built-in cycle
+//!   with --threads N: so many, each with a driver of its own, where else there is one for each processor; the cases and the counts are the same
 //!   independent [--seed S] --case KIND I -- DRIVER..                 one case again (KIND as above)
 //!   independent --job FILE                                           what the card program would print of a job, from the reference alone
 
@@ -16,6 +17,7 @@ mod jobs;
 mod library;
 mod long;
 mod paper;
+mod parts;
 mod revs;
 mod rng;
 mod sums;
@@ -25,16 +27,13 @@ mod vehicles;
 
 use events::Event;
 use library::Library;
+use parts::{Counts, Run, Tally};
 use std::path::Path;
 use std::process::exit;
-use std::time::{Duration, Instant};
+use std::thread;
 
-/// Read, work and hold together took about two minutes on a quiet x86-64 machine; with release, export and write it was timed only beside other work.
 const DEFAULT_CASES: u64 = 600_000;
 const DEFAULT_SEED: u64 = 20_261_115;
-
-/// Answers by kind and number, 0 for accepted.
-type Counts = [[u64; 23]; cases::KINDS.len()];
 
 /// The numbers of refusal, those of an export and those of a write.
 const NUMBERS: [usize; 21] = [1, 2, 3, 4, 5, 6, 7, 8, 9, 10, 11, 12, 13, 14, 15, 16, 17, 19, 20, 21, 22];
@@ -48,6 +47,7 @@ struct Options {
     case: Option<(usize, u64)>,
     cycles: Option<String>,
     class_3: Option<String>,
+    threads: usize,
 }
 
 fn main() {
@@ -63,10 +63,10 @@ fn main() {
     if driver.is_empty() {
         usage();
     }
-    let outcome = Library::start(driver).and_then(|library| match options.case {
-        Some((kind, index)) => one_case(library, options.seed, kind, index),
-        None => run(library, &options),
-    });
+    let outcome = match options.case {
+        Some((kind, index)) => Library::start(driver).and_then(|library| one_case(library, options.seed, kind, index)),
+        None => run(driver, &options),
+    };
     if let Err(why) = outcome {
         println!("{why}");
         exit(1);
@@ -74,12 +74,13 @@ fn main() {
 }
 
 fn usage() -> ! {
-    eprintln!("use: [--seed S] [--cases N] [--cycles DIR [--class-3 FILE]] -- DRIVER.. | [--seed S] --case KIND I -- DRIVER.. | --job FILE");
+    eprintln!("use: [--seed S] [--cases N] [--cycles DIR [--class-3 FILE]] [--threads N] -- DRIVER.. | [--seed S] --case KIND I -- DRIVER.. | --job FILE");
     exit(2)
 }
 
 fn options(words: &[String]) -> Options {
-    let mut options = Options { seed: DEFAULT_SEED, cases: DEFAULT_CASES, case: None, cycles: None, class_3: None };
+    let threads = thread::available_parallelism().map_or(1, |count| count.get());
+    let mut options = Options { seed: DEFAULT_SEED, cases: DEFAULT_CASES, case: None, cycles: None, class_3: None, threads };
     let mut words = words.iter().map(String::as_str);
     while let Some(option) = words.next() {
         let mut value = || words.next().unwrap_or_else(|| usage());
@@ -88,6 +89,7 @@ fn options(words: &[String]) -> Options {
             "--cases" => options.cases = number(value()),
             "--cycles" => options.cycles = Some(String::from(value())),
             "--class-3" => options.class_3 = Some(String::from(value())),
+            "--threads" => options.threads = number(value()).clamp(1, 64) as usize,
             "--case" => options.case = Some((kind(value()), number(value()))),
             _ => usage(),
         }
@@ -114,43 +116,40 @@ fn print_job(file: &str) {
 }
 
 fn one_case(mut library: Library, seed: u64, kind: usize, index: u64) -> Result<(), String> {
-    let number = cases::run(&mut library, seed, kind, index)?;
-    println!("agreed, answer {number}");
+    let met = cases::run(&mut library, seed, kind, index)?;
+    println!("agreed, answer {}", met.number);
     library.end()
 }
 
-fn run(mut library: Library, options: &Options) -> Result<(), String> {
+fn run(driver: &[String], options: &Options) -> Result<(), String> {
     sums::check();
     exports::check();
     println!("the paper's own sums: agreed");
-    if let Some(dir) = &options.cycles {
-        drives::run(&mut library, options.seed, Path::new(dir))?;
-        builtin::run(&mut library, options.seed, Path::new(dir), options.class_3.as_deref().map(Path::new))?;
-        downscale::run(&mut library, options.seed, Path::new(dir))?;
-        long::run(&mut library, options.seed, Path::new(dir))?;
-    }
-    let mut met: Counts = [[0; 23]; cases::KINDS.len()];
-    let mut spent = [Duration::ZERO; cases::KINDS.len()];
-    for index in 0..options.cases {
-        for kind in 0..cases::KINDS.len() {
-            let start = Instant::now();
-            let number = cases::run(&mut library, options.seed, kind, index)?;
-            spent[kind] += start.elapsed();
-            met[kind][number as usize] += 1;
-        }
-    }
-    for (kind, time) in cases::KINDS.iter().zip(spent) {
+    events::hand_in();
+    let opening = |library: &mut Library| opening(library, options);
+    let tally = Run { driver, seed: options.seed, cases: options.cases, opening: &opening }.all(options.threads)?;
+    for (kind, time) in cases::KINDS.iter().zip(tally.spent) {
         let each = time.as_micros() as u64 / options.cases.max(1);
         println!("{kind}: {} cases of seed {} agreed, {each} ms for each 1,000 cases", options.cases, options.seed);
     }
-    library.end()?;
     events::print();
-    print_counts(&met);
+    print_counts(&tally.met);
+    print_profiles(&tally);
     minima_met()?;
-    all_met(&met)
+    vans_met(&tally)?;
+    all_met(&tally.met)
 }
 
-/// A minimum of gear 2 that never decided was not tested, nor was a later second that an edit leaves without a gear.
+/// What is driven whole, or filled, before the cases.
+fn opening(library: &mut Library, options: &Options) -> Result<(), String> {
+    let Some(dir) = options.cycles.as_deref().map(Path::new) else { return Ok(()) };
+    drives::run(library, options.seed, dir)?;
+    builtin::run(library, options.seed, dir, options.class_3.as_deref().map(Path::new))?;
+    downscale::run(library, options.seed, dir)?;
+    long::run(library, options.seed, dir)
+}
+
+/// A minimum of second gear's part that never decided was not tested, nor was a later second that an edit leaves without a gear.
 fn minima_met() -> Result<(), String> {
     let wanted = [Event::ElsewhereDecides, Event::ClosingDecides, Event::AfterFirstDecides, Event::LaterWithout];
     let missed: Vec<&str> = wanted.into_iter().filter_map(events::missed).collect();
@@ -166,6 +165,27 @@ fn print_counts(met: &Counts) {
         let name = if number == 0 { String::from("accepted") } else { number.to_string() };
         println!("{name:>9}{}", met.map(|counts| format!(" {:>8}", counts[number])).concat());
     }
+}
+
+/// A case is of profile 1 where the vehicle lent, or the job read, has a crawler.
+fn print_profiles(tally: &Tally) {
+    let rows = [("profile 0", tally.profiles[0]), ("profile 1", tally.profiles[1]), ("accepted", tally.vans), ("neither", tally.profiles[2])];
+    for (name, counts) in rows {
+        println!("{name:>9}{}", counts.map(|count| format!(" {count:>8}")).concat());
+    }
+}
+
+/// Vans are tried with every kind that knows of vehicles, and each turn that is theirs alone.
+fn vans_met(tally: &Tally) -> Result<(), String> {
+    if let Some(kind) = (0..cases::KINDS.len()).find(|&kind| cases::KINDS[kind] != "export" && tally.vans[kind] == 0) {
+        return Err(format!("FAILED: no van was accepted by {}", cases::KINDS[kind]));
+    }
+    let wanted = [Event::CrawlerHeld, Event::CrawlerAtRest, Event::ProfileRead, Event::TwoGearsRead, Event::VanAsCar];
+    let missed: Vec<&str> = wanted.into_iter().filter_map(events::missed).collect();
+    if missed.is_empty() {
+        return Ok(());
+    }
+    Err(format!("FAILED: never met: {}", missed.join("; ")))
 }
 
 /// A refusal that no case met was not tested.

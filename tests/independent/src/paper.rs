@@ -1,11 +1,14 @@
-//! The paper's rules, written out one by one from docs/01-scope.md, and the requests of docs/02-change-requests.md that have landed, and docs/02-change-requests.md with i128 throughout.
+//! The paper's rules, written out one by one from docs/01-scope.md and the requests of docs/02-change-requests.md that have landed, with i128 throughout.
 //! Nothing here is meant to be quick: a rule reads as the paper words it.
 
 use crate::events::{note, Event};
 use crate::jobs;
 use crate::vehicle::{Vehicle, ZERO};
+use std::ops::RangeInclusive;
 
 pub const LONGEST: usize = 16_384;
+/// Of a job.
+pub const VERSIONS: RangeInclusive<u16> = 1..=3;
 /// The card program's, in seconds.
 pub const PROGRAM_ROOM: usize = 4_096;
 
@@ -22,7 +25,7 @@ pub fn first_bad_field(v: &Vehicle) -> Option<usize> {
 /// Fields are asked for in order, so a field may rely on those before it (field 2 on the gear count, 12 and 13 on the point count).
 fn field_good(v: &Vehicle, field: usize) -> bool {
     match field {
-        1 => (2..=10).contains(&v.ng),
+        1 => v.profile <= 1 && gear_count_good(v.profile, v.ng),
         2 => ratios_good(&v.ratio[..v.ng as usize]),
         3 => (300..=3000).contains(&v.idle),
         4 => v.rated > v.idle && v.rated <= 12_000,
@@ -36,6 +39,12 @@ fn field_good(v: &Vehicle, field: usize) -> bool {
         12 => points_good(&v.n[..v.points as usize], &v.p[..v.points as usize]) && v.m[..v.points as usize].iter().all(|m| margin_good(v.margin, *m)),
         _ => v.n[0] <= v.idle && v.n[v.points as usize - 1] >= v.nmax,
     }
+}
+
+/// Request Thirteen: ng is 2 to 10, and 3 to 10 with a crawler.
+fn gear_count_good(profile: u16, ng: u16) -> bool {
+    let fewest = if profile == 1 { 3 } else { 2 };
+    (fewest..=10).contains(&ng)
 }
 
 fn ratios_good(ratio: &[u16]) -> bool {
@@ -58,6 +67,16 @@ pub fn moving(speed: u16) -> bool {
     speed >= 10
 }
 
+/// Request Thirteen: the gear that takes first gear's part; the next two take second and third gear's. A crawler is not driven.
+pub fn lowest(v: &Vehicle) -> u8 {
+    if v.profile == 1 { 2 } else { 1 }
+}
+
+/// From the lowest on.
+pub fn gears(v: &Vehicle) -> RangeInclusive<u8> {
+    lowest(v)..=v.ng as u8
+}
+
 /// X, thousandths of min^-1. Gears count from 1.
 pub fn engine(v: &Vehicle, gear: u8, speed: u16) -> i128 {
     v.ratio[gear as usize - 1] as i128 * speed as i128
@@ -68,12 +87,12 @@ fn nearest(top: i128, bottom: i128) -> i128 {
     (2 * top + bottom).div_euclid(2 * bottom)
 }
 
-/// Where a second lies, as far as the minimum speed of gear 2 asks (request Two).
+/// Where a second lies, as far as the minimum speed of second gear's part asks (request Two).
 #[derive(Clone, Copy, PartialEq, Debug)]
 pub enum Lies {
     /// In the closing run of its trip.
     Closing,
-    /// Not there, and the second before lies in the trip with first choice 1.
+    /// Not there, and the second before lies in the trip with the lowest gear as first choice.
     AfterFirst,
     Elsewhere,
 }
@@ -82,7 +101,8 @@ pub const LIES: [Lies; 3] = [Lies::Closing, Lies::AfterFirst, Lies::Elsewhere];
 
 pub fn minimum(v: &Vehicle, gear: u8, lies: Lies) -> i128 {
     let (idle, rated) = (v.idle as i128, v.rated as i128);
-    match (gear, lies) {
+    // The gear of document 01 whose part it takes.
+    match (gear + 1 - lowest(v), lies) {
         (1, _) => idle,
         (2, Lies::Closing) => idle,
         (2, Lies::AfterFirst) => nearest(115 * idle, 100),
@@ -95,12 +115,13 @@ fn within_nmax(v: &Vehicle, gear: u8, speed: u16) -> bool {
     engine(v, gear, speed) <= 1000 * v.nmax as i128
 }
 
+/// Of a gear that is driven.
 pub fn fits(v: &Vehicle, gear: u8, speed: u16, opens_trip: bool, lies: Lies) -> bool {
     let x = engine(v, gear, speed);
     let least = 1000 * minimum(v, gear, lies);
     let between = x >= least && within_nmax(v, gear, speed);
-    let slow_first = gear == 1 && x < least;
-    (between || slow_first) && (gear == 1 || !opens_trip)
+    let slow_first = gear == lowest(v) && x < least;
+    (between || slow_first) && (gear == lowest(v) || !opens_trip)
 }
 
 /// E, in 1/(3.24 x 10^12) kW; D keeps its sign.
@@ -158,14 +179,14 @@ fn opens_trip(speeds: &[u16], s: usize) -> bool {
 
 /// From this second to the end of its trip every V is above the V that follows.
 fn in_closing_run(speeds: &[u16], s: usize) -> bool {
-    let last = trip_of(speeds, s).last;
-    last + 1 < speeds.len() && (s..=last).all(|k| speeds[k] > speeds[k + 1])
+    let rest = speeds[s..].iter().take_while(|speed| moving(**speed)).count();
+    s + rest < speeds.len() && (s..s + rest).all(|k| speeds[k] > speeds[k + 1])
 }
 
-fn lies(speeds: &[u16], s: usize, before: Option<u8>) -> Lies {
+fn lies(v: &Vehicle, speeds: &[u16], s: usize, before: Option<u8>) -> Lies {
     if in_closing_run(speeds, s) {
         Lies::Closing
-    } else if before == Some(1) {
+    } else if before == Some(lowest(v)) {
         Lies::AfterFirst
     } else {
         Lies::Elsewhere
@@ -174,7 +195,7 @@ fn lies(speeds: &[u16], s: usize, before: Option<u8>) -> Lies {
 
 fn fitting_gears(v: &Vehicle, speeds: &[u16], s: usize, lies: Lies) -> Vec<u8> {
     let opens = opens_trip(speeds, s);
-    (1..=v.ng as u8).filter(|&gear| fits(v, gear, speeds[s], opens, lies)).collect()
+    gears(v).filter(|&gear| fits(v, gear, speeds[s], opens, lies)).collect()
 }
 
 /// The choice at a moving second without a hold; none where no gear fits.
@@ -190,7 +211,7 @@ pub fn first_choice(v: &Vehicle, speeds: &[u16], holds: &[u8], s: usize, before:
     if holds[s] != 0 {
         return Some(holds[s]);
     }
-    let lies = lies(speeds, s, before);
+    let lies = lies(v, speeds, s, before);
     let chosen = choice(v, speeds, s, lies);
     if before.is_some() {
         note_minimum(v, speeds, s, lies, chosen);
@@ -198,9 +219,9 @@ pub fn first_choice(v: &Vehicle, speeds: &[u16], holds: &[u8], s: usize, before:
     chosen
 }
 
-/// Counts a second at which the minimum of gear 2 decides: with another of the three the choice would be another.
+/// Counts a second at which the minimum of second gear's part decides: with another of the three the choice would be another.
 fn note_minimum(v: &Vehicle, speeds: &[u16], s: usize, lies: Lies, chosen: Option<u8>) {
-    let fits_2 = |lies: Lies| fits(v, 2, speeds[s], false, lies);
+    let fits_2 = |lies: Lies| fits(v, lowest(v) + 1, speeds[s], false, lies);
     let other = |another: Lies| fits_2(another) != fits_2(lies) && choice(v, speeds, s, another) != chosen;
     if LIES.into_iter().any(other) {
         note(match lies {
@@ -268,9 +289,9 @@ pub fn trip_of(speeds: &[u16], second: usize) -> Trip {
     trip
 }
 
-/// The lowest gear that does not turn the engine past nmax. Every moving second of an accepted trace has one.
+/// The lowest driven gear that does not turn the engine past nmax. Every moving second of an accepted trace has one.
 fn floor(v: &Vehicle, speed: u16) -> u8 {
-    (1..=v.ng as u8).find(|&gear| within_nmax(v, gear, speed)).expect("a second without a floor")
+    gears(v).find(|&gear| within_nmax(v, gear, speed)).expect("a second without a floor")
 }
 
 /// Gears lie in the trace's places, so that the passes speak of the paper's seconds.
@@ -308,7 +329,7 @@ pub fn pass_b(v: &Vehicle, speeds: &[u16], holds: &[u8], trip: Trip, gears: &mut
     }
 }
 
-fn pass_c(speeds: &[u16], holds: &[u8], trip: Trip, gears: &mut [u8]) {
+fn pass_c(v: &Vehicle, speeds: &[u16], holds: &[u8], trip: Trip, gears: &mut [u8]) {
     let in_tail = |s: usize| (s..=trip.last).all(|k| speeds[k] > speeds[k + 1]);
     // The tail is short beside the trip: it is looked for from the end, then walked from the left.
     let mut start = trip.last + 1;
@@ -317,9 +338,9 @@ fn pass_c(speeds: &[u16], holds: &[u8], trip: Trip, gears: &mut [u8]) {
     }
     debug_assert!(start > trip.last || in_tail(start));
     for s in start..=trip.last {
-        if s != trip.first && holds[s] == 0 && gears[s] == 1 {
+        if s != trip.first && holds[s] == 0 && gears[s] == lowest(v) {
             note(Event::PassC);
-            gears[s] = 2;
+            gears[s] = lowest(v) + 1;
         }
     }
 }
@@ -331,7 +352,7 @@ fn work_trip(v: &Vehicle, speeds: &[u16], holds: &[u8], trip: Trip, card: &mut [
     gears[trip.first..=trip.last].copy_from_slice(&chosen);
     pass_a(v, speeds, holds, trip, &mut gears);
     pass_b(v, speeds, holds, trip, &mut gears);
-    pass_c(speeds, holds, trip, &mut gears);
+    pass_c(v, speeds, holds, trip, &mut gears);
     for s in trip.first..=trip.last {
         let slow = engine(v, gears[s], speeds[s]) < 1000 * v.idle as i128;
         let down = change(speeds, s) <= 0 && slow;
@@ -380,9 +401,18 @@ fn seconds_sound(v: &Vehicle, speeds: &[u16], holds: &[u8], from: usize, to: usi
     if moving(speeds[to]) {
         return Err((6, to));
     }
-    refuse_first(7, from, to, |s| holds[s] as u16 > v.ng)?;
+    refuse_first(7, from, to, |s| holds[s] != 0 && !driven(v, holds[s]))?;
     refuse_first(8, from, to, |s| holds[s] != 0 && !moving(speeds[s]))?;
     refuse_first(9, from, to, |s| holds[s] != 0 && !within_nmax(v, holds[s], speeds[s]))
+}
+
+/// A gear that may be held: not above ng, and no crawler.
+fn driven(v: &Vehicle, gear: u8) -> bool {
+    let is = gears(v).contains(&gear);
+    if !is && gear == 1 {
+        note(Event::CrawlerHeld);
+    }
+    is
 }
 
 /// The lowest second wins.
@@ -454,7 +484,13 @@ fn edit_standing(v: &Vehicle, second: usize, asked: Option<u8>) -> Result<(), Re
             Ok(())
         }
         Some(0) => Err((7, second)),
-        Some(gear) => Err((if gear as u16 > v.ng { 7 } else { 8 }, second)),
+        Some(gear) if !driven(v, gear) => {
+            if gear == 1 {
+                note(Event::CrawlerAtRest);
+            }
+            Err((7, second))
+        }
+        Some(_) => Err((8, second)),
     }
 }
 
@@ -563,7 +599,7 @@ impl Cursor<'_> {
 pub fn read(bytes: &[u8], speeds_room: usize, holds_room: usize) -> Result<Job, Refusal> {
     let mut c = Cursor { bytes, at: 0 };
     let version = c.group()?;
-    if version != 1 && version != 2 {
+    if !VERSIONS.contains(&version) {
         return Err((14, 0));
     }
     let vehicle = read_vehicle(&mut c, version)?;
@@ -584,8 +620,19 @@ pub fn read(bytes: &[u8], speeds_room: usize, holds_room: usize) -> Result<Job, 
 
 fn read_vehicle(c: &mut Cursor, version: u16) -> Result<Vehicle, Refusal> {
     let mut v = ZERO;
+    // Request Thirteen: each of the two as it is read.
+    if version >= 3 {
+        v.profile = c.group()?;
+        if v.profile > 1 {
+            note(Event::ProfileRead);
+            return Err((3, 1));
+        }
+    }
     v.ng = c.group()?;
-    if !(2..=10).contains(&v.ng) {
+    if !gear_count_good(v.profile, v.ng) {
+        if v.ng == 2 {
+            note(Event::TwoGearsRead);
+        }
         return Err((3, 1));
     }
     for k in 0..v.ng as usize {
@@ -606,7 +653,7 @@ fn read_vehicle(c: &mut Cursor, version: u16) -> Result<Vehicle, Refusal> {
     for k in 0..v.points as usize {
         v.n[k] = c.group()?;
         v.p[k] = c.group()?;
-        if version == 2 {
+        if version >= 2 {
             v.m[k] = c.group()?;
         }
     }
@@ -637,7 +684,7 @@ fn read_holds(c: &mut Cursor, count: usize) -> Result<Vec<u8>, Refusal> {
 
 /// The bytes of the job, or the refusal: 14 first, 1 to 9 as in the working, then 17 by the length needed.
 pub fn write(version: u16, v: &Vehicle, speeds: &[u16], holds: &[u8], room: usize) -> Result<Vec<u8>, Refusal> {
-    if version != 1 && version != 2 {
+    if !VERSIONS.contains(&version) {
         return Err((14, 0));
     }
     lengths_good(speeds.len(), holds.len(), speeds.len())?;
@@ -650,9 +697,14 @@ pub fn write(version: u16, v: &Vehicle, speeds: &[u16], holds: &[u8], room: usiz
     Ok(bytes)
 }
 
-/// The first field that is out of bounds, or that its version cannot tell: in version 1 a margin at a point that counts, which is part of field 12.
+/// The first field that is out of bounds, or that its version cannot tell: before version 3 a profile, which is part of field 1; in version 1 a margin at a
+/// point that counts, which is part of field 12.
 fn told_good(version: u16, v: &Vehicle) -> Result<(), Refusal> {
-    let untold = |field: usize| field == 12 && version == 1 && v.m[..v.points as usize].iter().any(|m| *m > 0);
+    let untold = |field: usize| match field {
+        1 => version < 3 && v.profile != 0,
+        12 => version < 2 && v.m[..v.points as usize].iter().any(|m| *m > 0),
+        _ => false,
+    };
     match (1..=13).find(|&field| !field_good(v, field) || untold(field)) {
         Some(field) => Err((3, field)),
         None => Ok(()),

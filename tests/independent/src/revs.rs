@@ -28,7 +28,7 @@ impl Finished<'_> {
             if self.speeds[s] < 10 {
                 continue;
             }
-            if !(1..=self.vehicle.ng).contains(&self.gear(s)) || self.over_nmax(self.gear(s), s) {
+            if !(self.lowest()..=self.vehicle.ng).contains(&self.gear(s)) || self.over_nmax(self.gear(s), s) {
                 return Err(format!("request Twelve: gear {} at second {s} is none, or turns the engine past nmax", self.gear(s)));
             }
             // A trip begins after a standing second, so a second after a moving one is not the first of its trip.
@@ -47,12 +47,17 @@ impl Finished<'_> {
             }
             return Ok(());
         }
-        // No higher than the floor: each gear below it turns the engine past nmax.
-        if (1..gear).all(|lower| self.over_nmax(lower, s)) {
+        // No higher than the floor: each driven gear below it turns the engine past nmax.
+        if (self.lowest()..gear).all(|lower| self.over_nmax(lower, s)) {
             note(Event::RisesToFloor);
             return Ok(());
         }
         Err(format!("request Twelve: gear {gear} at second {s} comes after {before}, the speed rises, and the floor is lower"))
+    }
+
+    /// The second gear, where the first is a crawler.
+    fn lowest(&self) -> u16 {
+        1 + self.vehicle.profile
     }
 
     fn gear(&self, s: usize) -> u16 {

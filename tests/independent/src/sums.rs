@@ -2,7 +2,7 @@
 
 use crate::jobs;
 use crate::paper::{self, Lies, Trip, LIES};
-use crate::vehicle::car_z;
+use crate::vehicle::{car_z, with_crawler, without_crawler, Vehicle};
 
 pub fn check() {
     one_second();
@@ -11,6 +11,35 @@ pub fn check() {
     groups();
     printed();
     written();
+    vans();
+}
+
+/// Request Thirteen: car Z with a crawler of 200 min^-1 per km/h.
+fn vans() {
+    let van = with_crawler(&car_z(), 20_000);
+    assert_eq!(without_crawler(&van), car_z());
+    assert_eq!([2, 3, 4, 6].map(|gear| paper::minimum(&van, gear, Lies::Elsewhere)), [800, 720, 1400, 1400]);
+    assert_eq!(LIES.map(|lies| paper::minimum(&van, 3, lies)), [800, 920, 720]);
+    let speeds = [0, 50, 150, 100, 0];
+    let right = [18, 2, 3, 19, 0];
+    assert_eq!(paper::work(&van, &speeds, &[0; 5], 5), Ok(right.to_vec()));
+    assert_eq!(paper::work(&van, &speeds, &[0, 0, 4, 0, 0], 5), Ok(vec![18, 2, 20, 19, 0]));
+    assert_eq!(paper::work(&van, &speeds, &[0, 0, 1, 0, 0], 5), Err((7, 2)));
+    // The same gears, all of them driven: X in second gear is 1,800,000 and 1,200,000, third gear is below its 1400.
+    assert_eq!(paper::work(&Vehicle { profile: 0, ..van }, &speeds, &[0; 5], 5), Ok(vec![17, 1, 2, 2, 0]));
+    // 7 before 8, and gear 0 is no hold.
+    assert_eq!(paper::hold(&van, &speeds, &[0; 5], &right, 4, 1), Err((7, 4)));
+    assert_eq!(paper::hold(&van, &speeds, &[0; 5], &right, 4, 2), Err((8, 4)));
+    assert_eq!(paper::work(&van, &speeds, &[0, 0, 0, 0, 1], 5), Err((7, 4)));
+    assert_eq!(paper::work(&Vehicle { profile: 2, ..van }, &speeds, &[0; 5], 5), Err((3, 1)));
+    assert_eq!(paper::work(&Vehicle { ng: 2, ..van }, &speeds, &[0; 5], 5), Err((3, 1)));
+    assert!(paper::work(&Vehicle { ng: 3, ..van }, &speeds, &[0; 5], 5).is_ok());
+    let bytes = paper::write(3, &van, &speeds, &[0; 5], 80).unwrap();
+    assert_eq!((bytes.len(), &bytes[..6]), (74, &[3, 1, 6, 0xA0, 0x9C, 1][..]));
+    assert!(paper::read(&bytes, 5, 5).is_ok_and(|job| job.version == 3 && job.vehicle == van));
+    assert_eq!([1, 2].map(|version| paper::write(version, &van, &speeds, &[0; 5], 80)), [Err((3, 1)), Err((3, 1))]);
+    let refusal = |bytes: &[u8]| paper::read(bytes, 9, 9).err();
+    assert_eq!([refusal(&[3]), refusal(&[3, 2]), refusal(&[3, 1, 2]), refusal(&[3, 0, 2]), refusal(&[3, 1, 3])], [Some((12, 1)), Some((3, 1)), Some((3, 1)), Some((12, 3)), Some((12, 3))]);
 }
 
 fn one_second() {
@@ -75,7 +104,7 @@ fn groups() {
     assert_eq!(refusal(&[0x80, 0]), Some((13, 0)));
     assert_eq!(refusal(&[0x80, 0x80, 4]), Some((13, 0)));
     assert_eq!(refusal(&[0xFF, 0xFF, 3]), Some((14, 0)));
-    assert_eq!(refusal(&[3]), Some((14, 0)));
+    assert_eq!(refusal(&[4]), Some((14, 0)));
     assert_eq!(refusal(&[2]), Some((12, 1)));
     assert_eq!(refusal(&[]), Some((12, 0)));
 }
@@ -96,7 +125,7 @@ fn written() {
     assert_eq!(paper::write(1, &z, &[0, 151, 0], &[0; 3], 0), Err((5, 1)));
     let mut marked = z;
     marked.m[1] = 50;
-    assert_eq!(paper::write(3, &marked, &speeds, &[0; 4], 0), Err((14, 0)));
+    assert_eq!(paper::write(4, &marked, &speeds, &[0; 4], 0), Err((14, 0)));
     assert_eq!(paper::write(1, &marked, &speeds, &[0; 5], 100), Err((3, 12)));
     let bytes = paper::write(2, &marked, &speeds, &[0; 5], 70).unwrap();
     assert_eq!((bytes.len(), bytes[0], &bytes[28..37]), (70, 2, &[160, 6, 100, 0, 136, 14, 172, 2, 50][..]));

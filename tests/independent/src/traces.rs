@@ -87,7 +87,7 @@ impl Walk<'_> {
     }
 
     fn leave_rest(&mut self, r: &mut Rng, before: i64, cap: i64) -> i64 {
-        let first_gear = if self.careful { 1000 * self.v.nmax as i64 / self.v.ratio[0] as i64 } else { 2000 };
+        let first_gear = if self.careful { 1000 * self.v.nmax as i64 / self.v.ratio[paper::lowest(self.v) as usize - 1] as i64 } else { 2000 };
         let high = cap.min(before + 150).min(first_gear);
         if self.style == Style::Standing || high < 10 || self.rest_left > 0 {
             self.rest_left -= 1;
@@ -123,7 +123,7 @@ impl Walk<'_> {
     }
 
     fn some_gear_fits(&self, speed: i64) -> bool {
-        !self.careful || (1..=self.v.ng as u8).any(|gear| paper::fits(self.v, gear, speed as u16, false, Lies::Elsewhere))
+        !self.careful || paper::gears(self.v).any(|gear| paper::fits(self.v, gear, speed as u16, false, Lies::Elsewhere))
     }
 
     fn step(&mut self, r: &mut Rng, before: i64) -> i64 {
@@ -165,7 +165,7 @@ pub fn holds(r: &mut Rng, v: &Vehicle, speeds: &[u16]) -> Vec<u8> {
 
 /// A gear within nmax: below its minimum speed is allowed for a hold.
 fn good_gear(r: &mut Rng, v: &Vehicle, speed: u16, low_only: bool) -> Option<u8> {
-    let lowest = (1..=v.ng as u8).find(|&gear| paper::engine(v, gear, speed) <= 1000 * v.nmax as i128)?;
+    let lowest = paper::gears(v).find(|&gear| paper::engine(v, gear, speed) <= 1000 * v.nmax as i128)?;
     let highest = if low_only { (lowest + 2).min(v.ng as u8) } else { v.ng as u8 };
     Some(r.range(lowest as i64, highest as i64) as u8)
 }
@@ -178,7 +178,7 @@ pub fn put_fault(r: &mut Rng, v: &Vehicle, speeds: &mut [u16], holds: &mut [u8],
         6 => length.checked_sub(1).map(|last| r.pick(&[0, last])),
         7 => any_place(r, length, |_| true),
         8 => any_place(r, length, |s| !paper::moving(speeds[s])),
-        9 => any_place(r, length, |s| paper::moving(speeds[s]) && paper::engine(v, 1, speeds[s]) > 1000 * v.nmax as i128),
+        9 => any_place(r, length, |s| paper::moving(speeds[s]) && paper::engine(v, paper::lowest(v), speeds[s]) > 1000 * v.nmax as i128),
         10 => unfit_place(r, v, speeds),
         _ => any_place(r, length, |s| paper::moving(speeds[s])),
     }?;
@@ -187,9 +187,10 @@ pub fn put_fault(r: &mut Rng, v: &Vehicle, speeds: &mut [u16], holds: &mut [u8],
         5 => put_step(r, speeds, place),
         6 if r.chance(25) => all_moving(speeds),
         6 => speeds[place] = r.range(10, 120) as u16,
+        7 if v.profile == 1 && r.chance(50) => holds[place] = 1,
         7 => holds[place] = if r.chance(70) { v.ng as u8 + 1 } else { r.pick(&[11, 16, 17, 128, 255]) },
-        8 => holds[place] = r.range(1, v.ng as i64) as u8,
-        9 => holds[place] = 1,
+        8 => holds[place] = r.range(paper::lowest(v) as i64, v.ng as i64) as u8,
+        9 => holds[place] = paper::lowest(v),
         _ => put_unfit(r, v, speeds, holds, place),
     }
     Some(place)
@@ -218,7 +219,7 @@ fn all_moving(speeds: &mut [u16]) {
 fn unfit_near(v: &Vehicle, speeds: &[u16], s: usize) -> Vec<u16> {
     let opens = s > 0 && !paper::moving(speeds[s - 1]);
     let here = speeds[s] as i64;
-    let unfit = |speed: &i64| (1..=v.ng as u8).all(|gear| !paper::fits(v, gear, *speed as u16, opens, Lies::Elsewhere));
+    let unfit = |speed: &i64| paper::gears(v).all(|gear| !paper::fits(v, gear, *speed as u16, opens, Lies::Elsewhere));
     ((here - 120).max(10)..=(here + 120).min(2000)).filter(unfit).map(|speed| speed as u16).collect()
 }
 

@@ -16,6 +16,7 @@ pub struct Vehicle {
     pub n: [u16; 64],
     pub p: [u16; 64],
     pub m: [u16; 64],
+    pub profile: u16,
 }
 
 pub const ZERO: Vehicle = Vehicle {
@@ -33,6 +34,7 @@ pub const ZERO: Vehicle = Vehicle {
     n: [0; 64],
     p: [0; 64],
     m: [0; 64],
+    profile: 0,
 };
 
 /// Car Z of the paper's sums.
@@ -42,4 +44,19 @@ pub fn car_z() -> Vehicle {
     v.n[..7].copy_from_slice(&[800, 1800, 2800, 3800, 4800, 5600, 6000]);
     v.p[..7].copy_from_slice(&[100, 300, 500, 700, 850, 900, 880]);
     v
+}
+
+/// Request Thirteen: the same car with a crawler, of that ratio, below its first gear.
+pub fn with_crawler(car: &Vehicle, ratio: u16) -> Vehicle {
+    let mut van = Vehicle { ng: car.ng + 1, profile: 1, ..*car };
+    van.ratio[0] = ratio;
+    van.ratio[1..].copy_from_slice(&car.ratio[..9]);
+    van
+}
+
+/// And the car that a van is without its crawler.
+pub fn without_crawler(van: &Vehicle) -> Vehicle {
+    let mut car = Vehicle { ng: van.ng - 1, profile: 0, ..*van };
+    car.ratio[..9].copy_from_slice(&van.ratio[1..]);
+    car
 }

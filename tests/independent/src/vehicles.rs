@@ -1,7 +1,7 @@
 //! Vehicles: realistic, round (so that equalities are met), wild within the bounds, at the bounds, and one past them.
 
 use crate::rng::Rng;
-use crate::vehicle::{car_z, Vehicle, ZERO};
+use crate::vehicle::{car_z, with_crawler, Vehicle, ZERO};
 
 /// A vehicle within all bounds. Places past ng and past the point count hold anything: nothing may look at them.
 pub fn good(r: &mut Rng) -> Vehicle {
@@ -13,8 +13,23 @@ pub fn good(r: &mut Rng) -> Vehicle {
         78..=89 => wild(r),
         _ => at_bounds(r),
     };
+    crawler(r, &mut v);
     fill_unused(r, &mut v);
     v
+}
+
+/// Request Thirteen: in four of ten vehicles that can have one, a crawler: below the first gear, or that gear itself.
+fn crawler(r: &mut Rng, v: &mut Vehicle) {
+    if !r.chance(40) {
+        return;
+    }
+    let first = v.ratio[0] as i64;
+    if v.ng < 10 && first < 50_000 && r.chance(60) {
+        let ratio = r.edge(first + 1, (first * 2).min(50_000));
+        *v = with_crawler(v, ratio as u16);
+    } else if v.ng >= 3 {
+        v.profile = 1;
+    }
 }
 
 fn fill_unused(r: &mut Rng, v: &mut Vehicle) {
@@ -214,7 +229,8 @@ pub fn break_field(r: &mut Rng, v: &mut Vehicle, field: usize) {
     let point = r.below(v.points as usize);
     let far = r.chance(15);
     match field {
-        1 => v.ng = if far { r.pick(&[0, 12, 255, 256, 65_535]) } else { r.pick(&[1, 11]) },
+        1 if r.chance(40) => v.profile = if far { r.pick(&[255, 256, 257, 65_535]) } else { r.pick(&[2, 2, 3]) },
+        1 => v.ng = if far { r.pick(&[0, 12, 255, 256, 65_535]) } else { r.pick(&[1 + v.profile, 11]) },
         2 => break_ratio(r, v, gear),
         3 => v.idle = if far { r.pick(&[0, 65_535]) } else { r.pick(&[299, 3001]) },
         4 => v.rated = if far { r.pick(&[0, 65_535]) } else { r.pick(&[v.idle, 12_001]) },

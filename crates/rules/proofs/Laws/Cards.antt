@@ -24,7 +24,7 @@ use Rattle.rules.proofs.Laws.Words.{if-ind, and-fails, at-part, length-
 use Rattle.rules.proofs.Laws.Trips.{trip-of, stop-in, trip-start, trip-stop}
 use Rattle.rules.proofs.Laws.Held.{first-is, held-gear}
 use Rattle.rules.proofs.Laws.Limits.{InRange, of-under, under-of, first-in, gears-in}
-use Rattle.rules.proofs.Laws.Checks.{passed}
+use Rattle.rules.proofs.Laws.Checks.{driven, passed}
 use Rattle.rules.proofs.Laws.Closing.{closing-part}
 use Rattle.rules.specs.declared.Place.the-variants.{First, Closing, AfterLow, Inner}
 
@@ -127,10 +127,11 @@ module _ (car : Vehicle) (vs hs : List ℕ) (n : length hs ≡ length vs) (i : �
 
   module _ (C : InBounds car) (F : Fit car vs hs i) where
     hold-in-range : at hs i ≢ 0 → InRange car C (at vs i) (at hs i)
-    unfolding bad low
+    unfolding bad
     hold-in-range h =
+        let d = driven car (at hs i) (F .hold-in-ng) in
         let held : not (eqb (at hs i) 0) ≡ true = rw (ne-eqb (at hs i) 0 h) in
-        of-under car C (at vs i) (at hs i) (omega arith) (ltb-false _ _ (F .hold-in-ng)) (not-false _ (and-fails (not (eqb (at hs i) 0)) _ held (F .hold-in-nmax)))
+        of-under car C (at vs i) (at hs i) (d .1 h) (d .0) (not-false _ (and-fails (not (eqb (at hs i) 0)) _ held (F .hold-in-nmax)))
 
     first-in-range : InRange car C (at vs i) (first-at car vs hs i)
     unfolding first-at bad

@@ -4,20 +4,20 @@ use Prim.Native.Nat.{ℕ, zero, suc, _+_, _-_, _≤_, _<_}
 use native.Mathlib.Nat.{sub-zero, not-suc-le-zero, le-of-suc-le-suc}
 use native.Mathlib.Omega.{arith}
 use mathlib.Core.Path.{_≡_, refl, sym, ap, _∙_}
-use mathlib.Core.Logic.{_⊎_, inl, inr}
+use mathlib.Core.Logic.{_≢_, _⊎_, inl, inr}
 use mathlib.Core.Bool.{Bool, true, false, not}
 use mathlib.Core.Option.{Option, none, some}
 use mathlib.Core.List.{List, [], _∷_, _++_}
 use lib.Dec.{ltb, lit<}
-use borrow.Author.Tests.{lt-ltb, le-ltb, ltb-true, eqb-true, not-false}
+use borrow.Author.Tests.{ltb-false, lt-ltb, le-ltb, ltb-true, eqb-true, not-false}
 use lib.ListN.{length, getD}
 use Rattle.rules.specs.declared.Vehicle.{Vehicle}
 use Rattle.rules.specs.Words.{if_then_else_, _and_, _or_, first}
-use Rattle.rules.specs.Refusals.{Fault, refuse-at, _orelse_, when, trace-fault, room-fault, vehicle-fault, Check, speed, step, ends, over-ng, at-rest, over-rev, no-gear, check-number, checks, last-check, bad, fault-of, seconds-fault, gear-fault, span-fault, work-fault, left, second-fault, edit-fault}
-use Rattle.rules.specs.Units.{bad-field, longest}
+use Rattle.rules.specs.Refusals.{Fault, refuse-at, _orelse_, when, trace-fault, room-fault, vehicle-fault, not-driven, Check, speed, step, ends, over-ng, at-rest, over-rev, no-gear, check-number, checks, last-check, bad, fault-of, seconds-fault, gear-fault, span-fault, work-fault, left, second-fault, edit-fault}
+use Rattle.rules.specs.Units.{bad-field, low, longest}
 use Rattle.rules.specs.Vocabulary.{InBounds}
 use Rattle.rules.proofs.Laws.Vehicle.{in-bounds, within-lo, within-hi}
-use Rattle.rules.proofs.Laws.Words.{by-test, by-eq, and-left, and-right, none-first, first-ext, first-window}
+use Rattle.rules.proofs.Laws.Words.{by-test, by-eq, and-left, and-right, and-fails, or-left, or-right, none-first, first-ext, first-window}
 
 -- ---- a row of checks
 
@@ -69,6 +69,14 @@ rooms-in vs hs old e = let t = not-false _ (when-none 2 _ 0 e) in (eqb-true _ _ 
 pub vehicle-in : (car : Vehicle) → vehicle-fault car ≡ none → InBounds car
 unfolding vehicle-fault
 vehicle-in car e = in-bounds car (refuse-none 3 (bad-field car) e)
+
+-- a hold that passes check 7 is a gear from the lowest to ng
+pub driven : (car : Vehicle) (h : ℕ) → not-driven car h ≡ false → (h ≤ car .ng) × (h ≢ 0 → low car ≤ h)
+unfolding not-driven
+driven car h e = (
+  ltb-false (car .ng) h (or-left _ _ e),
+  λ n. ltb-false h (low car) (and-fails (ltb 0 h) _ (lt-ltb 0 h (omega arith)) (or-right _ _ e)),
+)
 
 -- ---- the row of checks of the working, and of an edit, taken apart
 

@@ -11,10 +11,10 @@ use lib.ListN.{length, set}
 use lib.Seq.{getD-set-other, getD-set-same, set-getD}
 use borrow.Author.Tests.{lt-ltb, le-ltb, eqb-true, eqb-false, ne-eqb, eq-eqb}
 use Rattle.rules.specs.declared.Vehicle.{Vehicle}
-use Rattle.rules.specs.Words.{if_then_else_, _or_, at, first}
+use Rattle.rules.specs.Words.{if_then_else_, _and_, _or_, at, first}
 use Rattle.rules.specs.Units.{moving, start, stop}
 use Rattle.rules.specs.Corrections.{card}
-use Rattle.rules.specs.Refusals.{Fault, refuse-at, _orelse_, when, Check, speed, step, ends, over-ng, at-rest, over-rev, check-number, checks, bad, fault-of, seconds-fault, gear-fault, span-fault, work-fault, left, work-card}
+use Rattle.rules.specs.Refusals.{Fault, refuse-at, _orelse_, when, not-driven, Check, speed, step, ends, over-ng, at-rest, over-rev, check-number, checks, bad, fault-of, seconds-fault, gear-fault, span-fault, work-fault, left, work-card}
 use Rattle.rules.specs.Quick.{span-lo, span-hi, standing-fault, own-fault, quick-fault, quick-holds, quick-card}
 use Rattle.rules.specs.Holds.{asked, hold-fault, hold-holds, hold-card, release-fault, release-holds, release-card}
 use Rattle.rules.specs.Vocabulary.{InBounds}
@@ -68,33 +68,38 @@ module _ (car : Vehicle) (vs hs : List ℕ) (s : ℕ) (m : moving (at vs s) ≡ 
   unfolding span-lo span-hi
   here = let t = trip-of vs s m in let c = stop-in vs s m in (omega arith, omega arith, omega arith)
 
-  -- s, or a hold above ng
-  over-or-here : (i : ℕ) → ltb (car .ng) (at ks i) ≡ eqb i s or ltb (car .ng) (at hs i)
+  -- no gear 255 is driven
+  none-driven : not-driven car 255 ≡ true
+  unfolding not-driven _or_
+  none-driven = rw (lt-ltb (car .ng) 255 few)
+
+  -- s, or a hold of a gear that is not driven
+  over-or-here : (i : ℕ) → not-driven car (at ks i) ≡ eqb i s or not-driven car (at hs i)
   unfolding _or_
   over-or-here i =
       by-test (eqb i s)
-      (λ x. let e : i ≡ s = eqb-true i s x in rw (x, e, getD-set-same hs s 255 0 (here .2)) (lt-ltb (car .ng) 255 few))
+      (λ x. let e : i ≡ s = eqb-true i s x in rw (x, e, getD-set-same hs s 255 0 (here .2)) none-driven)
       (λ x. rw (x, getD-set-other hs s i 255 0 (eqb-false i s x)))
 
   -- 7 finds at least s
   some-found : {P : Type 0} → first (bad over-ng car vs ks lo) lo (hi - lo) ≡ none → P
   unfolding bad
   some-found e =
-      let h : ltb (car .ng) (at ks s) ≡ true = rw (getD-set-same hs s 255 0 (here .2)) (lt-ltb (car .ng) 255 few) in
+      let h : not-driven car (at ks s) ≡ true = rw (getD-set-same hs s 255 0 (here .2)) none-driven in
       clash h (none-first (bad over-ng car vs ks lo) (hi - lo) lo e s (here .0) (omega (arith, here .0, here .1)))
 
   seven-found : fault-of car vs ks lo hi (over-ng ∷ at-rest ∷ over-rev ∷ []) orelse gear-fault car vs ks lo hi
-      ≡ refuse-at 7 (first (λ i. eqb i s or ltb (car .ng) (at hs i)) lo (hi - lo))
+      ≡ refuse-at 7 (first (λ i. eqb i s or not-driven car (at hs i)) lo (hi - lo))
   unfolding fault-of check-number bad
   seven-found =
       orelse-assoc _ _ _
       ∙ stops 7 (first (bad over-ng car vs ks lo) lo (hi - lo)) _ some-found
       ∙ ap (refuse-at 7) (first-ext (bad over-ng car vs ks lo) _ (hi - lo) lo (λ i x y. over-or-here i))
 
-  -- at a moving second 4, 5 and 6 come first, on the span; then the lowest second of the span that is s or has a hold above ng
+  -- at a moving second 4, 5 and 6 come first, on the span; then the lowest second of the span that is s or has a hold of a gear that is not driven
   pub none-held-moving : own-fault car vs hs s (asked 0)
       ≡ fault-of car vs hs (span-lo vs s) (span-hi vs s) before-7
-      orelse refuse-at 7 (first (λ i. eqb i s or ltb (car .ng) (at hs i)) (span-lo vs s) (span-hi vs s - span-lo vs s))
+      orelse refuse-at 7 (first (λ i. eqb i s or not-driven car (at hs i)) (span-lo vs s) (span-hi vs s - span-lo vs s))
   unfolding own-fault span-fault seconds-fault asked checks fault-of bad
   none-held-moving =
       rw m (ap (λ (f : Option Fault). f orelse gear-fault car vs ks lo hi) (fault-append car vs ks lo hi before-7 (over-ng ∷ at-rest ∷ over-rev ∷ []))
@@ -103,7 +108,7 @@ module _ (car : Vehicle) (vs hs : List ℕ) (s : ℕ) (m : moving (at vs s) ≡ 
 
 -- at a standing second 7, at that second
 pub none-held-standing : (car : Vehicle) (vs hs : List ℕ) (s : ℕ) → moving (at vs s) ≡ false → car .ng < 255 → own-fault car vs hs s (asked 0) ≡ some (record { no = 7; spot = s })
-unfolding own-fault standing-fault asked refuse-at when _orelse_
+unfolding own-fault standing-fault not-driven asked refuse-at when _orelse_ _or_
 none-held-standing car vs hs s r few = rw (r, lt-ltb (car .ng) 255 few)
 
 -- a search finds a place at which the test holds, if it fails before
@@ -128,14 +133,14 @@ module _ (car : Vehicle) (vs hs : List ℕ) (s : ℕ) (l : s < length vs) (n : l
       let f = span-passes (span-lo vs s) (span-hi vs s) (omega arith) hi-in in
       let early = orelse-none _ _ (sym (fault-append car vs hs (span-lo vs s) (span-hi vs s) before-7 (over-ng ∷ at-rest ∷ over-rev ∷ [])) ∙ orelse-none _ _ f .0) .0 in
       none-held-moving car vs hs s m n few ∙ none-orelse _ _ early
-      ∙ ap (refuse-at 7) (first-here (λ i. eqb i s or ltb (car .ng) (at hs i)) (span-lo vs s) (span-hi vs s) s (h .0) (h .1)
+      ∙ ap (refuse-at 7) (first-here (λ i. eqb i s or not-driven car (at hs i)) (span-lo vs s) (span-hi vs s) s (h .0) (h .1)
       (λ i x y. rw (ne-eqb i s (omega arith)) (passed car vs hs (span-lo vs s) (span-hi vs s) f over-ng i x (omega arith))) (rw (eq-eqb s s refl))))
       (λ r. none-held-standing car vs hs s r few)
 
 -- ---- releasing a standing second
 
 pub cleared-standing : (car : Vehicle) (vs hs : List ℕ) (s : ℕ) → moving (at vs s) ≡ false → own-fault car vs hs s 0 ≡ none
-unfolding own-fault standing-fault refuse-at when _orelse_
+unfolding own-fault standing-fault not-driven refuse-at when _orelse_ _or_ _and_
 cleared-standing car vs hs s r = rw (r, le-ltb (car .ng) 0 (omega arith))
 
 -- ---- against the whole working

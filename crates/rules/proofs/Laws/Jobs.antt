@@ -12,7 +12,7 @@ use Rattle.rules.specs.Words.{at, table}
 use Rattle.rules.specs.Units.{longest}
 use Rattle.rules.specs.Groups.{Read, got, refused}
 use Rattle.rules.specs.Forms.{checked, _then_, seen, row, many, counted}
-use Rattle.rules.specs.Job.{version, gearbox, numbers, point, curve, seconds, trace, padded, points-of, Parts, vehicle-of, parts-of, vehicle, holds, Job, packed, fields, stages, job, job-read, job-of}
+use Rattle.rules.specs.Job.{version, profile, gearbox, numbers, point, curve, seconds, trace, padded, points-of, Parts, vehicle-of, parts-of, vehicle, holds, Job, packed, fields, stages, job, job-read, job-of}
 use Rattle.rules.proofs.Laws.Words.{table-at, and-left}
 use Rattle.rules.proofs.Laws.Forms.{Says, told, Sound, seen-sound, sounds, whole-says}
 use Rattle.rules.proofs.Laws.Takes.{takes-bounded}
@@ -39,9 +39,9 @@ eight l e =
     sym (drop-cons l 0 0 (omega arith)
     ∙ rw (drop-cons l 1 0 (omega arith), drop-cons l 2 0 (omega arith), drop-cons l 3 0 (omega arith), drop-cons l 4 0 (omega arith), drop-cons l 5 0 (omega arith), drop-cons l 6 0 (omega arith), drop-cons l 7 0 (omega arith), drop-of-length-le l {i = 8} (omega arith)))
 
-pub parts-back : (x : Parts) → length (x .1 .0) ≡ 8 → parts-of (vehicle-of x) ≡ x
+pub parts-back : (x : Parts) → length (x .1 .1 .0) ≡ 8 → parts-of (vehicle-of x) ≡ x
 unfolding parts-of vehicle-of padded
-parts-back (ratios, (values, points)) e = rw (cut 10 ratios, -ℤ-+ℤ-cancel (pos (at values 4)) (pos 5000), eight values e, points-back points)
+parts-back (crawler, (ratios, (values, points))) e = rw (cut 10 ratios, -ℤ-+ℤ-cancel (pos (at values 4)) (pos 5000), eight values e, points-back points)
 
 -- ---- each stage keeps the law
 
@@ -49,9 +49,13 @@ pub version-sound : Sound version
 unfolding version
 version-sound = search sounds
 
-pub gearbox-sound : Sound gearbox
+pub profile-sound : (v : ℕ) → Sound (profile v)
+unfolding profile
+profile-sound v = search sounds
+
+pub gearbox-sound : (crawler : ℕ) → Sound (gearbox crawler)
 unfolding gearbox
-gearbox-sound = search sounds
+gearbox-sound crawler = search sounds
 
 pub numbers-sound : Sound numbers
 unfolding numbers
@@ -67,7 +71,7 @@ curve-sound v = search (sounds, point-sound)
 
 pub vehicle-sound : (v : ℕ) → Sound (vehicle v)
 unfolding vehicle _then_ numbers many row
-vehicle-sound v = seen-sound vehicle-of parts-of (search (sounds, gearbox-sound, numbers-sound, curve-sound)) (λ x t. parts-back x (t .1 .0 .1))
+vehicle-sound v = seen-sound vehicle-of parts-of (search (sounds, profile-sound, gearbox-sound, numbers-sound, curve-sound)) (λ x t. parts-back x (t .1 .1 .0 .1))
 
 pub trace-sound : (speeds-room holds-room : ℕ) → Sound (trace speeds-room holds-room)
 unfolding trace seconds

@@ -13,13 +13,13 @@ use Rattle.rules.specs.Words.{if_then_else_, _and_, within}
 use Rattle.rules.specs.Units.{longest}
 use Rattle.rules.specs.Groups.{Read, got, hand-on, demand, form, group}
 use Rattle.rules.specs.Forms.{value, checked, bounded, _then_, seen, row-read, row, counted, whole}
-use Rattle.rules.specs.Job.{version, gearbox, numbers, point, curve, vehicle, seconds, trace, hold, rising, holds, stages, job, job-read, most-groups, longest-job}
+use Rattle.rules.specs.Job.{version, profile, gearbox, numbers, point, curve, vehicle, seconds, trace, hold, rising, holds, stages, job, job-read, most-groups, longest-job}
 use Rattle.rules.specs.Text.{refusal-text, program-room, printed-fault, read-text, printed}
 use Rattle.rules.proofs.Laws.Words.{by-test, by-order, and-left, and-right}
 use Rattle.rules.proofs.Laws.Forms.{says-now, value-sound, checked-sound, bounded-sound}
 use Rattle.rules.proofs.Laws.Takes.{takes-bounded}
 use Rattle.rules.proofs.Laws.Gathers.{takes-hold, hold-sound}
-use Rattle.rules.proofs.Laws.Jobs.{version-sound, gearbox-sound, numbers-sound, vehicle-sound, trace-sound, room-seconds, room-speeds}
+use Rattle.rules.proofs.Laws.Jobs.{version-sound, profile-sound, gearbox-sound, numbers-sound, vehicle-sound, trace-sound, room-seconds, room-speeds}
 use Rattle.rules.proofs.Laws.Reach.{went, then-both, stop-both, Reach, group-both, value-reach, less, checked-reach, then-reach, seen-reach, many-reach, counted-reach, counted-many-reach, bounded-reach, long-whole, only-if-reach}
 
 -- ---- holds are two groups each, and their seconds rise: no more of them than seconds are left
@@ -71,11 +71,15 @@ holds-reach room count h = seen-reach _ _ (counted-reach value-sound value-reach
 
 version-reach : Reach version 1
 unfolding version
-version-reach = bounded-reach 1 2 14 0 (omega arith)
+version-reach = bounded-reach 1 3 14 0 (omega arith)
 
-gearbox-reach : Reach gearbox (1 + 10 * 3)
+profile-reach : (v : ℕ) → Reach (profile v) 1
+unfolding profile
+profile-reach v = only-if-reach _ _ (bounded-reach 0 1 3 1 (omega arith))
+
+gearbox-reach : (crawler : ℕ) → Reach (gearbox crawler) (1 + 10 * 3)
 unfolding gearbox
-gearbox-reach = counted-many-reach 10 (bounded-sound _ _ _ _) (bounded-reach 2 10 3 1 (omega arith)) (takes-bounded 2 10 3 1) value-reach
+gearbox-reach crawler = counted-many-reach 10 (bounded-sound _ _ _ _) (bounded-reach (2 + crawler) 10 3 1 (omega arith)) (takes-bounded (2 + crawler) 10 3 1) value-reach
 
 numbers-reach : Reach numbers (8 * 3)
 unfolding numbers
@@ -89,15 +93,15 @@ curve-reach : (v : ℕ) → Reach (curve v) (1 + 64 * 9)
 unfolding curve
 curve-reach v = counted-many-reach 64 (bounded-sound _ _ _ _) (bounded-reach 2 64 3 11 (omega arith)) (takes-bounded 2 64 3 11) (point-reach v)
 
-vehicle-reach : (v : ℕ) → Reach (vehicle v) (31 + (24 + 577))
+vehicle-reach : (v : ℕ) → Reach (vehicle v) (1 + (31 + (24 + 577)))
 unfolding vehicle
-vehicle-reach v = seen-reach _ _ (then-reach gearbox-sound gearbox-reach (λ _ _. then-reach numbers-sound numbers-reach (λ _ _. curve-reach v)))
+vehicle-reach v = seen-reach _ _ (then-reach (profile-sound v) (profile-reach v) (λ c _. then-reach (gearbox-sound c) (gearbox-reach c) (λ _ _. then-reach numbers-sound numbers-reach (λ _ _. curve-reach v))))
 
 trace-reach : (a b : ℕ) → Reach (trace a b) (3 + a * 3)
 unfolding trace seconds bounded
 trace-reach a b = counted-many-reach a (checked-sound (bounded-sound _ _ _ _) _ _ _) (checked-reach (checked-reach value-reach _ _ _) _ _ _) (room-seconds a b) value-reach
 
-stages-reach : (a b : ℕ) → Reach (stages a b) (1 + (632 + (3 + a * 3 + (3 + 6 * a))))
+stages-reach : (a b : ℕ) → Reach (stages a b) (1 + (633 + (3 + a * 3 + (3 + 6 * a))))
 unfolding stages
 stages-reach a b =
     then-reach version-sound version-reach (λ v _.

@@ -16,7 +16,7 @@ use Rattle.rules.specs.declared.Vehicle.{Vehicle}
 use Rattle.rules.specs.Words.{if_then_else_, _and_, _or_, at, part, first, table, patch}
 use Rattle.rules.specs.Units.{moving, start, stop}
 use Rattle.rules.specs.Corrections.{trip-holds, first-at, gear-at, card-at, card}
-use Rattle.rules.specs.Refusals.{Fault, refuse-at, _orelse_, when, trace-fault, room-fault, vehicle-fault, Check, speed, step, ends, over-ng, at-rest, over-rev, no-gear, check-number, checks, last-check, bad, fault-of, seconds-fault, gear-fault, span-fault, work-fault, left, work-card}
+use Rattle.rules.specs.Refusals.{Fault, refuse-at, _orelse_, when, not-driven, trace-fault, room-fault, vehicle-fault, Check, speed, step, ends, over-ng, at-rest, over-rev, no-gear, check-number, checks, last-check, bad, fault-of, seconds-fault, gear-fault, span-fault, work-fault, left, work-card}
 use Rattle.rules.specs.Quick.{span-lo, span-hi, standing-fault, own-fault, quick-fault, reworked, quick-holds, quick-card}
 use Rattle.rules.proofs.Laws.Words.{clash, by-test, by-order, part-ext, patch-none}
 use Rattle.rules.proofs.Laws.Trips.{trip-of, trip-stop, stop-standing}
@@ -91,8 +91,8 @@ module _ (car : Vehicle) (vs hs : List ℕ) (s g : ℕ) (r : moving (at vs s) �
       let h : at (set hs s g) s ≡ g = getD-set-same hs s g 0 l in
       let slow : at vs s < 10 = leb-false 10 (at vs s) r in
       by-test (eqb g 0)
-      (λ z. rw (e, h, le-ltb 2000 (at vs s) (omega arith), le-ltb s s (omega arith), r, z) (by-test (ltb (car .ng) g) (λ x. rw x) (λ x. rw x)))
-      (λ z. rw (e, h, le-ltb 2000 (at vs s) (omega arith), le-ltb s s (omega arith), r, z) (by-test (ltb (car .ng) g) (λ x. rw x) (λ x. rw x)))
+      (λ z. rw (e, h, le-ltb 2000 (at vs s) (omega arith), le-ltb s s (omega arith), r, z) (by-test (not-driven car g) (λ x. rw x) (λ x. rw x)))
+      (λ z. rw (e, h, le-ltb 2000 (at vs s) (omega arith), le-ltb s s (omega arith), r, z) (by-test (not-driven car g) (λ x. rw x) (λ x. rw x)))
 
 -- ---- against the whole working
 

@@ -21,8 +21,8 @@ use Rattle.rules.specs.Refusals.{Fault, Check, speed, step, ends, over-n
 use Rattle.rules.specs.Quick.{span-lo, span-hi, standing-fault, own-fault, quick-fault, reworked, quick-holds, quick-card}
 use Rattle.rules.specs.Vocabulary.{InBounds, IsTrip, Out, SameSpan}
 use Rattle.rules.proofs.Laws.Words.{clash, by-test, by-order, part-ext, table-ext, patch-out, patch-in}
-use Rattle.rules.proofs.Laws.Trips.{trip-of, start-agree, stop-agree, stop-in, moving-in}
-use Rattle.rules.proofs.Laws.Checks.{passed, span-ext, orelse-none, when-none, rooms-in, vehicle-in, taken, left-by}
+use Rattle.rules.proofs.Laws.Trips.{trip-of, stop-in, moving-in, start-agree, stop-agree}
+use Rattle.rules.proofs.Laws.Checks.{driven, passed, span-ext, orelse-none, when-none, rooms-in, vehicle-in, taken, left-by}
 use Rattle.rules.proofs.Laws.Cards.{held-shows, card-mod}
 
 -- ---- where to look
@@ -211,7 +211,7 @@ module _ (car : Vehicle) (vs hs old : List ℕ) (s g : ℕ) (ok : quick-fault ca
       let c = stop-in vs s m in
       let f : span-fault car vs (set hs s g) (span-lo vs s) (span-hi vs s) ≡ none = rw m at (own .4) in
       let x : at (set hs s g) s ≡ g = getD-set-same hs s g 0 (omega (arith, own .1, own .3)) in
-      rw x at (ltb-false (car .ng) (at (set hs s g) s) (passed car vs (set hs s g) (span-lo vs s) (span-hi vs s) f over-ng s (omega arith) (omega (arith, own .3))))
+      rw x at (driven car (at (set hs s g) s) (passed car vs (set hs s g) (span-lo vs s) (span-hi vs s) f over-ng s (omega arith) (omega (arith, own .3))) .0)
 
   -- the card's byte there shows the held gear, whether or not the card was right
   pub quick-shows : at (quick-card car vs hs old s g) s % 16 ≡ g

@@ -25,6 +25,11 @@ pub low-from : (car : Vehicle) → 1 ≤ low car
 unfolding low
 low-from car = omega arith
 
+-- it is the one that the profile says
+pub low-plainly : (car : Vehicle) → low car ≡ 1 + car .profile
+unfolding low
+low-plainly car = refl
+
 -- where no test fails, each holds
 none-failed : (ts : List Bool) (k : ℕ) → first-failed k ts ≡ none → (j : ℕ) → j < length ts → getD ts j true ≡ true
 unfolding first-failed
@@ -66,9 +71,9 @@ in-bounds car e =
     let rising : (k : ℕ) → suc k < car .points → within (at (car .n) k + 1) (at (car .n) k + 1000) (at (car .n) (suc k)) ≡ true =
     λ k a. let x : suc k - 1 ≡ k = omega arith in rw x at (or-skip _ _ (ne-eqb (suc k) 0 (λ z. omega arith)) (and-right _ _ (and-left _ _ (and-left _ _ (point (suc k) a))))) in
     record {
-      low-to = omega arith;
-      low-ng = within-lo _ _ _ (t 0 (lit< tt));
-      ng-to = within-hi _ _ _ (t 0 (lit< tt));
+      low-to = let h : car .profile ≤ 1 = leb-true _ _ (and-left _ _ (t 0 (lit< tt))) in omega arith;
+      low-ng = let h : 1 + car .profile + 1 ≤ car .ng = within-lo _ _ _ (and-right _ _ (t 0 (lit< tt))) in omega arith;
+      ng-to = within-hi _ _ _ (and-right _ _ (t 0 (lit< tt)));
       ratio-to = λ g a b. within-hi _ _ _ (and-left _ _ (ratio g a b));
       falling = λ g a b. let x : suc g - 1 ≡ g = omega arith in
           ltb-true _ _ (rw x at (or-skip _ _ (ne-eqb (suc g) 1 (λ z. omega arith)) (and-right _ _ (ratio (suc g) (omega arith) b))));

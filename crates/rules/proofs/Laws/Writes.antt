@@ -19,12 +19,12 @@ use Rattle.rules.specs.Units.{ratio-of, bad-field, longest, fastest}
 use Rattle.rules.specs.Refusals.{refuse-at, when, vehicle-fault, speed, over-ng, checks, bad, fault-of, seconds-fault, left}
 use Rattle.rules.specs.Groups.{got}
 use Rattle.rules.specs.Forms.{value, checked, bounded, _then_, seen, RowTakes, row, many, counted}
-use Rattle.rules.specs.Job.{version, gearbox, numbers, point, curve, seconds, trace, points-of, vehicle-of, parts-of, vehicle, holds, Job, packed, fields, stages, job, job-read}
-use Rattle.rules.specs.Write.{job-from, job-bytes, holds-fault, job-fault, version-fault, margin-field, lower-field, fields-fault, checks-fault, short-fault, write-fault, written, cleared}
+use Rattle.rules.specs.Job.{version, profile, gearbox, numbers, point, curve, seconds, trace, points-of, vehicle-of, parts-of, vehicle, holds, Job, packed, fields, stages, job, job-read}
+use Rattle.rules.specs.Write.{job-from, job-bytes, holds-fault, job-fault, version-fault, profile-field, margin-field, lower-field, fields-fault, checks-fault, short-fault, write-fault, written, cleared}
 use Rattle.rules.specs.Vocabulary.{Bytes, InBounds}
 use Rattle.rules.proofs.Laws.Words.{by-test, and-fails, both, none-first, length-table, at-table}
-use Rattle.rules.proofs.Laws.Vehicle.{low-from, every-at, every-all, in-bounds}
-use Rattle.rules.proofs.Laws.Checks.{orelse-none, none-orelse, refuse-none, when-none, none-when, trace-in}
+use Rattle.rules.proofs.Laws.Vehicle.{low-plainly, every-at, every-all, in-bounds}
+use Rattle.rules.proofs.Laws.Checks.{driven, orelse-none, none-orelse, refuse-none, when-none, none-when, trace-in}
 use Rattle.rules.proofs.Laws.Forms.{says-now, reads-whole, whole-says}
 use Rattle.rules.proofs.Laws.Takes.{in-range, All, many-takes, counted-takes, only-if-takes, takes-only-if, bounded-takes, _also_}
 use Rattle.rules.proofs.Laws.Gathers.{holds-take}
@@ -33,8 +33,9 @@ use Rattle.rules.proofs.Laws.Jobs.{parts-back, job-sound}
 -- ---- what passes checks 1 to 9
 
 pub record Writable (v : ℕ) (car : Vehicle) (vs hs : List ℕ) : Type 0 where
-  pub known : within 1 2 v ≡ true
+  pub known : within 1 3 v ≡ true
   pub bounds : InBounds car
+  pub plain : leb 3 v ≡ false → car .profile ≡ 0
   pub unmarked : leb 2 v ≡ false → (i : ℕ) → i < car .points → at (car .m) i ≡ 0
   pub some-second : 1 ≤ length vs
   pub not-long : length vs ≤ longest
@@ -63,6 +64,15 @@ margin-none v car h =
     by-test (leb 2 v) (λ l. rw l)
     (λ l. rw (l, every-all (λ k. eqb (at (car .m) k) 0) (car .points) 0 (λ i a b. eq-eqb _ _ (h l i (omega arith)))))
 
+-- a profile is refused of versions 1 and 2 exactly where it is not 0
+no-profile : (v : ℕ) (car : Vehicle) → profile-field v car ≡ none → leb 3 v ≡ false → car .profile ≡ 0
+unfolding profile-field refuse-at
+no-profile v car e l = eqb-true _ _ (not-false _ (and-fails (not (leb 3 v)) _ (rw l) (when-none 3 _ 1 (ap (refuse-at 3) e))))
+
+pub profile-none : (v : ℕ) (car : Vehicle) → (leb 3 v ≡ false → car .profile ≡ 0) → profile-field v car ≡ none
+unfolding profile-field when _and_
+profile-none v car h = by-test (leb 3 v) (λ l. rw l) (λ l. rw (l, eq-eqb _ _ (h l)))
+
 pub writable : (v : ℕ) (car : Vehicle) (vs hs : List ℕ) → checks-fault v car vs hs ≡ none → Writable v car vs hs
 unfolding checks-fault version-fault holds-fault fields-fault seconds-fault checks fault-of bad
 writable v car vs hs e =
@@ -71,19 +81,21 @@ writable v car vs hs e =
     let b = orelse-none _ _ (a .1) in
     let c = orelse-none _ _ (b .1) in
     let fields = lower-none _ _ (refuse-none 3 _ (c .0)) in
+    let own = lower-none _ _ (fields .0) in
     let four = orelse-none _ _ (c .1) in
     let five = orelse-none _ _ (four .1) in
     let six = orelse-none _ _ (five .1) in
     let seven = orelse-none _ _ (six .1) in
     record {
       known = not-false _ (when-none 14 _ 0 (one .0));
-      bounds = in-bounds car (fields .0);
+      bounds = in-bounds car (own .0);
+      plain = no-profile v car (own .1);
       unmarked = no-margin v car (fields .1);
       some-second = trace-in vs (a .0) .0;
       not-long = trace-in vs (a .0) .1;
       even = eqb-true _ _ (not-false _ (when-none 2 _ 0 (b .0)));
       speeds-in = λ i h. ltb-false _ _ (none-first (bad speed car vs hs 0) (length vs - 0) 0 (refuse-none _ _ (four .0)) i (omega arith) (omega arith));
-      holds-in = λ i h. ltb-false _ _ (none-first (bad over-ng car vs hs 0) (length vs - 0) 0 (refuse-none _ _ (seven .0)) i (omega arith) (omega arith));
+      holds-in = λ i h. driven car (at hs i) (none-first (bad over-ng car vs hs 0) (length vs - 0) 0 (refuse-none _ _ (seven .0)) i (omega arith) (omega arith)) .0;
     }
 
 -- ---- lists of which every one is small
@@ -160,15 +172,16 @@ module _ (car : Vehicle) (b : InBounds car) where
   unfolding ratio-of
   ratio-small i h = let z : suc i - 1 ≡ i = omega arith in let r : at (car .ratio) i ≤ 50000 = rw z at (b .ratio-to (suc i) (omega arith) h) in omega arith
 
-  parts-take : (v : ℕ) → (leb 2 v ≡ false → (i : ℕ) → i < car .points → at (car .m) i ≡ 0) → (gearbox then λ ratios. numbers then λ values. curve v) .Takes (parts-of car)
-  unfolding parts-of _then_ gearbox numbers curve point value All
-  parts-take v none-marked =
-      let low1 = low-from car in
-      let ng-from : 2 ≤ car .ng = omega (arith, b .low-ng) in
+  parts-take : (v : ℕ) → (leb 3 v ≡ false → car .profile ≡ 0) → (leb 2 v ≡ false → (i : ℕ) → i < car .points → at (car .m) i ≡ 0) → (profile v then λ crawler. gearbox crawler then λ ratios. numbers then λ values. curve v) .Takes (parts-of car)
+  unfolding parts-of _then_ profile gearbox numbers curve point value All
+  parts-take v plain none-marked =
+      let crawler : car .profile ≤ 1 = omega (arith, low-plainly car, b .low-to) in
+      let ng-from : 2 + car .profile ≤ car .ng = omega (arith, low-plainly car, b .low-ng) in
       let ng = b .ng-to in
       let rated = b .rated-from in
       let nmax = b .nmax-from in
-      counted-takes _ _ _ (rw (length-table (at (car .ratio)) 0 (car .ng)) (bounded-takes 2 10 3 1 (car .ng) (omega arith) (in-range 2 10 (car .ng) ng-from ng)))
+      only-if-takes (leb 3 v) 0 (bounded 0 1 3 1) (car .profile) (bounded-takes 0 1 3 1 (car .profile) (omega arith) (in-range 0 1 (car .profile) (omega arith) crawler)) plain
+      also counted-takes _ _ _ (rw (length-table (at (car .ratio)) 0 (car .ng)) (bounded-takes (2 + car .profile) 10 3 1 (car .ng) (omega arith) (in-range (2 + car .profile) 10 (car .ng) ng-from ng)))
       (all-table 65535 (at (car .ratio)) (car .ng) ratio-small)
       also many-takes _ 8 _ refl (
         omega (arith, b .idle-to),
@@ -196,9 +209,9 @@ module _ (car : Vehicle) (b : InBounds car) where
       (all-points _ _ _ (car .points) (car .n) (car .p) (car .m) (λ i h. omega (arith, b .n-to i h)) (λ i h. omega (arith, b .p-to i h))
       (λ i h. only-if-takes (leb 2 v) 0 value (at (car .m) i) (omega (arith, b .m-to i h)) (λ l. none-marked l i h)))
 
-  pub vehicle-takes : (v : ℕ) → (leb 2 v ≡ false → (i : ℕ) → i < car .points → at (car .m) i ≡ 0) → vehicle v .Takes (cleared car)
+  pub vehicle-takes : (v : ℕ) → (leb 3 v ≡ false → car .profile ≡ 0) → (leb 2 v ≡ false → (i : ℕ) → i < car .points → at (car .m) i ≡ 0) → vehicle v .Takes (cleared car)
   unfolding vehicle seen
-  vehicle-takes v none-marked = (rw same-parts (parts-take v none-marked), rw same-parts cleared-is)
+  vehicle-takes v plain none-marked = (rw same-parts (parts-take v plain none-marked), rw same-parts cleared-is)
 
 -- ---- a job that passes checks 1 to 9
 
@@ -208,8 +221,8 @@ module _ (v : ℕ) (car : Vehicle) (vs hs : List ℕ) (w : Writable v car vs hs)
   job-takes =
       let few = w .not-long in
       let ng = w .bounds .ng-to in (
-        bounded-takes 1 2 14 0 v (omega arith) (w .known)
-            also vehicle-takes car (w .bounds) v (w .unmarked)
+        bounded-takes 1 3 14 0 v (omega arith) (w .known)
+            also vehicle-takes car (w .bounds) v (w .plain) (w .unmarked)
             also counted-takes _ _ vs (bounded-takes 1 longest 1 0 (length vs) (omega arith) (in-range 1 longest (length vs) (w .some-second) few), both (le-leb _ _ x) (le-leb _ _ y))
             (all-at 65535 vs (λ i h. omega (arith, w .speeds-in i h)))
             also holds-take (length vs) hs (w .even) (omega arith) (all-at 255 hs (λ i h. omega (arith, w .even, w .holds-in i (omega (arith, w .even))))),
@@ -235,7 +248,12 @@ row-unmarked v l (suc k) ns ps ms t (suc i) h = rw (← one-more i, ← getD-dro
 
 vehicle-unmarked : (v : ℕ) (car : Vehicle) → vehicle v .Takes car → leb 2 v ≡ false → (i : ℕ) → i < car .points → at (car .m) i ≡ 0
 unfolding vehicle seen _then_ parts-of curve counted many row
-vehicle-unmarked v car t l = row-unmarked v l (car .points) (car .n) (car .p) (car .m) (t .0 .1 .1 .0 .1 .0)
+vehicle-unmarked v car t l = row-unmarked v l (car .points) (car .n) (car .p) (car .m) (t .0 .1 .1 .1 .0 .1 .0)
+
+-- and of versions 1 and 2 the profile is 0
+vehicle-plain : (v : ℕ) (car : Vehicle) → vehicle v .Takes car → leb 3 v ≡ false → car .profile ≡ 0
+unfolding vehicle seen _then_ parts-of profile
+vehicle-plain v car t l = takes-only-if (leb 3 v) 0 (bounded 0 1 3 1) (car .profile) (t .0 .0) l
 
 -- so its own version takes it where it passes the working's checks
 pub read-passes : (bytes : List ℕ) (a b : ℕ) {j : Job} {end : ℕ} → job-read bytes a b ≡ got j end → job-fault (j .vehicle) (j .speeds) (j .holds) ≡ none
@@ -249,7 +267,7 @@ read-passes bytes a b {j} e ok =
     none-orelse _ _ (none-when 14 _ 0 (rw (t .0 .1)))
     ∙ none-orelse _ _ (one .0)
     ∙ none-orelse _ _ (two .0)
-    ∙ none-orelse _ _ (rw (refuse-none 3 (bad-field (j .vehicle)) (three .0), margin-none (j .version) (j .vehicle) (vehicle-unmarked (j .version) (j .vehicle) (t .1 .0))))
+    ∙ none-orelse _ _ (rw (refuse-none 3 (bad-field (j .vehicle)) (three .0), profile-none (j .version) (j .vehicle) (vehicle-plain (j .version) (j .vehicle) (t .1 .0)), margin-none (j .version) (j .vehicle) (vehicle-unmarked (j .version) (j .vehicle) (t .1 .0))))
     ∙ three .1
 
 -- ---- and where there is room

@@ -2,17 +2,18 @@
 -- Assumes nothing.
 use Prim.Native.Nat.{_-_, _≤_}
 use native.Mathlib.Omega.{arith}
-use mathlib.Core.Path.{refl}
+use mathlib.Core.Path.{_≡_, refl}
 use borrow.Author.Tests.{not-false}
 use borrow.Author.Needs.{needs}
 use Rattle.rules.proofs.Laws.Words.{clash}
+use Rattle.gears.specs.Parts.{low-in}
 use Rattle.checks.specs.Calm.{Each, Follows}
 use Rattle.checks.proofs.Calmness.{each-none, each-more}
 use Rattle.checks.proofs.want.covered.Statement.{statement}
 use Rattle.checks.proofs.want.covered.Tie as tie
 
 abbrev Inv-loop : tie.InvT-loop
-Inv-loop k ratio ng j₀ j = (1 ≤ j) × Each (Follows k ratio) 1 j
+Inv-loop k ratio ng j₀ j = (j₀ ≡ low-in k) × (low-in k ≤ j) × Each (Follows k ratio) (low-in k) j
 
 abbrev μ-loop : tie.MeasureT-loop
 μ-loop k ratio ng j₀ j = ng - j
@@ -20,8 +21,14 @@ abbrev μ-loop : tie.MeasureT-loop
 cast-ng : tie.Need-cast-ng Inv-loop μ-loop
 cast-ng c = search needs
 
+lowest-requires : tie.Need-lowest-requires Inv-loop μ-loop
+lowest-requires c κs = search needs
+
 loop-holds : tie.Need-loop-holds Inv-loop μ-loop
-loop-holds c = let a = c .before .args in (omega arith, each-none (Follows (a .k) (a .ratio .now)) 1)
+loop-holds c =
+    let a = c .before .before .args in
+    let o = c .lowest .ensures in
+    (o, omega (arith, o), rw o (each-none (Follows (a .k) (a .ratio .now)) (low-in (a .k))))
 
 add-hands-on : tie.Need-add-hands-on Inv-loop μ-loop
 add-hands-on c = search needs
@@ -42,7 +49,7 @@ element-copy-out-hands-on-2 : tie.Need-element-copy-out-hands-on-2 Inv-loop μ-l
 element-copy-out-hands-on-2 c = search needs
 
 hands-on-requires : tie.Need-hands-on-requires Inv-loop μ-loop
-hands-on-requires c κs = search needs
+hands-on-requires c κs = record { from = omega (arith, c .before .before .before .loop .inv .1); rated-from = c .before .before .before .before .before .before .pre .rated-from }
 
 returns : tie.Need-returns Inv-loop μ-loop
 returns c = λ e. clash e refl
@@ -55,12 +62,12 @@ loop-less c = search needs
 
 loop-again : tie.Need-loop-again Inv-loop μ-loop
 loop-again c =
-    let a = c .before .before .before .before .before .before .before .args in
+    let a = c .before .before .before .before .before .before .before .before .args in
     let l = c .before .before .before .before .before .loop in
-    (omega arith, each-more (Follows (a .k) (a .ratio .now)) 1 (l .j) (l .inv .1) (c .before .hands-on .ensures (not-false _ (c .if1 .left))))
+    (l .inv .0, omega (arith, l .inv .1), each-more (Follows (a .k) (a .ratio .now)) (low-in (a .k)) (l .j) (l .inv .2) (c .before .hands-on .ensures (not-false _ (c .if1 .left))))
 
 returns-2 : tie.Need-returns-2 Inv-loop μ-loop
-returns-2 c = λ e g a b. c .before .loop .inv .1 g a (omega arith)
+returns-2 c = λ e g a b. c .before .loop .inv .2 g a (omega arith)
 
 pub covered-spec : {M : Type 1} → statement M
-covered-spec = tie.close (tie.spec Inv-loop μ-loop cast-ng loop-holds add-hands-on sub-hands-on mul-hands-on element-copy-out-hands-on mul-hands-on-2 element-copy-out-hands-on-2 hands-on-requires returns add-j loop-less loop-again returns-2)
+covered-spec = tie.close (tie.spec Inv-loop μ-loop cast-ng lowest-requires loop-holds add-hands-on sub-hands-on mul-hands-on element-copy-out-hands-on mul-hands-on-2 element-copy-out-hands-on-2 hands-on-requires returns add-j loop-less loop-again returns-2)

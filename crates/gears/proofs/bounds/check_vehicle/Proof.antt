@@ -1,17 +1,19 @@
 -- `gears::bounds::check_vehicle` meets its contract: the tests before a return hold, so the first that fails is that return's own.
 -- Assumes nothing.
+use Prim.Native.Nat.{_+_}
 use mathlib.Core.Path.{_≡_, refl, sym, _∙_}
 use mir.Syntax.{w32}
 use mir.Val.{toZ, ofZ}
 use mir.Facts.{toZ-ofZ}
 use mathlib.Core.Bool.{true}
 use native.Mathlib.Omega.{arith}
-use lib.Dec.{lit<}
+use lib.Dec.{leb, lit<}
 use borrow.Author.Tests.{le-leb, lt-leb, not-true, not-false}
+use Rattle.rules.specs.Words.{_and_, within}
+use Rattle.rules.specs.Units.{bounds, low}
 use Rattle.rules.specs.declared.Vehicle.{Vehicle}
-use Rattle.rules.specs.Words.{within}
-use Rattle.rules.specs.Units.{bounds}
 use Rattle.rules.proofs.Laws.Vehicle.{within-lo, within-hi}
+use Rattle.rules.proofs.Laws.Words.{and-right}
 use Rattle.gears.specs.Second.{CurveOf}
 use Rattle.gears.proofs.Fields.{Passed, passed-none, passed-more, refused-here, passed-all}
 use borrow.Author.Needs.{needs}
@@ -27,11 +29,11 @@ its-curve : {car : Vehicle} → CurveOf car (car .n) (car .p) (car .m) (car .mar
 its-curve = record { speeds = refl; powers = refl; margins = refl; margin-is = refl }
 
 -- where a test has not refused, the fields so far are in bounds
-good-1 : (c : tie.Else1) → within 2 10 (c .before .before .args .t1 .ng) ≡ true
-good-1 c = sym (c .before .within .ensures) ∙ not-false (c .before .within .result) (c .if1 .left)
+good-1 : (c : tie.Else1) → let a = c .before .before .args .t1 in leb (a .profile) 1 and within (1 + a .profile + 1) 10 (a .ng) ≡ true
+good-1 c = sym (c .before .gears-good .ensures) ∙ not-false (c .before .gears-good .result) (c .if1 .left)
 
 passed-1 : (c : tie.Else1) → Passed (c .before .before .args .t1) 1
-unfolding bounds
+unfolding bounds low
 passed-1 c = passed-more passed-none (lit< tt) (good-1 c)
 
 passed-2 : (c : tie.Else2) → Passed (c .before .before .before .before .before .before .args .t1) 2
@@ -40,7 +42,7 @@ passed-2 c = passed-more (passed-1 (c .before .before .before .before)) (lit< tt
 
 passed-3 : (c : tie.Else3) → Passed (c .before .before .before .before .before .before .before .before .args .t1) 3
 unfolding bounds
-passed-3 c = passed-more (passed-2 (c .before .before)) (lit< tt) (sym (c .before .within2 .ensures) ∙ not-false (c .before .within2 .result) (c .if3 .left))
+passed-3 c = passed-more (passed-2 (c .before .before)) (lit< tt) (sym (c .before .within .ensures) ∙ not-false (c .before .within .result) (c .if3 .left))
 
 passed-4 : (c : tie.Else4) → Passed (c .before .before .before .before .before .before .before .before .before .before .args .t1) 4
 unfolding bounds
@@ -48,7 +50,7 @@ passed-4 c = passed-more (passed-3 (c .before .before)) (lit< tt) (sym (c .befor
 
 passed-5 : (c : tie.Else5) → Passed (c .before .before .before .before .before .before .before .before .before .before .before .before .args .t1) 5
 unfolding bounds
-passed-5 c = passed-more (passed-4 (c .before .before)) (lit< tt) (sym (c .before .within3 .ensures) ∙ not-false (c .before .within3 .result) (c .if5 .left))
+passed-5 c = passed-more (passed-4 (c .before .before)) (lit< tt) (sym (c .before .within2 .ensures) ∙ not-false (c .before .within2 .result) (c .if5 .left))
 
 passed-6 : (c : tie.Else6) → Passed (c .before .before .before .before .before .before .before .before .before .before .before .before .before .args .t1) 6
 unfolding bounds
@@ -64,14 +66,14 @@ passed-8 c = passed-more (passed-7 (c .before)) (lit< tt) (le-leb _ _ (c .if8 .l
 
 passed-9 : (c : tie.Else9) → Passed (c .before .before .before .before .before .before .before .before .before .before .before .before .before .before .before .before .before .before .before .args .t1) 9
 unfolding bounds
-passed-9 c = passed-more (passed-8 (c .before .before)) (lit< tt) (sym (c .before .within4 .ensures) ∙ not-false (c .before .within4 .result) (c .if9 .left))
+passed-9 c = passed-more (passed-8 (c .before .before)) (lit< tt) (sym (c .before .within3 .ensures) ∙ not-false (c .before .within3 .result) (c .if9 .left))
 
 passed-10 : (c : tie.Else10) → Passed (c .before .before .before .before .before .before .before .before .before .before .before .before .before .before .before .before .before .before .before .before .args .t1) 10
 unfolding bounds
 passed-10 c = passed-more (passed-9 (c .before)) (lit< tt) (le-leb _ _ (c .if10 .left))
 
 good-11 : (c : tie.Else11) → within 2 64 (c .before .before .before .before .before .before .before .before .before .before .before .before .before .before .before .before .before .before .before .before .before .before .args .t1 .points) ≡ true
-good-11 c = sym (c .before .within5 .ensures) ∙ not-false (c .before .within5 .result) (c .if11 .left)
+good-11 c = sym (c .before .within4 .ensures) ∙ not-false (c .before .within4 .result) (c .if11 .left)
 
 passed-11 : (c : tie.Else11) → Passed (c .before .before .before .before .before .before .before .before .before .before .before .before .before .before .before .before .before .before .before .before .before .before .args .t1) 11
 unfolding bounds
@@ -85,26 +87,26 @@ passed-13 : (c : tie.Else13) → Passed (c .before .before .before .before .befo
 unfolding bounds
 passed-13 c = passed-more (passed-12 (c .before .before .before .before)) (lit< tt) (sym (c .before .ends-good .ensures) ∙ not-false (c .before .ends-good .result) (c .if13 .left))
 
-within-requires : tie.Need-within-requires
-within-requires c κs = search needs
+gears-good-requires : tie.Need-gears-good-requires
+gears-good-requires c κs = search needs
 
 returns : tie.Need-returns
-unfolding bounds
-returns c = refused-here passed-none (lit< tt) (sym (c .before .within .ensures) ∙ not-true (c .before .within .result) (c .if1 .taken))
+unfolding bounds low
+returns c = refused-here passed-none (lit< tt) (sym (c .before .gears-good .ensures) ∙ not-true (c .before .gears-good .result) (c .if1 .taken))
 
 ratios-good-requires : tie.Need-ratios-good-requires
-ratios-good-requires c κs = within-hi _ _ _ (good-1 (c .before .before))
+ratios-good-requires c κs = within-hi _ _ _ (and-right _ _ (good-1 (c .before .before)))
 
 returns-2 : tie.Need-returns-2
 unfolding bounds
 returns-2 c = refused-here (passed-1 (c .before .before .before .before)) (lit< tt) (sym (c .before .ratios-good .ensures _ refl) ∙ not-true (c .before .ratios-good .result) (c .if2 .taken))
 
-within-requires-2 : tie.Need-within-requires-2
-within-requires-2 c κs = search needs
+within-requires : tie.Need-within-requires
+within-requires c κs = search needs
 
 returns-3 : tie.Need-returns-3
 unfolding bounds
-returns-3 c = refused-here (passed-2 (c .before .before)) (lit< tt) (sym (c .before .within2 .ensures) ∙ not-true (c .before .within2 .result) (c .if3 .taken))
+returns-3 c = refused-here (passed-2 (c .before .before)) (lit< tt) (sym (c .before .within .ensures) ∙ not-true (c .before .within .result) (c .if3 .taken))
 
 above-requires : tie.Need-above-requires
 above-requires c κs = search needs
@@ -113,12 +115,12 @@ returns-4 : tie.Need-returns-4
 unfolding bounds
 returns-4 c = refused-here (passed-3 (c .before .before)) (lit< tt) (sym (c .before .above .ensures) ∙ not-true (c .before .above .result) (c .if4 .taken))
 
-within-requires-3 : tie.Need-within-requires-3
-within-requires-3 c κs = search needs
+within-requires-2 : tie.Need-within-requires-2
+within-requires-2 c κs = search needs
 
 returns-5 : tie.Need-returns-5
 unfolding bounds
-returns-5 c = refused-here (passed-4 (c .before .before)) (lit< tt) (sym (c .before .within3 .ensures) ∙ not-true (c .before .within3 .result) (c .if5 .taken))
+returns-5 c = refused-here (passed-4 (c .before .before)) (lit< tt) (sym (c .before .within2 .ensures) ∙ not-true (c .before .within2 .result) (c .if5 .taken))
 
 returns-6 : tie.Need-returns-6
 unfolding bounds
@@ -135,23 +137,23 @@ returns-8 : tie.Need-returns-8
 unfolding bounds
 returns-8 c = refused-here (passed-7 (c .before)) (lit< tt) (lt-leb _ _ (c .if8 .taken))
 
-within-requires-4 : tie.Need-within-requires-4
-within-requires-4 c κs = search needs
+within-requires-3 : tie.Need-within-requires-3
+within-requires-3 c κs = search needs
 
 returns-9 : tie.Need-returns-9
 unfolding bounds
-returns-9 c = refused-here (passed-8 (c .before .before)) (lit< tt) (sym (c .before .within4 .ensures) ∙ not-true (c .before .within4 .result) (c .if9 .taken))
+returns-9 c = refused-here (passed-8 (c .before .before)) (lit< tt) (sym (c .before .within3 .ensures) ∙ not-true (c .before .within3 .result) (c .if9 .taken))
 
 returns-10 : tie.Need-returns-10
 unfolding bounds
 returns-10 c = refused-here (passed-9 (c .before)) (lit< tt) (lt-leb _ _ (c .if10 .taken))
 
-within-requires-5 : tie.Need-within-requires-5
-within-requires-5 c κs = search needs
+within-requires-4 : tie.Need-within-requires-4
+within-requires-4 c κs = search needs
 
 returns-11 : tie.Need-returns-11
 unfolding bounds
-returns-11 c = refused-here (passed-10 (c .before .before)) (lit< tt) (sym (c .before .within5 .ensures) ∙ not-true (c .before .within5 .result) (c .if11 .taken))
+returns-11 c = refused-here (passed-10 (c .before .before)) (lit< tt) (sym (c .before .within4 .ensures) ∙ not-true (c .before .within4 .result) (c .if11 .taken))
 
 points-good-requires : tie.Need-points-good-requires
 points-good-requires c κs = (within-hi _ _ _ (good-11 (c .before .before .before .before)), omega arith)
@@ -177,24 +179,24 @@ pub check-vehicle-spec : {M : Type 1} → statement M
 check-vehicle-spec =
     tie.close
     (tie.spec
-    within-requires
+    gears-good-requires
     returns
     ratios-good-requires
     returns-2
-    within-requires-2
+    within-requires
     returns-3
     above-requires
     returns-4
-    within-requires-3
+    within-requires-2
     returns-5
     returns-6
     f1-good-requires
     returns-7
     returns-8
-    within-requires-4
+    within-requires-3
     returns-9
     returns-10
-    within-requires-5
+    within-requires-4
     returns-11
     points-good-requires
     returns-12

@@ -24,7 +24,7 @@ first-choice-requires : tie.Need-first-choice-requires
 first-choice-requires c κs = let s = c .before .before in (s .pre .0, rw (is-D c) (s .pre .1))
 
 returns : tie.Need-returns
-returns c = λ car L. rw (← is-D (c .before), ← c .before .before .place-of .ensures car) (c .first-choice .ensures car L)
+returns c = λ car L. rw (← is-D (c .before), ← c .before .before .place-of .ensures car (L .has .counts)) (c .first-choice .ensures car L)
 
 pub choice-after-spec : {M : Type 1} → statement M
 choice-after-spec = tie.close (tie.spec place-of-requires step-of-requires first-choice-requires returns)

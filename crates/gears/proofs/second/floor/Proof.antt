@@ -10,7 +10,7 @@ use Rattle.gears.proofs.second.floor.Statement.{statement}
 use Rattle.gears.proofs.second.floor.Tie as tie
 
 abbrev Inv-loop : tie.InvT-loop
-Inv-loop ratio v ng most g₀ g = (1 ≤ g) × (g ≤ suc ng) × LeftFrom ratio v most ng g
+Inv-loop ratio v ng most g₀ g = (1 ≤ g) × (g ≤ suc ng) × LeftFrom ratio v most ng g₀ g
 
 abbrev μ-loop : tie.MeasureT-loop
 μ-loop ratio v ng most g₀ g = suc ng - g
@@ -21,14 +21,20 @@ cast-ng c = search needs
 top-requires : tie.Need-top-requires Inv-loop μ-loop
 top-requires c κs = search needs
 
+lowest-requires : tie.Need-lowest-requires Inv-loop μ-loop
+lowest-requires c κs = search needs
+
 loop-holds : tie.Need-loop-holds Inv-loop μ-loop
-loop-holds c = (omega arith, omega arith, start (omega arith))
+loop-holds c =
+    let l = c .lowest .ensures in
+    let b = c .before .before .before .pre .low-to in
+    (omega (arith, l), omega (arith, l, b), start (omega (arith, l, b)))
 
 engine-requires : tie.Need-engine-requires Inv-loop μ-loop
 engine-requires c κs = search needs
 
 returns : tie.Need-returns Inv-loop μ-loop
-returns c = λ car H. floor-here H _ (c .before .before .before .before .top .ensures) (c .before .before .before .loop .g) (c .before .before .before .loop .inv .2) (c .before .before .loop-test .taken) (rw (c .before .engine .ensures) at (c .if1 .taken))
+returns c = λ car H. floor-here H _ (c .before .before .before .before .before .top .ensures) (c .before .before .before .before .lowest .ensures) (c .before .before .before .loop .g) (c .before .before .before .loop .inv .2) (c .before .before .loop-test .taken) (rw (c .before .engine .ensures) at (c .if1 .taken))
 
 add-g : tie.Need-add-g Inv-loop μ-loop
 add-g c = search needs
@@ -40,7 +46,7 @@ loop-again : tie.Need-loop-again Inv-loop μ-loop
 loop-again c = (omega arith, omega arith, again (c .before .before .before .loop .inv .2) (omega arith) (lt-leb _ _ (rw (c .before .engine .ensures) at (c .if1 .left))))
 
 returns-2 : tie.Need-returns-2 Inv-loop μ-loop
-returns-2 c = λ car H. floor-none H _ (c .before .before .top .ensures) (c .before .loop .g) (c .before .loop .inv .2) (omega arith)
+returns-2 c = λ car H. floor-none H _ (c .before .before .before .top .ensures) (c .before .before .lowest .ensures) (c .before .loop .g) (c .before .loop .inv .2) (omega arith)
 
 pub floor-spec : {M : Type 1} → statement M
 floor-spec =
@@ -50,6 +56,7 @@ floor-spec =
     μ-loop
     cast-ng
     top-requires
+    lowest-requires
     loop-holds
     engine-requires
     returns

@@ -1,17 +1,31 @@
 -- `gears::second::minimum` meets its contract: each arm of the match is a clause of `minimum-of`.
 -- Assumes nothing.
-use mathlib.Core.Path.{sym, _∙_}
+use native.Mathlib.Omega.{arith}
+use mathlib.Core.Path.{_≡_, sym, _∙_}
+use Rattle.rules.specs.declared.Vehicle.{Vehicle}
+use Rattle.rules.specs.Units.{low}
+use Rattle.gears.specs.Parts.{Counts}
 use Rattle.gears.proofs.Speeds.{minimum-one, minimum-two, minimum-above}
-use Rattle.gears.proofs.Parts.{idle-of, rated-of}
+use Rattle.gears.proofs.Parts.{low-of, idle-of, rated-of}
 use borrow.Author.Needs.{needs}
 use Rattle.gears.proofs.second.minimum.Statement.{statement}
 use Rattle.gears.proofs.second.minimum.Tie as tie
+
+-- what was returned is the lowest gear
+low-is : (c : tie.After-lowest) (car : Vehicle) → Counts car (c .before .before .before .args .k) → low car ≡ c .lowest .result
+low-is c car C = low-of C ∙ sym (c .lowest .ensures)
 
 wide-requires : tie.Need-wide-requires
 wide-requires c κs = search needs
 
 wide-requires-2 : tie.Need-wide-requires-2
 wide-requires-2 c κs = search needs
+
+lowest-requires : tie.Need-lowest-requires
+lowest-requires c κs = search needs
+
+sub-match : tie.Need-sub-match
+sub-match c = omega (arith, c .lowest .ensures, c .before .before .before .pre .from)
 
 next-minimum-requires : tie.Need-next-minimum-requires
 next-minimum-requires c κs = search needs
@@ -26,13 +40,18 @@ add-result-2 : tie.Need-add-result-2
 add-result-2 c = search needs
 
 returns : tie.Need-returns
-returns c = (λ car C. rw (c .match .keys1, minimum-one car _, idle-of C) (c .before .before .wide .ensures .0), search needs)
+returns c = (λ car C. rw (minimum-one car _ (c .before .before .before .before .args .g) (rw (low-is (c .before) car C) (c .match .keys1)), idle-of C) (c .before .before .before .wide .ensures .0), search needs)
 
 returns-2 : tie.Need-returns-2
-returns-2 c = (λ car C. rw (c .before .match .keys2, minimum-two car _) (c .next-minimum .ensures .0 car C), search needs)
+returns-2 c = (λ car C. rw (minimum-two car _ (c .before .before .before .before .before .args .g) (rw (low-is (c .before .before) car C) (c .before .match .keys2))) (c .next-minimum .ensures .0 car C), search needs)
 
 returns-3 : tie.Need-returns-3
-returns-3 c = (λ car C. rw (minimum-above car _ _ (c .before .before .before .pre .from) (c .match .rest .0 .1) (c .match .rest .1), idle-of C, rated-of C, c .before .before .wide .ensures .0, c .before .wide2 .ensures .0), search needs)
+returns-3 c = (
+  λ car C.
+      let e = low-is (c .before) car C in
+      rw (minimum-above car _ (c .before .before .before .before .args .g) (rw e (c .match .rest .0 .1)) (rw e (c .match .rest .1)), idle-of C, rated-of C, c .before .before .before .wide .ensures .0, c .before .before .wide2 .ensures .0),
+  search needs,
+)
 
 pub minimum-spec : {M : Type 1} → statement M
 minimum-spec =
@@ -40,6 +59,8 @@ minimum-spec =
     (tie.spec
     wide-requires
     wide-requires-2
+    lowest-requires
+    sub-match
     next-minimum-requires
     sub-result
     add-result

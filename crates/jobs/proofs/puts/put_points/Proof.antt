@@ -50,14 +50,14 @@ put-group-requires-2 c κs =
     let l = said-as (points-more (s .args .version) (s .args .ns .now) (s .args .ps .now) (s .args .ms .now) (s .args .count) (c₀ .loop .i) (omega arith)) (c₀ .loop .inv .1) in
     omega (arith, has-space (form (at (s .args .ps .now) (c₀ .loop .i))) (margin (s .args .version) .write (at (s .args .ms .now) (c₀ .loop .i)) ++ points-left (s .args .version) (s .args .ns .now) (s .args .ps .now) (s .args .ms .now) (s .args .count) (suc (c₀ .loop .i))) (fewer-left l (c .before .before .before .before .put-group .ensures)))
 
-mul-put-margin : tie.Need-mul-put-margin Inv-loop μ-loop
-mul-put-margin c = search needs
+mul-put-since : tie.Need-mul-put-since Inv-loop μ-loop
+mul-put-since c = search needs
 
-shared-slice-read-put-margin : tie.Need-shared-slice-read-put-margin Inv-loop μ-loop
-shared-slice-read-put-margin c = search needs
+shared-slice-read-put-since : tie.Need-shared-slice-read-put-since Inv-loop μ-loop
+shared-slice-read-put-since c = search needs
 
-put-margin-requires : tie.Need-put-margin-requires Inv-loop μ-loop
-put-margin-requires c κs =
+put-since-requires : tie.Need-put-since-requires Inv-loop μ-loop
+put-since-requires c κs =
     let c₀ = c .before .before .before .before .before .before .before .before .before .before .before .before .before in
     let s = c₀ .before .before .before .before .before in
     let l = said-as (points-more (s .args .version) (s .args .ns .now) (s .args .ps .now) (s .args .ms .now) (s .args .count) (c₀ .loop .i) (omega arith)) (c₀ .loop .inv .1) in
@@ -74,7 +74,7 @@ loop-again c =
     let c₀ = c .before .before .before .before .before .before .before .before .before .before .before .before .before .before .before .before in
     let s = c₀ .before .before .before .before .before in
     let l = said-as (points-more (s .args .version) (s .args .ns .now) (s .args .ps .now) (s .args .ms .now) (s .args .count) (c₀ .loop .i) (omega (arith, c .before .before .before .before .before .before .before .before .before .before .before .before .before .before .before .loop-test))) (c₀ .loop .inv .1) in
-    (omega (arith, c .before .before .before .before .before .before .before .before .before .before .before .before .before .before .before .loop-test), rw add-one (fewer-left (fewer-left (fewer-left l (c .before .before .before .before .before .before .before .before .before .before .before .before .put-group .ensures)) (c .before .before .before .before .before .before .before .put-group2 .ensures)) (c .before .before .put-margin .ensures)))
+    (omega (arith, c .before .before .before .before .before .before .before .before .before .before .before .before .before .before .before .loop-test), rw add-one (fewer-left (fewer-left (fewer-left l (c .before .before .before .before .before .before .before .before .before .before .before .before .put-group .ensures)) (c .before .before .before .before .before .before .before .put-group2 .ensures)) (c .before .before .put-since .ensures)))
 
 same-length : tie.Need-same-length Inv-loop μ-loop
 same-length c = search needs
@@ -97,9 +97,9 @@ put-points-spec =
     mul-put-group-2
     shared-slice-read-put-group-2
     put-group-requires-2
-    mul-put-margin
-    shared-slice-read-put-margin
-    put-margin-requires
+    mul-put-since
+    shared-slice-read-put-since
+    put-since-requires
     add-i
     loop-less
     loop-again

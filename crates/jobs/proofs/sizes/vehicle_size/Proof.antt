@@ -2,7 +2,7 @@
 -- Assumes nothing.
 use native.Mathlib.Omega.{arith}
 use Rattle.rules.proofs.Laws.Groups.{form-size}
-use Rattle.jobs.proofs.Bytes.{values-short, margins-short, vehicle-length}
+use Rattle.jobs.proofs.Bytes.{values-short, since-short, margins-short, vehicle-length}
 use borrow.Author.Needs.{needs}
 use Rattle.jobs.proofs.sizes.vehicle_size.Statement.{statement}
 use Rattle.jobs.proofs.sizes.vehicle_size.Tie as tie
@@ -49,6 +49,9 @@ add-curve-2 c =
 margins-size-requires : tie.Need-margins-size-requires
 margins-size-requires c κs = search needs
 
+since-size-requires : tie.Need-since-size-requires
+since-size-requires c κs = search needs
+
 slice-aggregate-values-size : tie.Need-slice-aggregate-values-size
 slice-aggregate-values-size c = search needs
 
@@ -57,28 +60,34 @@ values-size-requires-4 c κs = search needs
 
 add-result : tie.Need-add-result
 add-result c =
-    let s = c .before .before .before .before .before .before .before .before .before .before .before .before .before .before .before .before .before .before .before .before .before in
+    let s = c .before .before .before .before .before .before .before .before .before .before .before .before .before .before .before .before .before .before .before .before in
     let car = s .args .t2 in
-    omega (arith, s .pre .ng-to, c .before .before .before .before .before .before .before .before .before .before .before .before .before .before .before .before .before .before .before .group-size .ensures, form-size (car .ng) .1, c .before .before .before .before .before .before .before .before .before .before .before .before .before .before .before .values-size .ensures, values-short (car .ratio) (car .ng), c .values-size4 .ensures, values-short (c .before .before .before .before .before .before .before .before .before .before .before .before .before .before .before .before .before .before .before .before .numbers-of .result) 8)
+    omega (arith, c .since-size .ensures, since-short 3 (s .args .version) (car .profile), s .pre .ng-to, c .before .before .before .before .before .before .before .before .before .before .before .before .before .before .before .before .before .before .group-size .ensures, form-size (car .ng) .1, c .before .before .before .before .before .before .before .before .before .before .before .before .before .before .values-size .ensures, values-short (car .ratio) (car .ng))
 
 add-result-2 : tie.Need-add-result-2
 add-result-2 c =
-    let s = c .before .before .before .before .before .before .before .before .before .before .before .before .before .before .before .before .before .before .before .before .before in
+    let s = c .before .before .before .before .before .before .before .before .before .before .before .before .before .before .before .before .before .before .before .before .before .before in
     let car = s .args .t2 in
-    omega (arith, s .pre .ng-to, s .pre .points-to, c .before .before .before .before .before .before .before .before .before .before .before .before .before .before .before .before .before .before .before .group-size .ensures, form-size (car .ng) .1, c .before .before .before .before .before .before .before .before .before .before .before .before .before .before .before .values-size .ensures, values-short (car .ratio) (car .ng), c .values-size4 .ensures, values-short (c .before .before .before .before .before .before .before .before .before .before .before .before .before .before .before .before .before .before .before .before .numbers-of .result) 8, c .before .before .before .before .before .before .before .before .before .before .before .before .before .before .group-size2 .ensures, form-size (car .points) .1, c .before .before .before .before .before .before .before .before .before .before .values-size2 .ensures, values-short (car .n) (car .points), c .before .before .before .before .before .before .values-size3 .ensures, values-short (car .p) (car .points))
+    omega (arith, c .before .before .since-size .ensures, since-short 3 (s .args .version) (car .profile), s .pre .ng-to, c .before .before .before .before .before .before .before .before .before .before .before .before .before .before .before .before .before .before .before .before .group-size .ensures, form-size (car .ng) .1, c .before .before .before .before .before .before .before .before .before .before .before .before .before .before .before .before .values-size .ensures, values-short (car .ratio) (car .ng), c .values-size4 .ensures, values-short (c .before .before .before .before .before .before .before .before .before .before .before .before .before .before .before .before .before .before .before .before .before .numbers-of .result) 8)
 
 add-result-3 : tie.Need-add-result-3
 add-result-3 c =
-    let s = c .before .before .before .before .before .before .before .before .before .before .before .before .before .before .before .before .before .before .before .before .before in
+    let s = c .before .before .before .before .before .before .before .before .before .before .before .before .before .before .before .before .before .before .before .before .before .before in
     let car = s .args .t2 in
-    omega (arith, s .pre .ng-to, s .pre .points-to, c .before .before .before .before .before .before .before .before .before .before .before .before .before .before .before .before .before .before .before .group-size .ensures, form-size (car .ng) .1, c .before .before .before .before .before .before .before .before .before .before .before .before .before .before .before .values-size .ensures, values-short (car .ratio) (car .ng), c .values-size4 .ensures, values-short (c .before .before .before .before .before .before .before .before .before .before .before .before .before .before .before .before .before .before .before .before .numbers-of .result) 8, c .before .before .before .before .before .before .before .before .before .before .before .before .before .before .group-size2 .ensures, form-size (car .points) .1, c .before .before .before .before .before .before .before .before .before .before .values-size2 .ensures, values-short (car .n) (car .points), c .before .before .before .before .before .before .values-size3 .ensures, values-short (car .p) (car .points), c .before .before .margins-size .ensures, margins-short (s .args .version) (car .m) (car .points))
+    omega (arith, c .before .before .since-size .ensures, since-short 3 (s .args .version) (car .profile), s .pre .ng-to, c .before .before .before .before .before .before .before .before .before .before .before .before .before .before .before .before .before .before .before .before .group-size .ensures, form-size (car .ng) .1, c .before .before .before .before .before .before .before .before .before .before .before .before .before .before .before .before .values-size .ensures, values-short (car .ratio) (car .ng), c .values-size4 .ensures, values-short (c .before .before .before .before .before .before .before .before .before .before .before .before .before .before .before .before .before .before .before .before .before .numbers-of .result) 8, s .pre .points-to, c .before .before .before .before .before .before .before .before .before .before .before .before .before .before .before .group-size2 .ensures, form-size (car .points) .1, c .before .before .before .before .before .before .before .before .before .before .before .values-size2 .ensures, values-short (car .n) (car .points), c .before .before .before .before .before .before .before .values-size3 .ensures, values-short (car .p) (car .points))
+
+add-result-4 : tie.Need-add-result-4
+add-result-4 c =
+    let s = c .before .before .before .before .before .before .before .before .before .before .before .before .before .before .before .before .before .before .before .before .before .before in
+    let car = s .args .t2 in
+    omega (arith, c .before .before .since-size .ensures, since-short 3 (s .args .version) (car .profile), s .pre .ng-to, c .before .before .before .before .before .before .before .before .before .before .before .before .before .before .before .before .before .before .before .before .group-size .ensures, form-size (car .ng) .1, c .before .before .before .before .before .before .before .before .before .before .before .before .before .before .before .before .values-size .ensures, values-short (car .ratio) (car .ng), c .values-size4 .ensures, values-short (c .before .before .before .before .before .before .before .before .before .before .before .before .before .before .before .before .before .before .before .before .before .numbers-of .result) 8, s .pre .points-to, c .before .before .before .before .before .before .before .before .before .before .before .before .before .before .before .group-size2 .ensures, form-size (car .points) .1, c .before .before .before .before .before .before .before .before .before .before .before .values-size2 .ensures, values-short (car .n) (car .points), c .before .before .before .before .before .before .before .values-size3 .ensures, values-short (car .p) (car .points), c .before .before .before .margins-size .ensures, margins-short (s .args .version) (car .m) (car .points))
 
 returns : tie.Need-returns
 returns c =
-    let s = c .before .before .before .before .before .before .before .before .before .before .before .before .before .before .before .before .before .before .before .before .before in
+    let s = c .before .before .before .before .before .before .before .before .before .before .before .before .before .before .before .before .before .before .before .before .before .before in
     let car = s .args .t2 in
-    let eight = rw (c .before .before .before .before .before .before .before .before .before .before .before .before .before .before .before .before .before .before .before .before .numbers-of .ensures) at (c .values-size4 .ensures) in
-    omega (arith, vehicle-length (s .args .version) car, c .before .before .before .before .before .before .before .before .before .before .before .before .before .before .before .before .before .before .before .group-size .ensures, c .before .before .before .before .before .before .before .before .before .before .before .before .before .before .before .values-size .ensures, eight, c .before .before .before .before .before .before .before .before .before .before .before .before .before .before .group-size2 .ensures, c .before .before .before .before .before .before .before .before .before .before .values-size2 .ensures, c .before .before .before .before .before .before .values-size3 .ensures, c .before .before .margins-size .ensures)
+    let eight = rw (c .before .before .before .before .before .before .before .before .before .before .before .before .before .before .before .before .before .before .before .before .before .numbers-of .ensures) at (c .values-size4 .ensures) in
+    omega (arith, vehicle-length (s .args .version) car, c .before .before .since-size .ensures, c .before .before .before .before .before .before .before .before .before .before .before .before .before .before .before .before .before .before .before .before .group-size .ensures, c .before .before .before .before .before .before .before .before .before .before .before .before .before .before .before .before .values-size .ensures, eight, c .before .before .before .before .before .before .before .before .before .before .before .before .before .before .before .group-size2 .ensures, c .before .before .before .before .before .before .before .before .before .before .before .values-size2 .ensures, c .before .before .before .before .before .before .before .values-size3 .ensures, c .before .before .before .margins-size .ensures)
 
 pub vehicle-size-spec : {M : Type 1} → statement M
 vehicle-size-spec =
@@ -96,9 +105,11 @@ vehicle-size-spec =
     values-size-requires-3
     add-curve-2
     margins-size-requires
+    since-size-requires
+    add-result
     slice-aggregate-values-size
     values-size-requires-4
-    add-result
     add-result-2
     add-result-3
+    add-result-4
     returns)

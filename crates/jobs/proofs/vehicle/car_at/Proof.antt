@@ -1,7 +1,7 @@
 -- `jobs::vehicle::car_at` meets its contract: one law for each `return`.
 -- Assumes nothing.
 use borrow.Author.Needs.{needs}
-use Rattle.jobs.proofs.Ways.{version-stops, gears-stop, numbers-stop, car-on}
+use Rattle.jobs.proofs.Ways.{profile-in, version-stops, profile-stops, gears-stop, numbers-stop, car-on}
 use Rattle.jobs.proofs.vehicle.car_at.Statement.{statement}
 use Rattle.jobs.proofs.vehicle.car_at.Tie as tie
 
@@ -28,26 +28,58 @@ returns c =
     let g = c₁ .enum-told .given .1 in
     rw (c .no-car .ensures, c .before .came .ensures, g) (version-stops (s .args .job .now) 0 (rw g at (c₂ .bounded .ensures)))
 
-gearbox-at-requires : tie.Need-gearbox-at-requires
-gearbox-at-requires c κs = search needs
+profile-at-requires : tie.Need-profile-at-requires
+profile-at-requires c κs = search needs
 
-enum-known-gears : tie.Need-enum-known-gears
-enum-known-gears c = search needs
+enum-known-profile : tie.Need-enum-known-profile
+enum-known-profile c = search needs
 
 enum-told-2 : tie.Need-enum-told-2
 enum-told-2 c = search needs
+
+came-requires-2 : tie.Need-came-requires-2
+came-requires-2 c κs = search needs
 
 no-car-requires-2 : tie.Need-no-car-requires-2
 no-car-requires-2 c κs = search needs
 
 returns-2 : tie.Need-returns-2
 returns-2 c =
+    let c₁ = c .before .before in
+    let c₂ = c₁ .before .before in
+    let c₃ = c₂ .before .before in
+    let c₄ = c₃ .before .before in
+    let s = c₄ .before .before in
+    let g = c₁ .enum-told2 .given .1 in
+    rw (c .no-car2 .ensures, c .before .came2 .ensures, g) (profile-stops (s .args .job .now) 0 (rw (c₃ .version .given .1) at (c₄ .bounded .ensures)) (rw g at (c₂ .profile-at .ensures)))
+
+gearbox-at-requires : tie.Need-gearbox-at-requires
+gearbox-at-requires c κs =
+    let c₁ = c .before in
+    let c₂ = c₁ .before .before in
+    let c₃ = c₂ .before .before in
+    let s = c₃ .before .before .before .before in
+    profile-in (s .args .job .now) _ _ (rw (c₁ .profile .given .1) at (c₂ .profile-at .ensures))
+
+enum-known-gears : tie.Need-enum-known-gears
+enum-known-gears c = search needs
+
+enum-told-3 : tie.Need-enum-told-3
+enum-told-3 c = search needs
+
+no-car-requires-3 : tie.Need-no-car-requires-3
+no-car-requires-3 c κs = search needs
+
+returns-3 : tie.Need-returns-3
+returns-3 c =
     let c₁ = c .before .before .before in
     let c₂ = c₁ .before .before in
     let c₃ = c₂ .before .before in
-    let s = c₃ .before .before in
-    let g = c .before .enum-told2 .given .1 in
-    rw (c .no-car2 .ensures, g) (gears-stop (s .args .job .now) 0 (rw (c₂ .version .given .1) at (c₃ .bounded .ensures)) (rw g at (c₁ .gearbox-at .ensures)))
+    let c₄ = c₃ .before .before in
+    let c₅ = c₄ .before .before in
+    let s = c₅ .before .before in
+    let g = c .before .enum-told3 .given .1 in
+    rw (c .no-car3 .ensures, g) (gears-stop (s .args .job .now) 0 (rw (c₄ .version .given .1) at (c₅ .bounded .ensures)) (rw (c₂ .profile .given .1) at (c₃ .profile-at .ensures)) (rw g at (c₁ .gearbox-at .ensures)))
 
 slice-aggregate-fill : tie.Need-slice-aggregate-fill
 slice-aggregate-fill c = search needs
@@ -58,22 +90,24 @@ fill-requires c κs = search needs
 enum-known-eight : tie.Need-enum-known-eight
 enum-known-eight c = search needs
 
-enum-told-3 : tie.Need-enum-told-3
-enum-told-3 c = search needs
+enum-told-4 : tie.Need-enum-told-4
+enum-told-4 c = search needs
 
-no-car-requires-3 : tie.Need-no-car-requires-3
-no-car-requires-3 c κs = search needs
+no-car-requires-4 : tie.Need-no-car-requires-4
+no-car-requires-4 c κs = search needs
 
-returns-3 : tie.Need-returns-3
-returns-3 c =
+returns-4 : tie.Need-returns-4
+returns-4 c =
     let c₁ = c .before .before .before .before in
     let c₂ = c₁ .before .before .before in
     let c₃ = c₂ .before .before in
     let c₄ = c₃ .before .before in
     let c₅ = c₄ .before .before in
-    let s = c₅ .before .before in
-    let g = c .before .enum-told3 .given .1 in
-    rw (c .no-car3 .ensures, g) (numbers-stop (s .args .job .now) 0 (rw (c₄ .version .given .1) at (c₅ .bounded .ensures)) (rw (c₂ .gears .given .1) at (c₃ .gearbox-at .ensures)) (rw g at (c₁ .fill .ensures)))
+    let c₆ = c₅ .before .before in
+    let c₇ = c₆ .before .before in
+    let s = c₇ .before .before in
+    let g = c .before .enum-told4 .given .1 in
+    rw (c .no-car4 .ensures, g) (numbers-stop (s .args .job .now) 0 (rw (c₆ .version .given .1) at (c₇ .bounded .ensures)) (rw (c₄ .profile .given .1) at (c₅ .profile-at .ensures)) (rw (c₂ .gears .given .1) at (c₃ .gearbox-at .ensures)) (rw g at (c₁ .fill .ensures)))
 
 curve-at-requires : tie.Need-curve-at-requires
 curve-at-requires c κs = search needs
@@ -81,16 +115,18 @@ curve-at-requires c κs = search needs
 vehicle-of-requires : tie.Need-vehicle-of-requires
 vehicle-of-requires c κs = search needs
 
-returns-4 : tie.Need-returns-4
-returns-4 c =
+returns-5 : tie.Need-returns-5
+returns-5 c =
     let c₁ = c .before .before .before in
     let c₂ = c₁ .before .before .before in
     let c₃ = c₂ .before .before .before in
     let c₄ = c₃ .before .before in
     let c₅ = c₄ .before .before in
     let c₆ = c₅ .before .before in
-    let s = c₆ .before .before in
-    rw (c .vehicle-of .ensures) (car-on (s .args .job .now) 0 (rw (c₅ .version .given .1) at (c₆ .bounded .ensures)) (rw (c₃ .gears .given .1) at (c₄ .gearbox-at .ensures)) (rw (c₁ .eight .given .1) at (c₂ .fill .ensures)) (c .before .curve-at .result .at) _ (c .before .curve-at .ensures))
+    let c₇ = c₆ .before .before in
+    let c₈ = c₇ .before .before in
+    let s = c₈ .before .before in
+    rw (c .vehicle-of .ensures) (car-on (s .args .job .now) 0 (rw (c₇ .version .given .1) at (c₈ .bounded .ensures)) (rw (c₅ .profile .given .1) at (c₆ .profile-at .ensures)) (rw (c₃ .gears .given .1) at (c₄ .gearbox-at .ensures)) (rw (c₁ .eight .given .1) at (c₂ .fill .ensures)) (c .before .curve-at .result .at) _ (c .before .curve-at .ensures))
 
 pub car-at-spec : {M : Type 1} → statement M
 car-at-spec =
@@ -102,17 +138,23 @@ car-at-spec =
     came-requires
     no-car-requires
     returns
-    gearbox-at-requires
-    enum-known-gears
+    profile-at-requires
+    enum-known-profile
     enum-told-2
+    came-requires-2
     no-car-requires-2
     returns-2
-    slice-aggregate-fill
-    fill-requires
-    enum-known-eight
+    gearbox-at-requires
+    enum-known-gears
     enum-told-3
     no-car-requires-3
     returns-3
+    slice-aggregate-fill
+    fill-requires
+    enum-known-eight
+    enum-told-4
+    no-car-requires-4
+    returns-4
     curve-at-requires
     vehicle-of-requires
-    returns-4)
+    returns-5)

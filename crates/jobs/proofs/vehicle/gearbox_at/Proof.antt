@@ -1,10 +1,14 @@
 -- `jobs::vehicle::gearbox_at` meets its contract: one law for each `return`.
 -- Assumes nothing.
+use Prim.Native.Nat.{_+_}
 use native.Mathlib.Omega.{arith}
 use borrow.Author.Needs.{needs}
 use Rattle.jobs.proofs.Ways.{bounded-in, gearbox-stops, gearbox-on}
 use Rattle.jobs.proofs.vehicle.gearbox_at.Statement.{statement}
 use Rattle.jobs.proofs.vehicle.gearbox_at.Tie as tie
+
+add-fewest : tie.Need-add-fewest
+add-fewest c = search needs
 
 bounded-requires : tie.Need-bounded-requires
 bounded-requires c κs = search needs
@@ -23,7 +27,7 @@ returns c =
     let c₁ = c .before .before .before in
     let s = c₁ .before .before in
     let g = c .before .enum-told .given .1 in
-    rw (c .came .ensures, g) (gearbox-stops (s .args .job .now) (s .args .at) (rw g at (c₁ .bounded .ensures)))
+    rw (c .came .ensures, g) (gearbox-stops (s .args .job .now) (s .args .at) (s .args .profile) (rw g at (c₁ .bounded .ensures)))
 
 cast-fill : tie.Need-cast-fill
 cast-fill c = search needs
@@ -36,19 +40,20 @@ fill-requires c κs =
     let c₁ = c .before .before in
     let c₂ = c₁ .before .before in
     let s = c₂ .before .before in
-    let b = bounded-in (s .args .job .now) 2 10 3 1 (s .args .at) (rw (c₁ .count .given .1) at (c₂ .bounded .ensures)) in omega arith
+    let b = bounded-in (s .args .job .now) (2 + s .args .profile) 10 3 1 (s .args .at) (rw (c₁ .count .given .1) at (c₂ .bounded .ensures)) in omega arith
 
 returns-2 : tie.Need-returns-2
 returns-2 c =
     let c₁ = c .before .before .before .before in
     let c₂ = c₁ .before .before in
     let s = c₂ .before .before in
-    gearbox-on (s .args .job .now) (s .args .at) (rw (c₁ .count .given .1) at (c₂ .bounded .ensures)) (c .before .fill .result) (c .before .fill .last .1 .1 .1 .0) (c .before .fill .ensures)
+    gearbox-on (s .args .job .now) (s .args .at) (s .args .profile) (rw (c₁ .count .given .1) at (c₂ .bounded .ensures)) (c .before .fill .result) (c .before .fill .last .1 .1 .1 .0) (c .before .fill .ensures)
 
 pub gearbox-at-spec : {M : Type 1} → statement M
 gearbox-at-spec =
     tie.close
     (tie.spec
+    add-fewest
     bounded-requires
     enum-known-count
     enum-told

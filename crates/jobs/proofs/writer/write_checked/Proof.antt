@@ -35,7 +35,7 @@ returns c =
     let vs = s .args .speeds .now in
     let hs = s .args .holds .now in
     let e = rw (c .before .before .tally .ensures .0, c .before .before .tally .ensures .1) at (c .before .job-size .ensures) in
-    let m = job-length (s .args .version) (s .args .vehicle) vs hs (within-hi 1 2 _ (writable (s .args .version) (s .args .vehicle) vs hs (s .pre) .known)) in
+    let m = job-length (s .args .version) (s .args .vehicle) vs hs (within-hi 1 3 _ (writable (s .args .version) (s .args .vehicle) vs hs (s .pre) .known)) in
     short-as (job-bytes (s .args .version) (s .args .vehicle) vs hs) (s .args .room .now) (c .before .job-size .result) (omega (arith, e, m)) (omega arith)
 
 put-job-requires : tie.Need-put-job-requires
@@ -44,7 +44,7 @@ put-job-requires c κs =
     let vs = s .args .speeds .now in
     let hs = s .args .holds .now in
     let e = rw (c .before .before .before .tally .ensures .0, c .before .before .before .tally .ensures .1) at (c .before .before .job-size .ensures) in
-    let m = job-length (s .args .version) (s .args .vehicle) vs hs (within-hi 1 2 _ (writable (s .args .version) (s .args .vehicle) vs hs (s .pre) .known)) in
+    let m = job-length (s .args .version) (s .args .vehicle) vs hs (within-hi 1 3 _ (writable (s .args .version) (s .args .vehicle) vs hs (s .pre) .known)) in
     (s .pre, c .before .before .before .tally .ensures .0, omega (arith, e, m))
 
 same-length : tie.Need-same-length
@@ -56,7 +56,7 @@ returns-2 c =
     let vs = s .args .speeds .now in
     let hs = s .args .holds .now in
     let e = rw (c .before .before .before .before .before .before .tally .ensures .0, c .before .before .before .before .before .before .tally .ensures .1) at (c .before .before .before .before .before .job-size .ensures) in
-    let m = job-length (s .args .version) (s .args .vehicle) vs hs (within-hi 1 2 _ (writable (s .args .version) (s .args .vehicle) vs hs (s .pre) .known)) in
+    let m = job-length (s .args .version) (s .args .vehicle) vs hs (within-hi 1 3 _ (writable (s .args .version) (s .args .vehicle) vs hs (s .pre) .known)) in
     bytes-as (job-bytes (s .args .version) (s .args .vehicle) vs hs) (s .args .room .now) (c .before .before .put-job .ensures)
 
 pub write-checked-spec : {M : Type 1} → statement M

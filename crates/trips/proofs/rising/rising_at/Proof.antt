@@ -47,7 +47,7 @@ floor-requires : tie.Need-floor-requires
 floor-requires c κs = search needs
 
 cast-result : tie.Need-cast-result
-cast-result c = let a = c .before .before .before .before .before .before .before .before .before .before .before .before .before .args in let q = c .before .before .before .before .before .before .before .before .before .before .before .before .before .pre in omega (arith, c .before .floor .ensures (built (a .k) (a .ratio .now)) (built-has (a .k) (a .ratio .now)), floor-few (a .k) (a .ratio .now) (at (a .us .now) (a .j)), q .0)
+cast-result c = let a = c .before .before .before .before .before .before .before .before .before .before .before .before .before .args in let q = c .before .before .before .before .before .before .before .before .before .before .before .before .before .pre in omega (arith, c .before .floor .ensures (built (a .k) (a .ratio .now)) (built-has (a .k) (a .ratio .now)), floor-few (a .k) (a .ratio .now) (at (a .us .now) (a .j)), q .0 .ng-to)
 
 returns-5 : tie.Need-returns-5
 returns-5 c = let a = c .before .before .before .before .before .before .before .before .before .before .before .before .before .args in let q = c .before .before .before .before .before .before .before .before .before .before .before .before .before .pre in λ car H. omega (arith, rising-cut car (a .us .now) (a .hs .now) (a .j) (a .gs .now) (free-later car (a .us .now) (a .hs .now) (a .j) (omega arith) (q .2 .from)) (omega arith) (omega (arith, q .4, c .before .before .before .ceiling-at .ensures)), c .before .before .before .ceiling-at .ensures, c .before .floor .ensures car H)

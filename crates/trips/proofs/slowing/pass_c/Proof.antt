@@ -5,6 +5,7 @@ use mathlib.Core.Path.{_≡_, refl, sym, ap, _∙_}
 use native.Mathlib.Omega.{arith}
 use mathlib.Core.List.{List}
 use lib.ListN.{length, length-set}
+use Rattle.gears.specs.Parts.{Counts}
 use Rattle.rules.specs.Words.{pass}
 use Rattle.trips.proofs.Passes.{pass-more, pass-skip}
 use borrow.Author.Tests.{le-leb, lt-leb}
@@ -16,27 +17,27 @@ use Rattle.trips.proofs.slowing.pass_c.Statement.{statement}
 use Rattle.trips.proofs.slowing.pass_c.Tie as tie
 
 abbrev Inv-loop : tie.InvT-loop
-Inv-loop run hs gs₀ j₀ gs j =
+Inv-loop k run hs gs₀ j₀ gs j =
     (j ≤ length gs) × (length gs ≡ length gs₀) × (run ≤ j)
-    × ((car : Vehicle) (us : List ℕ) → length us ≡ suc (length hs) → RunFrom us run → gs ≡ pass (slowing car us hs) j gs₀)
+    × ((car : Vehicle) (us : List ℕ) → Counts car k → length us ≡ suc (length hs) → RunFrom us run → gs ≡ pass (slowing car us hs) j gs₀)
 
 abbrev μ-loop : tie.MeasureT-loop
-μ-loop run hs gs₀ j₀ gs j = length gs - j
+μ-loop k run hs gs₀ j₀ gs j = length gs - j
 
 loop-holds : tie.Need-loop-holds Inv-loop μ-loop
 loop-holds c =
     let s = c .before .before in
     let a = s .args in
     let r = a .run in (
-      omega (arith, s .pre .run .within, s .pre .speeds, s .pre .gears),
+      omega (arith, s .pre .1 .run .within, s .pre .1 .speeds, s .pre .1 .gears),
       refl,
       omega arith,
-      λ car us n q. sym (pass-skip (slowing car us (a .hs .now)) (a .gs .now) r
+      λ car us C n q. sym (pass-skip (slowing car us (a .hs .now)) (a .gs .now) r
           (λ i h. sym (slowing-open car us (a .hs .now) i (a .gs .now) (q .run i (omega (arith, q .within)) ∙ lt-leb r i h)))),
     )
 
 slowing-at-requires : tie.Need-slowing-at-requires Inv-loop μ-loop
-slowing-at-requires c κs = (omega (arith, c .before .before .loop .inv, c .before .before .before .before .before .pre .gears), omega arith)
+slowing-at-requires c κs = let s = c .before .before .before .before .before in (s .pre .0, omega (arith, c .before .before .loop .inv, s .pre .1 .gears), omega arith)
 
 slice-write-gs : tie.Need-slice-write-gs Inv-loop μ-loop
 slice-write-gs c = omega arith
@@ -56,8 +57,8 @@ loop-again c =
       simp length-set (omega arith),
       simp length-set (l .inv .1),
       omega (arith, l .inv .2),
-      λ car us n q. pass-more (slowing car us (a .hs .now)) (a .gs .now) (l .gs) (l .j) (c .slowing-at .result) (l .inv .3 car us n q)
-          (c .slowing-at .ensures car us (q .run (l .j) (omega (arith, l .inv, s .pre .gears)) ∙ le-leb r (l .j) (l .inv .2))),
+      λ car us C n q. pass-more (slowing car us (a .hs .now)) (a .gs .now) (l .gs) (l .j) (c .slowing-at .result) (l .inv .3 car us C n q)
+          (c .slowing-at .ensures car us C (q .run (l .j) (omega (arith, l .inv, s .pre .1 .gears)) ∙ le-leb r (l .j) (l .inv .2))),
     )
 
 same-length : tie.Need-same-length Inv-loop μ-loop
@@ -68,8 +69,8 @@ returns c =
     let s = c .before .before .before .before in
     let a = s .args in
     let l = c .before .loop in
-    let e : l .j ≡ length (a .hs .now) = omega (arith, l .inv, s .pre .gears) in
-    λ car us n q. l .inv .3 car us n q ∙ ap (λ (i : ℕ). pass (slowing car us (a .hs .now)) i (a .gs .now)) e
+    let e : l .j ≡ length (a .hs .now) = omega (arith, l .inv, s .pre .1 .gears) in
+    λ car us C n q. l .inv .3 car us C n q ∙ ap (λ (i : ℕ). pass (slowing car us (a .hs .now)) i (a .gs .now)) e
 
 pub pass-c-spec : {M : Type 1} → statement M
 pass-c-spec =

@@ -1,5 +1,6 @@
 -- `trips::work::choice_first` meets its contract: one law of the first second for each return.
 -- Assumes nothing.
+use native.Mathlib.Omega.{arith}
 use borrow.Author.Needs.{needs}
 use Rattle.trips.proofs.Trip.{first-none, first-one, first-held}
 use Rattle.trips.proofs.work.choice_first.Statement.{statement}
@@ -8,17 +9,29 @@ use Rattle.trips.proofs.work.choice_first.Tie as tie
 returns : tie.Need-returns
 returns c = λ car H b d. first-held car _ d _ (c .if1 .taken)
 
+lowest-requires : tie.Need-lowest-requires
+lowest-requires c κs = search needs
+
 top-requires : tie.Need-top-requires
 top-requires c κs = search needs
 
 engine-requires : tie.Need-engine-requires
-engine-requires c κs = search needs
+engine-requires c κs =
+    let l = c .before .lowest .ensures in
+    let d = c .before .before .before .pre in
+    record { from = omega (arith, l); to = omega (arith, l, d .low-to, d .ng-to) }
 
 returns-2 : tie.Need-returns-2
-returns-2 c = λ car H b d. first-none H b _ d _ (c .before .before .before .if1 .left) (rw (c .before .before .top .ensures, c .before .engine .ensures) at (c .if2 .taken))
+returns-2 c = λ car H b d. first-none H b _ d _ (c .before .before .before .before .if1 .left) (c .before .before .before .lowest .ensures) (rw (c .before .before .top .ensures, c .before .engine .ensures) at (c .if2 .taken))
+
+cast-result : tie.Need-cast-result
+cast-result c =
+    let l = c .before .before .before .lowest .ensures in
+    let d = c .before .before .before .before .before .pre in
+    omega (arith, l, d .low-to, d .ng-to)
 
 returns-3 : tie.Need-returns-3
-returns-3 c = λ car H b d. first-one H b _ d _ (c .before .before .before .if1 .left) (rw (c .before .before .top .ensures, c .before .engine .ensures) at (c .if2 .left))
+returns-3 c = λ car H b d. first-one H b _ d _ (c .before .before .before .before .if1 .left) (c .before .before .before .lowest .ensures) (rw (c .before .before .top .ensures, c .before .engine .ensures) at (c .if2 .left))
 
 pub choice-first-spec : {M : Type 1} → statement M
-choice-first-spec = tie.close (tie.spec returns top-requires engine-requires returns-2 returns-3)
+choice-first-spec = tie.close (tie.spec returns lowest-requires top-requires engine-requires returns-2 cast-result returns-3)

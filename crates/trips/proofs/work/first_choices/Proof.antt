@@ -13,7 +13,7 @@ use borrow.Author.Tests.{ne-eqb}
 use Rattle.rules.specs.Words.{if_then_else_, _and_, at, pass}
 use Rattle.rules.proofs.Laws.Words.{and-no}
 use Rattle.trips.specs.Trip.{on-way}
-use Rattle.trips.proofs.Trip.{way-step}
+use Rattle.trips.proofs.Trip.{way-step, gears-few}
 use Rattle.trips.proofs.Passes.{pass-more}
 use Rattle.rules.specs.declared.Vehicle.{Vehicle}
 use Rattle.gears.specs.Parts.{Lent}
@@ -29,7 +29,9 @@ abbrev μ-loop : tie.MeasureT-loop
 μ-loop k ratio n p us hs begins run last gs₀ j₀ before₀ gs j before = length gs - j
 
 begin-requires : tie.Need-begin-requires Inv-loop μ-loop
-begin-requires c κs = c .before .before .before .before .pre .2
+begin-requires c κs =
+    let s = c .before .before .before .before in
+    (gears-few (s .pre .0), s .pre .2)
 
 before-at-requires : tie.Need-before-at-requires Inv-loop μ-loop
 before-at-requires c κs = search needs

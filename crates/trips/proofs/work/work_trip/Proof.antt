@@ -19,13 +19,13 @@ abbrev start : tie.After-pass-c → tie.Start
 start c = c .before .before .before .before .before .before .before .before .before .before .before .before .before .before .before .before .before .before
 
 -- after the three passes the slice holds the trip's gears
-done : (c : tie.After-pass-c) (car : Vehicle) → Of (start c) car → c .pass-c .last .1 .1 .0 ≡ gears car (start c .args .us .now) (start c .args .hs .now)
+done : (c : tie.After-pass-c) (car : Vehicle) → Of (start c) car → c .pass-c .last .1 .1 .1 .0 ≡ gears car (start c .args .us .now) (start c .args .hs .now)
 done c car L =
     let a = start c .args in
     let first = c .before .before .before .before .before .before .before .before .before .before .before .before .first-choices in
     let one = c .before .before .before .before .before .before .before .before .pass-a in
     let two = c .before .before .before .before .pass-b in
-    gears-is car (a .us .now) (a .hs .now) (way-firsts car (a .us .now) (a .hs .now) _ (c .before .before .before .before .before .before .before .before .before .before .before .before .before .before .closing-from .ensures) (start c .pre .1 .lists .speeds) (a .gs .now) (start c .pre .1 .lists .gears) (first .ensures car L)) (one .ensures car (L .has)) (two .ensures car (L .has)) (c .pass-c .ensures car (a .us .now) (start c .pre .1 .lists .speeds) (c .before .before .before .before .before .before .before .before .before .before .before .before .before .before .closing-from .ensures))
+    gears-is car (a .us .now) (a .hs .now) (way-firsts car (a .us .now) (a .hs .now) _ (c .before .before .before .before .before .before .before .before .before .before .before .before .before .before .closing-from .ensures) (start c .pre .1 .lists .speeds) (a .gs .now) (start c .pre .1 .lists .gears) (first .ensures car L)) (one .ensures car (L .has)) (two .ensures car (L .has)) (c .pass-c .ensures car (a .us .now) (L .has .counts) (start c .pre .1 .lists .speeds) (c .before .before .before .before .before .before .before .before .before .before .before .before .before .before .closing-from .ensures))
 
 closing-from-requires : tie.Need-closing-from-requires
 closing-from-requires c κs = let s = c .before .before .before in (moves-on (s .pre .1), omega (arith, s .pre .1 .lists .speeds))
@@ -42,7 +42,7 @@ pass-b-requires c κs = let s = c .before .before .before .before .before .befor
 pass-c-requires : tie.Need-pass-c-requires
 pass-c-requires c κs =
     let s = c .before .before .before .before .before .before .before .before .before .before .before .before .before .before .before .before .before in
-    record { us = s .args .us .now; speeds = s .pre .1 .lists .speeds; gears = search needs; run = c .before .before .before .before .before .before .before .before .before .before .before .before .before .closing-from .ensures }
+    (gears-few (s .pre .0), record { us = s .args .us .now; speeds = s .pre .1 .lists .speeds; gears = search needs; run = c .before .before .before .before .before .before .before .before .before .before .before .before .before .closing-from .ensures })
 
 bytes-requires : tie.Need-bytes-requires
 bytes-requires c κs =

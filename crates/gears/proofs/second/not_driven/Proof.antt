@@ -1,0 +1,45 @@
+-- `gears::second::not_driven` meets its contract: one side of the rule for each return.
+-- Assumes nothing.
+use Prim.Native.Nat.{ℕ, _≤_}
+use native.Mathlib.Omega.{arith}
+use mathlib.Core.Path.{_≡_, refl, _∙_}
+use mathlib.Core.Bool.{false}
+use lib.Dec.{ltb}
+use borrow.Author.Tests.{lt-ltb, le-ltb}
+use borrow.Author.Needs.{needs}
+use Rattle.rules.specs.declared.Vehicle.{Vehicle}
+use Rattle.rules.specs.Words.{_and_, _or_}
+use Rattle.rules.specs.Units.{low}
+use Rattle.rules.specs.Refusals.{not-driven}
+use Rattle.rules.proofs.Laws.Words.{clash}
+use Rattle.gears.proofs.Parts.{low-of, ng-of}
+use Rattle.gears.proofs.second.not_driven.Statement.{statement}
+use Rattle.gears.proofs.second.not_driven.Tie as tie
+
+-- of the gears up to ng those below the lowest are not driven
+by-lowest : (car : Vehicle) (g : ℕ) → g ≤ car .ng → (g ≡ 0 → ⊥) → ltb g (low car) ≡ not-driven car g
+unfolding not-driven _and_ _or_
+by-lowest car g to some = rw (le-ltb (car .ng) g to, lt-ltb 0 g (omega arith))
+
+returns : tie.Need-returns
+unfolding not-driven _or_
+returns c = (λ e. clash refl e, λ car K. rw (ng-of K, lt-ltb _ _ (c .if1 .taken)))
+
+returns-2 : tie.Need-returns-2
+unfolding not-driven _and_ _or_
+returns-2 c = (λ e. omega arith, λ car K. rw (ng-of K, le-ltb _ _ (c .before .if1 .left), le-ltb 0 (c .before .before .before .args .gear) (omega arith)))
+
+lowest-requires : tie.Need-lowest-requires
+lowest-requires c κs = search needs
+
+returns-3 : tie.Need-returns-3
+returns-3 c = (
+  λ e. omega arith,
+  λ car K.
+      let n = ng-of K in
+      let l = low-of K in
+      rw (c .lowest .ensures, ← l) (by-lowest car (c .before .before .before .before .args .gear) (omega arith) (c .before .if2 .left)),
+)
+
+pub not-driven-spec : {M : Type 1} → statement M
+not-driven-spec = tie.close (tie.spec returns returns-2 lowest-requires returns-3)
