@@ -1,7 +1,8 @@
 /* The library against its C twin. bench JOB            checks, then every ratio, library and twin side by side
                                bench JOB --check      the checks alone
                                bench JOB --list       the cases
-                               bench JOB --once CASE lib|twin N   N calls of one side, for an instruction count */
+                               bench JOB --once CASE lib|twin|bare N   N calls of one side, for an instruction count
+   Bare is the twin of a hold or a mended sample that keeps no summary; there the others do. */
 #include "gearcard.h"
 #include "twin.h"
 #include <stdio.h>
@@ -13,6 +14,8 @@ typedef struct gearcard_vehicle car_t;
 typedef struct gearcard_verdict verdict_t;
 typedef struct gearcard_job job_t;
 typedef struct gearcard_written written_t;
+typedef struct gearcard_summary summary_t;
+typedef struct gearcard_counted counted_t;
 enum { ROOM = GEARCARD_LONGEST, MADE = 2048, BYTES = 9 * GEARCARD_LONGEST + 1024, ROUNDS = 41 }; /* MADE: seconds of a made trace */
 
 static uint64_t seed = 88172645463325252ull;
@@ -28,7 +31,8 @@ static void stop(const char *what) {
 }
 
 /* ---- cases ---- */
-enum kind { WORK, HOLD, READ, FILL, WRITE, MEND };
+enum kind { WORK, HOLD, READ, FILL, WRITE, MEND, COUNT };
+enum side { LIB, TWIN, BARE };
 typedef struct {
   char name[40];
   enum kind kind;
@@ -36,6 +40,7 @@ typedef struct {
   size_t count, second, length;
   uint8_t gear;
   uint16_t speed[2]; /* of a mended sample, in turn */
+  summary_t summary; /* of the card, kept by the edits */
   uint16_t v[ROOM];
   uint8_t h[ROOM], card[ROOM];
   uint8_t job[BYTES];
@@ -137,12 +142,14 @@ static void short_trips(uint16_t *v, size_t n) {
 /* ---- one call of one side ---- */
 static const struct {
   verdict_t (*work)(car_t, const uint16_t *, size_t, const uint8_t *, size_t, uint8_t *, size_t);
-  verdict_t (*hold)(car_t, const uint16_t *, size_t, uint8_t *, size_t, uint8_t *, size_t, size_t, uint8_t);
-  verdict_t (*release)(car_t, const uint16_t *, size_t, uint8_t *, size_t, uint8_t *, size_t, size_t);
-  verdict_t (*mend)(car_t, uint16_t *, size_t, const uint8_t *, size_t, uint8_t *, size_t, size_t, uint16_t);
+  counted_t (*hold)(car_t, const uint16_t *, size_t, uint8_t *, size_t, uint8_t *, size_t, size_t, uint8_t, summary_t);
+  counted_t (*release)(car_t, const uint16_t *, size_t, uint8_t *, size_t, uint8_t *, size_t, size_t, summary_t);
+  counted_t (*mend)(car_t, uint16_t *, size_t, const uint8_t *, size_t, uint8_t *, size_t, size_t, uint16_t, summary_t);
+  counted_t (*count)(const uint16_t *, size_t, const uint8_t *, size_t);
   job_t (*read)(const uint8_t *, size_t, uint16_t *, size_t, uint8_t *, size_t);
   written_t (*write)(uint16_t, car_t, const uint16_t *, size_t, const uint8_t *, size_t, uint8_t *, size_t);
-} sides[2] = {{gearcard_work, gearcard_hold, gearcard_release, gearcard_mend, gearcard_read, gearcard_write}, {twin_work, twin_hold, twin_release, twin_mend, twin_read, twin_write}};
+} sides[2] = {{gearcard_work, gearcard_hold, gearcard_release, gearcard_mend, gearcard_summary_of, gearcard_read, gearcard_write},
+              {twin_work, twin_hold, twin_release, twin_mend, twin_summary_of, twin_read, twin_write}};
 
 static uint16_t room_v[ROOM];
 static uint8_t room_h[ROOM], room_w[BYTES];
@@ -153,21 +160,44 @@ static __attribute__((noinline)) verdict_t twin_cycle(uint32_t part, uint16_t *r
   memcpy(room, cycle, sizeof cycle);
   return (verdict_t){0, 0};
 }
-static __attribute__((noinline)) void call(case_t *c, int twin, long reps) {
+/* The edits that keep no summary. */
+static __attribute__((noinline)) void call_bare(case_t *c, long reps) {
   size_t n = c->count;
   uint32_t refused = 0;
+  for (long r = 0; r < reps; r++)
+    refused |= (c->kind == MEND ? bare_mend(c->car, c->v, n, c->h, n, c->card, n, c->second, c->speed[r & 1])
+                : r & 1         ? bare_release(c->car, c->v, n, c->h, n, c->card, n, c->second)
+                                : bare_hold(c->car, c->v, n, c->h, n, c->card, n, c->second, c->gear))
+                   .number;
+  if (refused) stop("a benchmark input was refused");
+}
+static __attribute__((noinline)) void call(case_t *c, enum side twin, long reps) {
+  size_t n = c->count;
+  uint32_t refused = 0;
+  counted_t edited;
+  if (twin == BARE) {
+    call_bare(c, reps);
+    return;
+  }
   switch (c->kind) {
   case WORK:
     for (long r = 0; r < reps; r++) refused |= sides[twin].work(c->car, c->v, n, c->h, n, c->card, n).number;
     break;
   case HOLD: /* held and released in turn */
-    for (long r = 0; r < reps; r++)
-      refused |= (r & 1 ? sides[twin].release(c->car, c->v, n, c->h, n, c->card, n, c->second)
-                        : sides[twin].hold(c->car, c->v, n, c->h, n, c->card, n, c->second, c->gear))
-                     .number;
+    for (long r = 0; r < reps; r++) {
+      edited = r & 1 ? sides[twin].release(c->car, c->v, n, c->h, n, c->card, n, c->second, c->summary)
+                     : sides[twin].hold(c->car, c->v, n, c->h, n, c->card, n, c->second, c->gear, c->summary);
+      refused |= edited.verdict.number, c->summary = edited.summary;
+    }
     break;
   case MEND: /* mended there and back in turn */
-    for (long r = 0; r < reps; r++) refused |= sides[twin].mend(c->car, c->v, n, c->h, n, c->card, n, c->second, c->speed[r & 1]).number;
+    for (long r = 0; r < reps; r++) {
+      edited = sides[twin].mend(c->car, c->v, n, c->h, n, c->card, n, c->second, c->speed[r & 1], c->summary);
+      refused |= edited.verdict.number, c->summary = edited.summary;
+    }
+    break;
+  case COUNT:
+    for (long r = 0; r < reps; r++) edited = sides[twin].count(c->v, n, c->card, n), refused |= edited.verdict.number, c->summary = edited.summary;
     break;
   case READ:
     for (long r = 0; r < reps; r++) refused |= sides[twin].read(c->job, c->length, room_v, ROOM, room_h, ROOM).verdict.number;
@@ -185,7 +215,25 @@ static __attribute__((noinline)) void call(case_t *c, int twin, long reps) {
 }
 
 /* ---- the same bytes ---- */
-static long numbers[18];
+static long numbers[18], stops[2];
+/* Any summary: mostly counts as cards have them, some at or near an end. */
+static summary_t random_summary(void) {
+  uint16_t x[12];
+  for (int i = 0; i < 12; i++) x[i] = (uint16_t)(rnd(4) ? rnd(400) : rnd(2) ? rnd(4) : 65535 - rnd(4));
+  summary_t s;
+  memcpy(&s, x, sizeof s);
+  return s;
+}
+/* Both answers' summaries, and how many counts moved to an end. */
+static void same_summary(const char *what, summary_t was, counted_t a, counted_t b) {
+  if (memcmp(&a.summary, &b.summary, sizeof a.summary)) {
+    fprintf(stderr, "bench: %s: summaries differ\n", what);
+    exit(1);
+  }
+  const uint16_t *x = (const uint16_t *)&was, *y = (const uint16_t *)&a.summary;
+  for (int i = 0; i < 12; i++)
+    if (x[i] != y[i]) stops[0] += y[i] == 0, stops[1] += y[i] == 65535;
+}
 /* Counts the answer that both gave. */
 static uint32_t same_verdict(const char *what, verdict_t a, verdict_t b) {
   if (a.number != b.number || a.place != b.place) {
@@ -211,26 +259,37 @@ static uint32_t same_hold(const car_t *car, const uint16_t *v, size_t n, uint8_t
   static uint8_t h2[ROOM + 64], c2[ROOM + 64];
   memcpy(h2, h, n);
   memcpy(c2, card, n);
-  verdict_t a = gearcard_hold(*car, v, n, h, n, card, n, second, gear), b = twin_hold(*car, v, n, h2, n, c2, n, second, gear);
+  summary_t any = random_summary();
+  counted_t a = gearcard_hold(*car, v, n, h, n, card, n, second, gear, any), b = twin_hold(*car, v, n, h2, n, c2, n, second, gear, any);
   if (memcmp(h, h2, n) || memcmp(card, c2, n)) stop("hold: bytes differ");
-  return same_verdict("hold", a, b);
+  same_summary("hold", any, a, b);
+  return same_verdict("hold", a.verdict, b.verdict);
 }
 static uint32_t same_mend(const car_t *car, uint16_t *v, size_t n, const uint8_t *h, uint8_t *card, size_t second, uint16_t speed) {
   static uint16_t v2[ROOM + 64];
   static uint8_t c2[ROOM + 64];
   memcpy(v2, v, n * sizeof *v);
   memcpy(c2, card, n);
-  verdict_t a = gearcard_mend(*car, v, n, h, n, card, n, second, speed), b = twin_mend(*car, v2, n, h, n, c2, n, second, speed);
+  summary_t any = random_summary();
+  counted_t a = gearcard_mend(*car, v, n, h, n, card, n, second, speed, any), b = twin_mend(*car, v2, n, h, n, c2, n, second, speed, any);
   if (memcmp(v2, v, n * sizeof *v) || memcmp(c2, card, n)) stop("mend: bytes differ");
-  return same_verdict("mend", a, b);
+  same_summary("mend", any, a, b);
+  return same_verdict("mend", a.verdict, b.verdict);
 }
 static uint32_t same_release(const car_t *car, const uint16_t *v, size_t n, uint8_t *h, uint8_t *card, size_t second) {
   static uint8_t h2[ROOM + 64], c2[ROOM + 64];
   memcpy(h2, h, n);
   memcpy(c2, card, n);
-  verdict_t a = gearcard_release(*car, v, n, h, n, card, n, second), b = twin_release(*car, v, n, h2, n, c2, n, second);
+  summary_t any = random_summary();
+  counted_t a = gearcard_release(*car, v, n, h, n, card, n, second, any), b = twin_release(*car, v, n, h2, n, c2, n, second, any);
   if (memcmp(h, h2, n) || memcmp(card, c2, n)) stop("release: bytes differ");
-  return same_verdict("release", a, b);
+  same_summary("release", any, a, b);
+  return same_verdict("release", a.verdict, b.verdict);
+}
+static uint32_t same_count(const uint16_t *v, size_t n, const uint8_t *card, size_t nc) {
+  counted_t a = gearcard_summary_of(v, n, card, nc), b = twin_summary_of(v, n, card, nc);
+  same_summary("summary", a.summary, a, b);
+  return same_verdict("summary", a.verdict, b.verdict);
 }
 static uint32_t same_read(const uint8_t *s, size_t len, size_t rs, size_t rh) {
   static uint16_t v1[ROOM + 64], v2[ROOM + 64];
@@ -325,9 +384,11 @@ static void random_checks(long rounds) {
       same_write(version, &car, v, n, h, n, need - 1 - rnd(2));
       if (encode(t, version, &car, v, n, h) != need || memcmp(s, t, need)) stop("write: not the job");
     }
+    same_count(v, n, card, nc);
     if (n == 0) continue;
     for (size_t i = 0; i < n; i++) card[i] = (uint8_t)rnd(256);
-    if (no == 0) gearcard_work(car, v, n, h, n, card, n);
+    same_count(v, n, card, n);
+    if (no == 0) gearcard_work(car, v, n, h, n, card, n), same_count(v, n, card, n);
     for (int k = 0; k < 6; k++) {
       size_t second = rnd((uint32_t)n + (rnd(8) == 0));
       uint8_t gear = (uint8_t)rnd(car.ng + 1u + (rnd(6) == 0));
@@ -489,6 +550,10 @@ static void build(const char *path) {
     for (size_t i = trips[t].a + 1; i + 1 < trips[t].b; i++)
       if (v[i - 1] <= 150 && v[i + 1] <= 150) c->second = i, c->length = trips[t].b - trips[t].a;
   c->speed[0] = 0, c->speed[1] = v[c->second];
+  /* a summary counted whole */
+  c = fresh("count.class3", COUNT), c->count = n;
+  memcpy(c->v, v, sizeof v);
+  memcpy(c->card, card, sizeof card);
   /* reading */
   c = fresh("read.class3", READ);
   memcpy(c->job, bytes, len), c->length = len;
@@ -520,6 +585,8 @@ static void build(const char *path) {
     while (g < c->car.ng && (uint32_t)c->car.ratio[g - 1] * one[i] > 1000u * c->car.nmax) g++;
     c->h[i] = one[i] >= 10 ? g : 0;
   }
+  for (int i = 0; i < ncases; i++)
+    if (cases[i].kind == HOLD || cases[i].kind == MEND) cases[i].summary = gearcard_summary_of(cases[i].v, cases[i].count, cases[i].card, cases[i].count).summary;
 }
 
 /* ---- time ---- */
@@ -528,7 +595,7 @@ static double now(void) { /* this thread's own time: what other programs take do
   clock_gettime(CLOCK_THREAD_CPUTIME_ID, &t);
   return t.tv_sec + 1e-9 * t.tv_nsec;
 }
-static double timed(case_t *c, int twin, long reps) {
+static double timed(case_t *c, enum side twin, long reps) {
   double a = now();
   call(c, twin, reps);
   return now() - a;
@@ -537,7 +604,7 @@ static int up(const void *x, const void *y) {
   double a = *(const double *)x, b = *(const double *)y;
   return a < b ? -1 : a > b;
 }
-static long reps_for(case_t *c, int twin, double want) {
+static long reps_for(case_t *c, enum side twin, double want) {
   long r = 2;
   for (;;) {
     double t = timed(c, twin, r);
@@ -555,7 +622,7 @@ static void row(const char *name, const char *what, double *x, int n) {
 }
 
 int main(int argc, char **argv) {
-  if (argc < 2) stop("bench JOB [--check | --list | --once CASE lib|twin N]");
+  if (argc < 2) stop("bench JOB [--check | --list | --once CASE lib|twin|bare N]");
   build(argv[1]);
   if (argc > 2 && !strcmp(argv[2], "--list")) {
     for (int i = 0; i < ncases; i++) printf("%s\n", cases[i].name);
@@ -564,7 +631,9 @@ int main(int argc, char **argv) {
   if (argc > 5 && !strcmp(argv[2], "--once")) {
     for (int i = 0; i < ncases; i++)
       if (!strcmp(cases[i].name, argv[3])) {
-        call(&cases[i], !strcmp(argv[4], "twin"), atol(argv[5]));
+        enum side side = !strcmp(argv[4], "lib") ? LIB : !strcmp(argv[4], "twin") ? TWIN : BARE;
+        if (side == BARE && cases[i].kind != HOLD && cases[i].kind != MEND) stop("only a hold or a mended sample is bare");
+        call(&cases[i], side, atol(argv[5]));
         return 0;
       }
     stop("no such case");
@@ -575,6 +644,7 @@ int main(int argc, char **argv) {
     if (c->kind == WORK) no = same_work(&c->car, c->v, c->count, c->h, c->count, c->count);
     if (c->kind == READ) no = same_read(c->job, c->length, ROOM, ROOM);
     if (c->kind == FILL) no = same_cycle();
+    if (c->kind == COUNT) no = same_count(c->v, c->count, c->card, c->count);
     if (c->kind == WRITE) no = same_write(1, &c->car, c->v, c->count, c->h, c->count, BYTES);
     if (c->kind == HOLD) {
       uint8_t h[ROOM], card[ROOM];
@@ -599,9 +669,9 @@ int main(int argc, char **argv) {
   printf("same bytes on every benchmark input (%d cases)\n", ncases);
   memset(numbers, 0, sizeof numbers);
   random_checks(6000);
-  printf("same bytes on 6000 random cars and traces (work, writes, 6 holds, 6 mended samples, reads each); answers by number:");
+  printf("same bytes on 6000 random cars and traces (work, writes, summaries, 6 holds, 6 mended samples, reads each); answers by number:");
   for (int i = 0; i < 18; i++) printf(" %d:%ld", i, numbers[i]);
-  printf("\n");
+  printf("; counts brought to 0: %ld, to 65535: %ld\n", stops[0], stops[1]);
   if (argc > 2 && !strcmp(argv[2], "--check")) return 0;
 
   double x[ROUNDS], y[ROUNDS];
@@ -617,6 +687,13 @@ int main(int argc, char **argv) {
       x[r] = a / b;
     }
     row(c->name, "library / twin", x, ROUNDS);
+    if (c->kind != HOLD && c->kind != MEND) continue;
+    for (int r = 0; r < ROUNDS; r++) { /* what the summary costs */
+      double bare = timed(c, BARE, reps);
+      x[r] = timed(c, LIB, reps) / bare, y[r] = timed(c, TWIN, reps) / bare;
+    }
+    row(c->name, "library / bare twin", x, ROUNDS);
+    row(c->name, "twin / bare twin", y, ROUNDS);
   }
   printf("\ntrips of the Class 3 cycle, seconds:");
   for (int t = 0; t < ntrips; t++) printf(" %zu", trips[t].b - trips[t].a);

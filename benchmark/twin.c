@@ -8,6 +8,7 @@
    - whether a second is in the closing run is asked only where the minimum of the gear above the lowest decides, and no second is looked at twice for it;
    - first choice, passes A and B and the bytes in one loop over a trip, the gears of the seconds before in registers; pass C on the tail after it;
    - braking (E at most 0) asks for no power, so nothing is looked up; most power is kept along on the way down, so there is no second loop;
+   - a summary is brought up to date from the first to the last second that changed: the bytes before are kept aside, and most of a span's stay the same;
    - a job is parsed once, into buffers, copied when all of it has passed;
    - a job that is written passes the same quick look; its speeds, which are then at most 2,000, are measured and put without a branch.
 
@@ -437,8 +438,66 @@ verdict_t twin_work(car_t vehicle, const uint16_t *v, size_t n, const uint8_t *h
   return say(0, 0);
 }
 
-/* A second's hold made gear: 0 releases it. A gear of 0 to hold comes as 255, which is above ng. */
-INLINE verdict_t edit(const car_t *vehicle, const uint16_t *v, size_t n, uint8_t *h, size_t nh, uint8_t *card, size_t nc, size_t second, uint8_t gear) {
+/* Seconds by gear, any of 0 to 15; then standing, and changes. */
+enum { STANDING = 16, CHANGES, COUNTS };
+
+/* Counts the seconds of [lo, hi), and the changes with a second of them on either side, each as often as sign says. The card's bytes are given from
+   second `from` on; the speed of one second, where that is in the trace, is taken as `speed`. */
+INLINE void count(int32_t *counts, const uint16_t *v, size_t n, size_t second, uint16_t speed, const uint8_t *card, size_t from, size_t lo, size_t hi, int32_t sign) {
+  unsigned last = 255; /* the gear before, where it was moving */
+  for (size_t i = lo ? lo - 1 : 0; i < n && i <= hi; i++) {
+    uint16_t x = i == second ? speed : v[i];
+    unsigned gear = x < 10 ? 255 : card[i - from] & 15u;
+    if (gear != last && gear != 255 && last != 255) counts[CHANGES] += sign;
+    if (i >= lo && i < hi) counts[x < 10 ? STANDING : gear] += sign;
+    last = gear;
+  }
+}
+
+INLINE uint16_t settle(uint16_t was, int32_t more) {
+  int32_t x = was + more;
+  return (uint16_t)(x < 0 ? 0 : x > 65535 ? 65535 : x);
+}
+
+INLINE void settle_all(struct gearcard_summary *s, const int32_t *counts) {
+  s->standing = settle(s->standing, counts[STANDING]);
+  for (int g = 0; g < 10; g++) s->gears[g] = settle(s->gears[g], counts[g + 1]);
+  s->changes = settle(s->changes, counts[CHANGES]);
+}
+
+struct gearcard_counted twin_summary_of(const uint16_t *v, size_t n, const uint8_t *card, size_t nc) {
+  struct gearcard_counted r;
+  memset(&r, 0, sizeof r);
+  r.verdict = n - 1 >= GEARCARD_LONGEST ? say(1, 0) : say(nc == n ? 0 : 2, 0);
+  if (UNLIKELY(r.verdict.number)) return r;
+  int32_t counts[COUNTS] = {0};
+  count(counts, v, n, n, 0, card, 0, 0, n, 1);
+  settle_all(&r.summary, counts);
+  return r;
+}
+
+/* The bytes of [lo, hi) and the one on either side, kept aside; the first of them. */
+INLINE size_t aside(uint8_t *old, const uint8_t *card, size_t n, size_t lo, size_t hi) {
+  size_t from = lo ? lo - 1 : 0, to = hi < n ? hi + 1 : n;
+  memcpy(old, card + from, to - from);
+  return from;
+}
+
+/* The summary, where the bytes of [lo, hi) may be new and were `old`, from second `from` on; and the speed of one second, where that is in the trace, was another. */
+INLINE void bring(struct gearcard_summary *s, const uint16_t *v, size_t n, const uint8_t *card, const uint8_t *old, size_t from, size_t lo, size_t hi, size_t second,
+                  uint16_t was) {
+  while (lo < hi && lo != second && card[lo] == old[lo - from]) lo++;
+  while (lo < hi && hi - 1 != second && card[hi - 1] == old[hi - 1 - from]) hi--;
+  if (lo == hi) return;
+  int32_t counts[COUNTS] = {0};
+  count(counts, v, n, second, was, old, from, lo, hi, -1);
+  count(counts, v, n, n, 0, card, 0, lo, hi, 1);
+  settle_all(s, counts);
+}
+
+/* A second's hold made gear: 0 releases it. A gear of 0 to hold comes as 255, which is above ng. Without a summary none is kept. */
+INLINE verdict_t edit(const car_t *vehicle, const uint16_t *v, size_t n, uint8_t *h, size_t nh, uint8_t *card, size_t nc, size_t second, uint8_t gear,
+                      struct gearcard_summary *summary) {
   verdict_t r = opening(vehicle, n, nh, nc);
   if (UNLIKELY(r.number)) return r;
   if (second >= n) return say(11, second);
@@ -456,29 +515,29 @@ INLINE verdict_t edit(const car_t *vehicle, const uint16_t *v, size_t n, uint8_t
   r = judge(&k, v, n, h, second, gear, lo, hi);
   if (UNLIKELY(r.number)) return r;
   h[second] = gear;
+  if (!summary) {
+    trip(&k, v, h, card, a);
+    return say(0, 0);
+  }
+  uint8_t old[GEARCARD_LONGEST];
+  size_t from = aside(old, card, n, lo, b);
   trip(&k, v, h, card, a);
+  bring(summary, v, n, card, old, from, lo, b, n, 0);
   return say(0, 0);
 }
 
-verdict_t twin_hold(car_t vehicle, const uint16_t *v, size_t n, uint8_t *h, size_t nh, uint8_t *card, size_t nc, size_t second, uint8_t gear) {
-  return edit(&vehicle, v, n, h, nh, card, nc, second, gear ? gear : 255);
-}
-
-verdict_t twin_release(car_t vehicle, const uint16_t *v, size_t n, uint8_t *h, size_t nh, uint8_t *card, size_t nc, size_t second) {
-  return edit(&vehicle, v, n, h, nh, card, nc, second, 0);
-}
-
 /* A sample made speed. It is written, judged in its place, and put back where it is refused. */
-verdict_t twin_mend(car_t vehicle, uint16_t *v, size_t n, const uint8_t *h, size_t nh, uint8_t *card, size_t nc, size_t second, uint16_t speed) {
-  verdict_t r = opening(&vehicle, n, nh, nc);
+INLINE verdict_t mend(const car_t *vehicle, uint16_t *v, size_t n, const uint8_t *h, size_t nh, uint8_t *card, size_t nc, size_t second, uint16_t speed,
+                      struct gearcard_summary *summary) {
+  verdict_t r = opening(vehicle, n, nh, nc);
   if (UNLIKELY(r.number)) return r;
   if (second >= n) return say(11, second);
   prep_t k;
-  prepare(&k, &vehicle);
+  prepare(&k, vehicle);
   size_t a = second, b = second + 1;
   while (a > 0 && v[a - 1] >= 10) a--;
   while (b < n && v[b] >= 10) b++;
-  size_t lo = a ? a - 1 : 0, hi = b < n ? b + 1 : n;
+  size_t lo = a ? a - 1 : 0, hi = b < n ? b + 1 : n, from = 0;
   uint16_t was = v[second];
   v[second] = speed;
   r = judge(&k, v, n, h, n, 0, lo, hi);
@@ -486,13 +545,46 @@ verdict_t twin_mend(car_t vehicle, uint16_t *v, size_t n, const uint8_t *h, size
     v[second] = was;
     return r;
   }
+  uint8_t old[GEARCARD_LONGEST];
+  if (summary) from = aside(old, card, n, lo, b);
   for (size_t i = lo; i < b;) {
     if (i + 1 < b && v[i + 1] >= 10)
       i = trip(&k, v, h, card, i + 1);
     else
       card[i++] = 0;
   }
+  if (summary) bring(summary, v, n, card, old, from, lo, b, second, was);
   return say(0, 0);
+}
+
+struct gearcard_counted twin_hold(car_t vehicle, const uint16_t *v, size_t n, uint8_t *h, size_t nh, uint8_t *card, size_t nc, size_t second, uint8_t gear,
+                                  struct gearcard_summary summary) {
+  verdict_t r = edit(&vehicle, v, n, h, nh, card, nc, second, gear ? gear : 255, &summary);
+  return (struct gearcard_counted){r, summary};
+}
+
+struct gearcard_counted twin_release(car_t vehicle, const uint16_t *v, size_t n, uint8_t *h, size_t nh, uint8_t *card, size_t nc, size_t second,
+                                     struct gearcard_summary summary) {
+  verdict_t r = edit(&vehicle, v, n, h, nh, card, nc, second, 0, &summary);
+  return (struct gearcard_counted){r, summary};
+}
+
+struct gearcard_counted twin_mend(car_t vehicle, uint16_t *v, size_t n, const uint8_t *h, size_t nh, uint8_t *card, size_t nc, size_t second, uint16_t speed,
+                                  struct gearcard_summary summary) {
+  verdict_t r = mend(&vehicle, v, n, h, nh, card, nc, second, speed, &summary);
+  return (struct gearcard_counted){r, summary};
+}
+
+verdict_t bare_hold(car_t vehicle, const uint16_t *v, size_t n, uint8_t *h, size_t nh, uint8_t *card, size_t nc, size_t second, uint8_t gear) {
+  return edit(&vehicle, v, n, h, nh, card, nc, second, gear ? gear : 255, NULL);
+}
+
+verdict_t bare_release(car_t vehicle, const uint16_t *v, size_t n, uint8_t *h, size_t nh, uint8_t *card, size_t nc, size_t second) {
+  return edit(&vehicle, v, n, h, nh, card, nc, second, 0, NULL);
+}
+
+verdict_t bare_mend(car_t vehicle, uint16_t *v, size_t n, const uint8_t *h, size_t nh, uint8_t *card, size_t nc, size_t second, uint16_t speed) {
+  return mend(&vehicle, v, n, h, nh, card, nc, second, speed, NULL);
 }
 
 /* A group at *at into *out; 0, or the number of its fault. */

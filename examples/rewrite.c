@@ -63,7 +63,8 @@ int main(int argc, char **argv) {
   size_t n = read.count;
   if (hold) {
     if (refused("trace", gearcard_work(read.vehicle, speeds, n, holds, n, card, n))) return 1;
-    if (refused("hold", gearcard_hold(read.vehicle, speeds, n, holds, n, card, n, second, (uint8_t)gear))) return 1;
+    struct gearcard_summary none = {0}; /* no card is shown here, and no summary of it */
+    if (refused("hold", gearcard_hold(read.vehicle, speeds, n, holds, n, card, n, second, (uint8_t)gear, none).verdict)) return 1;
   }
 
   /* A room that is too short is refused by 17 with the length needed, so it can be asked for. */

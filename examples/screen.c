@@ -1,4 +1,5 @@
-/* What a driver's aid screen does: reads a job, works it, holds one second, releases it or mends its speed, and shows the seconds that changed.
+/* What a driver's aid screen does: reads a job, works it, holds one second, releases it or mends its speed, and shows the seconds that changed, with how long
+   the drive is in each gear: counted once, and kept by each edit.
    usage: screen JOB SECOND GEAR        holds it
           screen JOB SECOND release     releases it
           screen JOB SECOND =SPEED      mends its speed, in tenths of km/h
@@ -34,6 +35,15 @@ static int refused(const char *what, struct gearcard_verdict verdict) {
 
 static uint16_t speeds[GEARCARD_LONGEST];
 static uint8_t holds[GEARCARD_LONGEST], card[GEARCARD_LONGEST], before[GEARCARD_LONGEST];
+static struct gearcard_summary summary; /* of the card as it is */
+
+/* How long in each gear: nothing of the card is read. */
+static void show_summary(void) {
+  printf("standing %u s", (unsigned)summary.standing);
+  for (int i = 0; i < 10; i++)
+    if (summary.gears[i] != 0) printf(", gear %d %u s", i + 1, (unsigned)summary.gears[i]);
+  printf(", changes %u\n", (unsigned)summary.changes);
+}
 
 /* One edit, and what it changed. */
 static int edit(struct gearcard_vehicle vehicle, size_t count, const char *where, const char *what) {
@@ -52,16 +62,18 @@ static int edit(struct gearcard_vehicle vehicle, size_t count, const char *where
     return 2;
   }
   memcpy(before, card, count);
-  struct gearcard_verdict verdict;
+  struct gearcard_counted edited;
   if (mend)
-    verdict = gearcard_mend(vehicle, speeds, count, holds, count, card, count, second, (uint16_t)value);
+    edited = gearcard_mend(vehicle, speeds, count, holds, count, card, count, second, (uint16_t)value, summary);
   else if (release)
-    verdict = gearcard_release(vehicle, speeds, count, holds, count, card, count, second);
+    edited = gearcard_release(vehicle, speeds, count, holds, count, card, count, second, summary);
   else
-    verdict = gearcard_hold(vehicle, speeds, count, holds, count, card, count, second, (uint8_t)value);
-  if (refused(mend ? "speed" : release ? "release" : "hold", verdict)) return 1;
+    edited = gearcard_hold(vehicle, speeds, count, holds, count, card, count, second, (uint8_t)value, summary);
+  summary = edited.summary;
+  if (refused(mend ? "speed" : release ? "release" : "hold", edited.verdict)) return 1;
   for (size_t i = 0; i < count; i++)
     if (card[i] != before[i]) show(i, card[i]);
+  show_summary();
   return 0;
 }
 
@@ -82,6 +94,9 @@ int main(int argc, char **argv) {
   struct gearcard_job read = gearcard_read(job, length, speeds, GEARCARD_LONGEST, holds, GEARCARD_LONGEST);
   if (refused("job", read.verdict)) return 1;
   if (refused("trace", gearcard_work(read.vehicle, speeds, read.count, holds, read.count, card, read.count))) return 1;
+  struct gearcard_counted counted = gearcard_summary_of(speeds, read.count, card, read.count);
+  if (refused("summary", counted.verdict)) return 1;
+  summary = counted.summary;
   for (int word = 2; word < argc; word += 2) {
     int status = edit(read.vehicle, read.count, argv[word], argv[word + 1]);
     if (status != 0) return status;

@@ -41,8 +41,8 @@ struct gearcard_vehicle {
 };
 
 /* The answer: number 0 and place 0 where it is accepted, else the refusal and its place. Seconds and bytes count from 0. Where several apply,
-   gearcard_work, gearcard_hold, gearcard_release, gearcard_mend and gearcard_write give the first in this order, at its lowest second; gearcard_read the
-   first fault of the job from left to right.
+   gearcard_work, gearcard_summary_of, gearcard_hold, gearcard_release, gearcard_mend and gearcard_write give the first in this order, at its lowest
+   second; gearcard_read the first fault of the job from left to right.
 
     1  trace empty or over 16,384 seconds                             place 0
     2  holds or card not as long as the trace;                        place 0
@@ -114,25 +114,47 @@ struct gearcard_written gearcard_write(uint16_t version, struct gearcard_vehicle
 struct gearcard_verdict gearcard_work(struct gearcard_vehicle vehicle, const uint16_t *speeds, size_t speeds_length, const uint8_t *holds,
                                       size_t holds_length, uint8_t *card, size_t card_length);
 
+/* How long in each gear: what a screen keeps beside a card. A second's gear is its byte modulo 16, so the clutch does not count. On a card that is not right a moving
+   second whose gear is none of 1 to 10 is in no gear, and makes changes like any other. On a right card the seconds add up to the length of the trace. */
+struct gearcard_summary {
+  uint16_t standing;  /* standing seconds */
+  uint16_t gears[10]; /* moving seconds in gear 1, 2, .. 10 */
+  uint16_t changes;   /* gear changes: neighbouring moving seconds with different gears */
+};
+
+/* A verdict with a summary. */
+struct gearcard_counted {
+  struct gearcard_verdict verdict;
+  struct gearcard_summary summary;
+};
+
+/* Counts a whole card, once; after that the edits keep the summary up to date, and asking for a count is reading the struct. It refuses by 1 and 2 alone, and then
+   all counts are 0. Any bytes are counted, those of a card that is not right too. */
+struct gearcard_counted gearcard_summary_of(const uint16_t *speeds, size_t speeds_length, const uint8_t *card, size_t card_length);
+
+/* The three edits take the summary of the speeds and the card as they are, and answer it anew, from the changed span alone: each count becomes the old one, less what
+   the span counted before, plus what it counts after. Where the summary was the one that gearcard_summary_of would give, so is the new one. A count
+   that would leave 0 to 65,535, as only a wrong summary can cause, stops at that end. Where the edit is refused the summary is the one that was given. */
+
 /* Holding and releasing are two buttons. Each writes the second's hold, and re-works the card for that second's trip and the standing second before it.
    Of the trace it checks these and the standing second after, and no others. Where the card was the right one for the holds, it is then the one that
    gearcard_work would give for the new holds. */
 
 /* Holds one second in a gear from 1, in profile 1 from 2. Gear 0 is refused by 7, in the order above; at a standing second every gear is refused. */
-struct gearcard_verdict gearcard_hold(struct gearcard_vehicle vehicle, const uint16_t *speeds, size_t speeds_length, uint8_t *holds, size_t holds_length,
-                                      uint8_t *card, size_t card_length, size_t second, uint8_t gear);
+struct gearcard_counted gearcard_hold(struct gearcard_vehicle vehicle, const uint16_t *speeds, size_t speeds_length, uint8_t *holds, size_t holds_length,
+                                      uint8_t *card, size_t card_length, size_t second, uint8_t gear, struct gearcard_summary summary);
 
 /* Releases one second: its hold becomes 0. A free second is worked like any other, so where the card was right no byte changes. At a standing second
    only the hold is written. */
-struct gearcard_verdict gearcard_release(struct gearcard_vehicle vehicle, const uint16_t *speeds, size_t speeds_length, uint8_t *holds,
-                                         size_t holds_length, uint8_t *card, size_t card_length, size_t second);
+struct gearcard_counted gearcard_release(struct gearcard_vehicle vehicle, const uint16_t *speeds, size_t speeds_length, uint8_t *holds,
+                                         size_t holds_length, uint8_t *card, size_t card_length, size_t second, struct gearcard_summary summary);
 
 /* Corrects one speed sample. The speed is written, and the card re-worked for the trips that hold this second or a neighbour in the new trace, the
    standing second before each, this second and the one before it; no other byte changes, and no hold. Trips may split or join. Of the new trace it
    checks those trips with a standing second on either side, this second and its neighbours, and no others. A held second that would stand is refused
    by 8. Where the card was the right one for the speeds and the holds, it is then the one that gearcard_work would give for the new speeds. */
-struct gearcard_verdict gearcard_mend(struct gearcard_vehicle vehicle, uint16_t *speeds, size_t speeds_length, const uint8_t *holds, size_t holds_length,
-                                      uint8_t *card, size_t card_length, size_t second, uint16_t speed);
+struct gearcard_counted gearcard_mend(struct gearcard_vehicle vehicle, uint16_t *speeds, size_t speeds_length, const uint8_t *holds, size_t holds_length,
+                                      uint8_t *card, size_t card_length, size_t second, uint16_t speed, struct gearcard_summary summary);
 
 /* Fills the first 1,801 places of the room with the Class 3 cycle for top speeds of 120 km/h and over, the whole of it whatever the part. Room beyond is
    untouched. Part 0 is the whole cycle, 1 to 4 are Low, Medium, High and Extra High. */

@@ -1,10 +1,10 @@
 /* The C library behind a pipe: takes requests from standard input, calls the function asked for, and answers on standard output. `./library serve` links
    and runs it; the other ends, which so need no link with the archive, are tests/independent/src/library.rs and python/gearcard/engine.py.
 
-   A request: kind (u32), gear (u32), second (u64), the vehicle's fields in order; for the speeds, the holds and the third slice (the job where kind
+   A request: kind (u32), gear (u32), second (u64), the vehicle's fields in order, the summary's counts in order (u16 each); for the speeds, the holds and the third slice (the job where kind
    is READ, the export where it is EXPORT, the room where it is WRITE, else the card) the number of elements of the guard before it, of the slice and of the guard after it (u32 each);
    then the elements of the three, guards included. An answer: number (u32), place (u64); where kind is READ the version (u16), the vehicle's fields and the count (u64), where
-   it is EXPORT F0, F1, F2 and TM, where it is WRITE the length (u64); then the elements again. Where kind is CYCLE or CYCLE_PART the second is the part's number and the speeds are the room;
+   it is EXPORT F0, F1, F2 and TM, where it is WRITE the length (u64), where it is HOLD, RELEASE, MEND or SUMMARY the summary; then the elements again. Where kind is CYCLE or CYCLE_PART the second is the part's number and the speeds are the room;
    CYCLE_PART answers the count as number and the first second as place. Where kind is DOWNSCALE the second is the factor, where it is MEND the gear is the
    speed, where it is WRITE the version. All little-endian, as x86-64 is.
    Exit 0 at the end of the requests, 2 where one is cut or past the limits here. */
@@ -13,7 +13,7 @@
 #include <stdio.h>
 #include <stdlib.h>
 
-enum { READ, WORK, HOLD, RELEASE, EXPORT, CYCLE, CYCLE_PART, DOWNSCALE, WRITE, MEND };
+enum { READ, WORK, HOLD, RELEASE, EXPORT, CYCLE, CYCLE_PART, DOWNSCALE, WRITE, MEND, SUMMARY };
 enum { SECONDS = 1 << 20, BYTES = 1 << 20 };
 
 struct span {
@@ -51,6 +51,12 @@ static void vehicle_fields(struct gearcard_vehicle *v, void (*pass)(void *, size
   pass(&v->profile, sizeof v->profile);
 }
 
+static void summary_counts(struct gearcard_summary *s, void (*pass)(void *, size_t)) {
+  pass(&s->standing, sizeof s->standing);
+  pass(s->gears, sizeof s->gears);
+  pass(&s->changes, sizeof s->changes);
+}
+
 /* Elements of a slice and its guards, which a room must hold. */
 static size_t whole(struct span s, size_t room) {
   uint64_t all = (uint64_t)s.before + s.length + s.after;
@@ -58,7 +64,8 @@ static size_t whole(struct span s, size_t room) {
   return (size_t)all;
 }
 
-static void answer(uint32_t kind, uint32_t gear, uint64_t second, struct gearcard_vehicle vehicle, struct span s, struct span h, struct span t) {
+static void answer(uint32_t kind, uint32_t gear, uint64_t second, struct gearcard_vehicle vehicle, struct gearcard_summary summary, struct span s,
+                   struct span h, struct span t) {
   static uint16_t speeds[SECONDS];
   static uint8_t holds[SECONDS], third[BYTES];
   size_t all_speeds = whole(s, SECONDS), all_holds = whole(h, SECONDS), all_third = whole(t, BYTES);
@@ -71,7 +78,9 @@ static void answer(uint32_t kind, uint32_t gear, uint64_t second, struct gearcar
   struct gearcard_job job;
   struct gearcard_coefficients coefficients;
   struct gearcard_written written;
+  struct gearcard_counted counted;
   struct gearcard_verdict verdict;
+  int counts = kind == HOLD || kind == RELEASE || kind == MEND || kind == SUMMARY;
   if (kind == EXPORT) {
     coefficients = gearcard_export(last, t.length);
     verdict = coefficients.verdict;
@@ -81,13 +90,15 @@ static void answer(uint32_t kind, uint32_t gear, uint64_t second, struct gearcar
   } else if (kind == WORK) {
     verdict = gearcard_work(vehicle, v, s.length, held, h.length, last, t.length);
   } else if (kind == HOLD) {
-    verdict = gearcard_hold(vehicle, v, s.length, held, h.length, last, t.length, second, (uint8_t)gear);
+    counted = gearcard_hold(vehicle, v, s.length, held, h.length, last, t.length, second, (uint8_t)gear, summary);
   } else if (kind == RELEASE) {
-    verdict = gearcard_release(vehicle, v, s.length, held, h.length, last, t.length, second);
+    counted = gearcard_release(vehicle, v, s.length, held, h.length, last, t.length, second, summary);
   } else if (kind == CYCLE) {
     verdict = gearcard_cycle((uint32_t)second, v, s.length);
   } else if (kind == MEND) {
-    verdict = gearcard_mend(vehicle, v, s.length, held, h.length, last, t.length, second, (uint16_t)gear);
+    counted = gearcard_mend(vehicle, v, s.length, held, h.length, last, t.length, second, (uint16_t)gear, summary);
+  } else if (kind == SUMMARY) {
+    counted = gearcard_summary_of(v, s.length, last, t.length);
   } else if (kind == DOWNSCALE) {
     verdict = gearcard_downscale((uint32_t)second, v, s.length);
   } else if (kind == WRITE) {
@@ -97,6 +108,7 @@ static void answer(uint32_t kind, uint32_t gear, uint64_t second, struct gearcar
     struct gearcard_part part = gearcard_cycle_part((uint32_t)second, s.length);
     verdict = (struct gearcard_verdict){(uint32_t)part.count, part.first};
   }
+  if (counts) verdict = counted.verdict;
 
   put(&verdict.number, sizeof verdict.number);
   put(&verdict.place, sizeof verdict.place);
@@ -112,6 +124,7 @@ static void answer(uint32_t kind, uint32_t gear, uint64_t second, struct gearcar
     put(&coefficients.tm, sizeof coefficients.tm);
   }
   if (kind == WRITE) put(&written.length, sizeof written.length);
+  if (counts) summary_counts(&counted.summary, put);
   put(speeds, all_speeds * sizeof *speeds);
   put(holds, all_holds);
   put(third, all_third);
@@ -129,13 +142,15 @@ int main(void) {
     uint32_t kind, gear;
     uint64_t second;
     struct gearcard_vehicle vehicle;
+    struct gearcard_summary summary;
     struct span spans[3];
     get(&kind, sizeof kind);
     get(&gear, sizeof gear);
     get(&second, sizeof second);
     vehicle_fields(&vehicle, get);
+    summary_counts(&summary, get);
     get(spans, sizeof spans);
-    if (kind > MEND || gear > (kind == MEND ? 65535u : 255u)) refuse("no such request");
-    answer(kind, gear, second, vehicle, spans[0], spans[1], spans[2]);
+    if (kind > SUMMARY || gear > (kind == MEND ? 65535u : 255u)) refuse("no such request");
+    answer(kind, gear, second, vehicle, summary, spans[0], spans[1], spans[2]);
   }
 }

@@ -9,7 +9,7 @@
 Only Python's standard library is used. The first call proves and builds the engine where that has not been done.
 """
 
-from .calls import Coefficients, Job, clutch_down, cycle, downscale, export, gear_of, hold, mend, part_of, read, release, work, write
+from .calls import Coefficients, Job, Summary, clutch_down, cycle, downscale, export, gear_of, hold, mend, part_of, read, release, summary, work, write
 from .engine import Failure
 from .refusals import Refused
 from .vehicle import Point, Vehicle
@@ -20,6 +20,7 @@ __all__ = [
     "Job",
     "Point",
     "Refused",
+    "Summary",
     "Vehicle",
     "clutch_down",
     "cycle",
@@ -31,6 +32,7 @@ __all__ = [
     "part_of",
     "read",
     "release",
+    "summary",
     "work",
     "write",
 ]

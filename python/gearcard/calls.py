@@ -10,8 +10,8 @@ import struct
 from array import array
 from typing import NamedTuple
 
-from .engine import ENGINE, Answer, Kind
-from .lists import Numbers, byte_bytes, speeds_bytes, store, writable
+from .engine import ENGINE, SUMMARY_SIZE, Answer, Kind
+from .lists import Numbers, byte_bytes, counts_bytes, speeds_bytes, store, writable
 from .refusals import Refused
 from .vehicle import WIRE_SIZE, Vehicle
 
@@ -38,6 +38,14 @@ class Coefficients(NamedTuple):
     f1: int
     f2: int
     tm: int
+
+
+class Summary(NamedTuple):
+    """How long in each gear: standing seconds, moving seconds in gears 1, 2, .. 10, and gear changes."""
+
+    standing: int
+    gears: tuple[int, ...]
+    changes: int
 
 
 def _accepted(answer: Answer) -> Answer:
@@ -99,30 +107,58 @@ def work(vehicle: Vehicle, speeds: Numbers, holds: Numbers | None = None) -> byt
     return bytearray(_accepted(ENGINE.call(Kind.WORK, vehicle=vehicle.wire(), speeds=v, holds=h, third=bytes(len(v) // 2))).third)
 
 
-def hold(vehicle: Vehicle, speeds: Numbers, holds: Numbers, card: Numbers, second: int, gear: int) -> None:
-    """Holds one second in a gear from 1: writes the hold, and the card of that second's trip and of the standing second before it."""
-    _edit(Kind.HOLD, vehicle, speeds, holds, card, second, gear)
+def summary(speeds: Numbers, card: Numbers) -> Summary:
+    """How long a card is in each gear, counted over the whole of it. `hold`, `release` and `mend` bring it up to date without counting again."""
+    return _counts(_accepted(ENGINE.call(Kind.SUMMARY, speeds=speeds_bytes(speeds), third=byte_bytes("card", card))))
 
 
-def release(vehicle: Vehicle, speeds: Numbers, holds: Numbers, card: Numbers, second: int) -> None:
+def _counts(answer: Answer) -> Summary:
+    standing, *gears, changes = struct.unpack("<12H", answer.extra)
+    return Summary(standing, tuple(gears), changes)
+
+
+def _summary_bytes(given: Summary | None) -> bytes:
+    """The counts, two bytes each; all 0 where none is given."""
+    if given is None:
+        return bytes(SUMMARY_SIZE)
+    standing, gears, changes = given
+    if len(gears) != 10:
+        raise ValueError(f"summary.gears has {len(gears)} counts, and not 10")
+    return counts_bytes("summary.standing", [standing]) + counts_bytes("summary.gears", gears) + counts_bytes("summary.changes", [changes])
+
+
+def hold(
+    vehicle: Vehicle, speeds: Numbers, holds: Numbers, card: Numbers, second: int, gear: int, *, summary: Summary | None = None
+) -> Summary | None:
+    """Holds one second in a gear from 1: writes the hold, and the card of that second's trip and of the standing second before it. Given the card's summary, it
+    answers the new one; where it is refused, the one given still holds."""
+    return _edit(Kind.HOLD, vehicle, speeds, holds, card, second, gear, summary)
+
+
+def release(vehicle: Vehicle, speeds: Numbers, holds: Numbers, card: Numbers, second: int, *, summary: Summary | None = None) -> Summary | None:
     """Releases one second, held or free: as `hold`, with no hold there."""
-    _edit(Kind.RELEASE, vehicle, speeds, holds, card, second, 0)
+    return _edit(Kind.RELEASE, vehicle, speeds, holds, card, second, 0, summary)
 
 
-def mend(vehicle: Vehicle, speeds: Numbers, holds: Numbers, card: Numbers, second: int, speed: int) -> None:
-    """Corrects one speed sample: writes the speed, and the card of the trips that hold this second or a neighbour."""
-    _edit(Kind.MEND, vehicle, speeds, holds, card, second, speed)
+def mend(
+    vehicle: Vehicle, speeds: Numbers, holds: Numbers, card: Numbers, second: int, speed: int, *, summary: Summary | None = None
+) -> Summary | None:
+    """Corrects one speed sample: writes the speed, and the card of the trips that hold this second or a neighbour. The summary as in `hold`."""
+    return _edit(Kind.MEND, vehicle, speeds, holds, card, second, speed, summary)
 
 
-def _edit(kind: Kind, vehicle: Vehicle, speeds: Numbers, holds: Numbers, card: Numbers, second: int, value: int) -> None:
+def _edit(
+    kind: Kind, vehicle: Vehicle, speeds: Numbers, holds: Numbers, card: Numbers, second: int, value: int, given: Summary | None
+) -> Summary | None:
     """One second changed, in the holds or in the speeds, and the card with it: written together, or nothing."""
     changed = ("speeds", speeds, "H") if kind == Kind.MEND else ("holds", holds, "B")
     writable(changed[0], changed[1])
     writable("card", card)
     lent = {"speeds": speeds_bytes(speeds), "holds": byte_bytes("holds", holds), "third": byte_bytes("card", card)}
-    answer = _accepted(ENGINE.call(kind, vehicle=vehicle.wire(), second=second, gear=value, **lent))
+    answer = _accepted(ENGINE.call(kind, vehicle=vehicle.wire(), second=second, gear=value, summary=_summary_bytes(given), **lent))
     store(changed[1], changed[2], answer.speeds if kind == Kind.MEND else answer.holds)
     store(card, "B", answer.third)
+    return None if given is None else _counts(answer)
 
 
 def part_of(part: int) -> range:

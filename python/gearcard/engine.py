@@ -37,14 +37,18 @@ class Kind(enum.IntEnum):
     DOWNSCALE = enum.auto()
     WRITE = enum.auto()
     MEND = enum.auto()
+    SUMMARY = enum.auto()
 
 
 _HEAD = struct.Struct("<IIQ")
 _SPANS = struct.Struct("<9I")
 _VERDICT = struct.Struct("<IQ")
 
+#: Bytes of a summary: twelve counts.
+SUMMARY_SIZE = 24
+
 #: Bytes that an answer has between its verdict and the lists.
-_EXTRA = {Kind.READ: 2 + WIRE_SIZE + 8, Kind.EXPORT: 10, Kind.WRITE: 8}
+_EXTRA = {Kind.READ: 2 + WIRE_SIZE + 8, Kind.EXPORT: 10, Kind.WRITE: 8} | dict.fromkeys((Kind.HOLD, Kind.RELEASE, Kind.MEND, Kind.SUMMARY), SUMMARY_SIZE)
 
 #: Which of the three lists a call may write: the speeds, the holds, the third. The others must come back as they were.
 _WRITES = {
@@ -58,6 +62,7 @@ _WRITES = {
     Kind.DOWNSCALE: (True, False, False),
     Kind.WRITE: (False, False, True),
     Kind.MEND: (True, False, True),
+    Kind.SUMMARY: (False, False, False),
 }
 
 
@@ -90,7 +95,16 @@ class Engine:
         self._lock = threading.Lock()
 
     def call(
-        self, kind: Kind, *, vehicle: bytes = NO_VEHICLE, second: int = 0, gear: int = 0, speeds: bytes = b"", holds: bytes = b"", third: bytes = b""
+        self,
+        kind: Kind,
+        *,
+        vehicle: bytes = NO_VEHICLE,
+        second: int = 0,
+        gear: int = 0,
+        summary: bytes = bytes(SUMMARY_SIZE),
+        speeds: bytes = b"",
+        holds: bytes = b"",
+        third: bytes = b"",
     ) -> Answer:
         """One request and its answer. The lists are the bytes of their elements: two a speed, little-endian, one a hold or card. `gear` is the gear to hold
         or the speed of a mended sample, `second` also the part of the cycle, its factor or the version to write."""
@@ -102,7 +116,7 @@ class Engine:
         if max(len(speeds) // 2, len(holds), len(third)) > MOST:
             raise ValueError(f"a list has more than {MOST} elements")
         spans = _SPANS.pack(0, len(speeds) // 2, 0, 0, len(holds), 0, 0, len(third), 0)
-        request = b"".join((_HEAD.pack(kind, gear, second), vehicle, spans, speeds, holds, third))
+        request = b"".join((_HEAD.pack(kind, gear, second), vehicle, summary, spans, speeds, holds, third))
         with self._lock:
             try:
                 return self._converse(kind, request, (speeds, holds, third))

@@ -22,6 +22,11 @@ def byte_bytes(name: str, values: Numbers) -> bytes:
     return _bytes(name, values, "B")
 
 
+def counts_bytes(name: str, values: Numbers) -> bytes:
+    """Counts of a summary, two bytes each."""
+    return _bytes(name, values, "H")
+
+
 def _bytes(name: str, values: Numbers, code: str) -> bytes:
     view = _view(values)
     if view is not None and view.format == code:

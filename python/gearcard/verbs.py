@@ -8,7 +8,7 @@ from pathlib import Path
 from typing import Callable, Sequence
 
 from . import units
-from .calls import Job, clutch_down, cycle, downscale, export, gear_of, hold, mend, part_of, release, work, write
+from .calls import Job, clutch_down, cycle, downscale, export, gear_of, hold, mend, part_of, release, summary, work, write
 from .errors import Misuse
 from .files import Unread, bytes_of, load, load_job, load_text, write_whole
 from .jobtext import SCALARS, Draft, noted, show
@@ -53,6 +53,17 @@ def run_card(args: argparse.Namespace) -> None:
         cells = [str(second), units.SPEED.text(speed), str(gear_of(byte)), "down" if clutch_down(byte) else "up"]
         rows.append(",".join([*cells, str(hold)]) if args.csv else " ".join(cells))
     emit("\n".join(rows) + "\n")
+
+
+def run_summary(args: argparse.Namespace) -> None:
+    draft = load(args.file)
+    vehicle, found = draft.job.vehicle, summary(draft.job.speeds, worked(args.file, draft))
+    driven = range(1 + vehicle.profile, 1 + len(vehicle.ratios))
+    rows = [("standing", found.standing, "s"), *((f"gear {gear}", found.gears[gear - 1], "s") for gear in driven), ("changes", found.changes, "")]
+    if args.csv:
+        emit("what,count\n" + "".join(f"{what},{count}\n" for what, count, _ in rows))
+    else:
+        emit("".join(f"{what:8} {count:5} {unit}".rstrip() + "\n" for what, count, unit in rows))
 
 
 def run_picture(args: argparse.Namespace) -> None:

@@ -171,7 +171,36 @@ REVS_SLIPS = [
     ("Twelve: the lowest gear of a van none", "1 + self.vehicle.profile", "1 + 2 * self.vehicle.profile"),
     ("Twelve: level speed too", "self.speeds[s] > self.speeds[s - 1] &&", "self.speeds[s] >= self.speeds[s - 1] &&"),
 ]
+# Slips in src/summary.rs.
+SUMMARY_SLIPS = [
+    ("Nine: changes across a standing second", "for pair in seconds.windows(2) {\n        let both_moving = pair[0].0 && pair[1].0;", "let driven: Vec<(bool, u8)> = seconds.iter().copied().filter(|second| second.0).collect();\n    for pair in driven.windows(2) {\n        let both_moving = true;"),
+    ("Nine: a change from rest", "pair[0].0 && pair[1].0;", "pair[1].0;"),
+    ("Nine: a change to rest", "pair[0].0 && pair[1].0;", "pair[0].0;"),
+    ("Nine: the clutch as another gear", "    byte % 16\n", "    byte\n"),
+    ("Nine: the clutch as another gear, of 32 alone", "    byte % 16\n", "    byte % 32\n"),
+    ("Nine: no change out of no gear", "if both_moving && pair[0].1 != pair[1].1 {", "if both_moving && (1..=10).contains(&pair[0].1) && pair[0].1 != pair[1].1 {"),
+    ("Nine: gear 0 stands", "(true, _) => note(Event::InNoGear),", "(true, _) => counts[0] += 1,"),
+    ("Nine: gear 11 in gear 10", "(true, _) => note(Event::InNoGear),", "(true, 11) => counts[10] += 1,\n            (true, _) => note(Event::InNoGear),"),
+    ("Nine: standing seconds in their gear too", "(false, _) => counts[0] += 1,", "(false, gear) => {\n                counts[0] += 1;\n                if (1..=10).contains(gear) {\n                    counts[*gear as usize] += 1\n                }\n            }"),
+    ("Nine: below 0 wraps", "        note(Event::StoppedAtNone);\n        return 0;", "        return count as u16;"),
+    ("Nine: above 65,535 wraps", "        note(Event::StoppedAtMost);\n        return 65_535;", "        return count as u16;"),
+    ("Nine: stops at 65,534", "if count > 65_535 {\n        note(Event::StoppedAtMost);\n        return 65_535;", "if count > 65_534 {\n        return 65_534;"),
+    ("Nine: stopped in between, old first", "stopped(was[k] as i64 - old[k] + new[k])", "stopped(stopped(was[k] as i64 - old[k]) as i64 + new[k])"),
+    ("Nine: stopped in between, new first", "stopped(was[k] as i64 - old[k] + new[k])", "stopped(stopped(was[k] as i64 + new[k]) as i64 - old[k])"),
+    ("Nine: standing forgotten", "    Summary::of_list(std::array::from_fn(|k| stopped", "    let (mut old, mut new) = (old, new);\n    (old[0], new[0]) = (0, 0);\n    Summary::of_list(std::array::from_fn(|k| stopped"),
+    ("Nine: changes forgotten", "    Summary::of_list(std::array::from_fn(|k| stopped", "    let (mut old, mut new) = (old, new);\n    (old[11], new[11]) = (0, 0);\n    Summary::of_list(std::array::from_fn(|k| stopped"),
+    ("Nine: gear 10 forgotten", "    Summary::of_list(std::array::from_fn(|k| stopped", "    let (mut old, mut new) = (old, new);\n    (old[10], new[10]) = (0, 0);\n    Summary::of_list(std::array::from_fn(|k| stopped"),
+    ("Nine: old bytes counted after they were overwritten", "(counts(before), counts(after));", "(counts(Shown { card: after.card, ..before }), counts(after));"),
+    ("Nine: old speeds counted after the mend", "(counts(before), counts(after));", "(counts(Shown { speeds: after.speeds, ..before }), counts(after));"),
+    ("Nine: counted anew, a wrong summary mended", "    let was = was.list();\n    if old[0]", "    let was = [was.list(), old.map(|count| count as u16)][1];\n    if old[0]"),
+    ("Nine: the longest refused", "length > LONGEST", "length >= LONGEST"),
+    ("Nine: one more than the longest", "length > LONGEST", "length > LONGEST + 1"),
+    ("Nine: a longer card taken", "shown.card.len() != length", "shown.card.len() < length"),
+    ("Nine: 2 before 1", "    if length == 0 || length > LONGEST {\n        return Err((1, 0));\n    }\n    if shown.card.len() != length {\n        return Err((2, 0));\n    }", "    if shown.card.len() != length {\n        return Err((2, 0));\n    }\n    if length == 0 || length > LONGEST {\n        return Err((1, 0));\n    }"),
+    ("Nine: a refused edit counts none", "            return Ok(was);\n        };", "            return Ok(summary::NONE);\n        };", "library.rs"),
+]
 SLIPS = [(*slip, "paper.rs") for slip in SLIPS] + [(*slip, "exports.rs") for slip in EXPORT_SLIPS] + WRITE_SLIPS + [(*slip, "revs.rs") for slip in REVS_SLIPS]
+SLIPS += [(*slip, "summary.rs")[:4] for slip in SUMMARY_SLIPS]
 
 
 def run(k, name, old, new, file):

@@ -16,7 +16,7 @@ from dataclasses import replace
 from pathlib import Path
 
 import gearcard
-from gearcard import Failure, Refused, clutch_down, cycle, downscale, export, gear_of, hold, mend, part_of, read, release, work, write
+from gearcard import Failure, Refused, Summary, clutch_down, cycle, downscale, export, gear_of, hold, mend, part_of, read, release, summary, work, write
 from gearcard.engine import Engine, Kind
 from gearcard.refusals import BYTES, FIELDS, SECONDS, WORDS, in_words
 from gearcard.vehicle import Vehicle
@@ -114,8 +114,38 @@ class Functions(unittest.TestCase):
         with self.assertRaisesRegex(TypeError, "speeds cannot be written: tuple"):
             mend(seeded.CAR_Z, (0, 50, 0), bytearray(3), bytearray(3), 1, 60)
 
+    def test_summary(self) -> None:
+        z, speeds = seeded.CAR_Z, [0, 50, 150, 100, 0]
+        card, holds = work(z, speeds), bytearray(5)
+        found = summary(speeds, card)
+        self.assertEqual(found, Summary(2, (1, 2, 0, 0, 0, 0, 0, 0, 0, 0), 1))
+        held = hold(z, speeds, holds, card, 2, 3, summary=found)
+        self.assertEqual(held, Summary(2, (1, 1, 1, 0, 0, 0, 0, 0, 0, 0), 2))
+        with self.assertRaises(Refused):
+            hold(z, speeds, holds, card, 2, 6, summary=held)
+        self.assertEqual(release(z, speeds, holds, card, 2, summary=held), found)
+        rests = mend(z, speeds, holds, card, 2, 0, summary=found)
+        self.assertEqual(rests, Summary(3, (2, 0, 0, 0, 0, 0, 0, 0, 0, 0), 0))
+        # a wrong one stops at the ends; none given, none answered
+        wrong = Summary(0, (65535, 0, 0, 0, 0, 0, 0, 0, 0, 7), 65535)
+        self.assertEqual(mend(z, speeds, holds, card, 2, 150, summary=wrong), Summary(0, (65534, 2, 0, 0, 0, 0, 0, 0, 0, 7), 65535))
+        self.assertIsNone(release(z, speeds, holds, card, 2))
+        self.assertEqual(summary([0, 50, 50, 50, 0], [255] * 5), Summary(2, (0,) * 10, 0))
+        for trace, lent, number in (([], [], 1), ([0] * 16385, [0] * 16385, 1), (speeds, card[:4], 2)):
+            with self.assertRaises(Refused) as raised:
+                summary(trace, lent)
+            self.assertEqual((raised.exception.number, raised.exception.place), (number, 0))
+        for given, words in (
+            (found._replace(standing=65536), r"summary.standing\[0\] = 65536 is no whole number from 0 to 65535"),
+            (found._replace(gears=(0,) * 9), "summary.gears has 9 counts, and not 10"),
+            (found._replace(gears=(*[0] * 9, -1)), r"summary.gears\[9\] = -1 is no whole number"),
+            (found._replace(changes=1.0), r"summary.changes\[0\] = 1.0 is no whole number"),
+        ):
+            with self.assertRaisesRegex(ValueError, words):
+                release(z, speeds, holds, card, 2, summary=given)
+
     def test_edits_as_the_whole_working(self) -> None:
-        """Seeded edits, one after the other: each card is that of the whole working."""
+        """Seeded edits, one after the other: each card is that of the whole working, and its summary the one counted whole."""
         r = random.Random(5)
         for seed in range(40):
             job = seeded.job(seed)
@@ -123,18 +153,21 @@ class Functions(unittest.TestCase):
                 card = work(job.vehicle, job.speeds, job.holds)
             except Refused:
                 continue
+            kept = summary(job.speeds, card)
+            self.assertEqual(kept.standing + sum(kept.gears), len(job.speeds))
             for _ in range(20):
                 second = r.randrange(len(job.speeds))
                 edit = r.choice(
                     (
-                        lambda: hold(job.vehicle, job.speeds, job.holds, card, second, r.randint(1, 10)),
-                        lambda: release(job.vehicle, job.speeds, job.holds, card, second),
-                        lambda: mend(job.vehicle, job.speeds, job.holds, card, second, r.randint(0, 300)),
+                        lambda: hold(job.vehicle, job.speeds, job.holds, card, second, r.randint(1, 10), summary=kept),
+                        lambda: release(job.vehicle, job.speeds, job.holds, card, second, summary=kept),
+                        lambda: mend(job.vehicle, job.speeds, job.holds, card, second, r.randint(0, 300), summary=kept),
                     )
                 )
                 with contextlib.suppress(Refused):
-                    edit()
+                    kept = edit()
                 self.assertEqual(card, work(job.vehicle, job.speeds, job.holds), f"seed {seed}")
+                self.assertEqual(kept, summary(job.speeds, card), f"seed {seed}")
 
     def test_cycle(self) -> None:
         whole, job = cycle(), read(Path("examples/class-3.job").read_bytes())

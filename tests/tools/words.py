@@ -84,6 +84,23 @@ class Card(Words):
         shutil.copy(self.folder / "car-z.job", self.folder / "car.data")
         self.assertEqual(self.answers("card", "car.data"), (EXAMPLES / "car-z.txt").read_text())
 
+    def test_summary(self) -> None:
+        z = "standing     2 s\ngear 1       1 s\ngear 2       2 s\ngear 3       0 s\ngear 4       0 s\ngear 5       0 s\nchanges      1\n"
+        self.assertEqual(self.answers("summary", "car-z.job"), z)
+        self.assertEqual(self.answers("summary", EXAMPLES / "car-z.toml"), z)
+        self.assertEqual(
+            self.answers("summary", "car-z-held.job", "--csv"), "what,count\nstanding,2\ngear 1,1\ngear 2,1\ngear 3,1\ngear 4,0\ngear 5,0\nchanges,2\n"
+        )
+        # as the card itself tells, and of a van no crawler
+        for name in ("van", "class-3"):
+            rows = [line.split() for line in (EXAMPLES / f"{name}.txt").read_text().splitlines()[1:]]
+            gears = [0 if float(speed) < 1 else int(gear) for _, speed, gear, _ in rows]
+            changes = sum(0 not in pair and pair[0] != pair[1] for pair in zip(gears, gears[1:]))
+            first = 2 if name == "van" else 1
+            wanted = [f"standing {gears.count(0):5} s", *(f"gear {gear}   {gears.count(gear):5} s" for gear in range(first, 7)), f"changes  {changes:5}"]
+            self.assertEqual(self.answers("summary", f"{name}.job").splitlines(), wanted)
+        self.ends(1, "refused 9 at 4: gear 1, held at second 4, would turn the engine past nmax", "summary", "refused.job")
+
     def test_csv_goes_round(self) -> None:
         self.file("drive.csv", self.answers("card", "car-z.job", "--csv"))
         self.file("car.toml", TEXT[: TEXT.index("speeds = [")] + "csv = 'drive.csv'\n")

@@ -7,6 +7,8 @@ use denote.Ref.{now}
 use Rattle.rules.proofs.Laws.Refusals.{said-once}
 use Rattle.gears.proofs.Parts.{built-has}
 use Rattle.once.specs.Determined.{Determined}
+use Rattle.checks.proofs.opening.check_lengths.Kinds as check-lengths-kinds
+use Rattle.checks.proofs.opening.check_lengths.Reads as check-lengths-reads
 use Rattle.checks.proofs.opening.check_opening.Kinds as check-opening-kinds
 use Rattle.checks.proofs.opening.check_opening.Reads as check-opening-reads
 use Rattle.checks.proofs.trips_in.trip_start.Kinds as trip-start-kinds
@@ -20,10 +22,18 @@ use Rattle.checks.proofs.row.check_span.Reads as check-span-reads
 use Rattle.checks.proofs.mended.check_mended.Kinds as check-mended-kinds
 use Rattle.checks.proofs.mended.check_mended.Reads as check-mended-reads
 
--- some lists of these lengths
+-- some list of a length
+of : (n : ℕ) → length {A = ℕ} (replicate n 0) ≡ n
+of n = length-replicate n 0
+
+pub check-lengths : Determined check-lengths-kinds.ps check-lengths-kinds.r check-lengths-reads.Asked check-lengths-reads.Learnt
+check-lengths κs a asked z z′ ws ws′ p q =
+    let e = p (replicate (a .0) 0) (replicate (a .1 .0) 0) (replicate (a .1 .1 .0) 0) (of _) (of _) (of _) in
+    let f = q (replicate (a .0) 0) (replicate (a .1 .0) 0) (replicate (a .1 .1 .0) 0) (of _) (of _) (of _) in
+    (said-once z z′ (e ∙ sym f), refl)
+
 pub check-opening : Determined check-opening-kinds.ps check-opening-kinds.r check-opening-reads.Asked check-opening-reads.Learnt
 check-opening κs a asked z z′ ws ws′ p q =
-    let of : (n : ℕ) → length {A = ℕ} (replicate n 0) ≡ n = λ n. length-replicate n 0 in
     let e = p (replicate (a .1 .0) 0) (replicate (a .1 .1 .0) 0) (replicate (a .1 .1 .1 .0) 0) (of _) (of _) (of _) in
     let f = q (replicate (a .1 .0) 0) (replicate (a .1 .1 .0) 0) (replicate (a .1 .1 .1 .0) 0) (of _) (of _) (of _) in
     (said-once z z′ (e ∙ sym f), refl)

@@ -12,6 +12,7 @@ mod trips_in;
 mod want;
 
 pub use mended::check_mended;
+pub use opening::check_lengths;
 pub use opening::check_opening;
 pub use row::check_span;
 pub use seconds::check_seconds;

@@ -11,7 +11,7 @@ use rules::Refusal;
 use rules::Vehicle;
 
 // 1 and 2, by the lengths alone.
-fn check_lengths(speeds: usize, holds: usize, card: usize) -> Answer
+pub fn check_lengths(speeds: usize, holds: usize, card: usize) -> Answer
     ensures { λ r. ⌜ ((vs hs old : List ℕ) → length vs ≡ speeds → length hs ≡ holds → length old ≡ card → said r ≡ (trace-fault vs orelse room-fault vs hs old)) ⌝ }
 {
     if speeds == 0 {

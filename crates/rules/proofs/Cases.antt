@@ -9,6 +9,7 @@ use lib.IntN.{ℤ, pos, negℤ, _*ℤ_}
 use lib.ListN.{replicate, drop, set, take}
 use Rattle.rules.specs.declared.Vehicle.{Vehicle}
 use Rattle.rules.specs.declared.Place.{Place}
+use Rattle.rules.specs.declared.Summary.{Summary}
 use Rattle.rules.specs.declared.Place.the-variants.{First, Closing, AfterLow, Inner}
 use Rattle.rules.specs.Words.{if_then_else_, _and_, _or_, within, every, first, highest, pass, table, patch, part}
 use Rattle.rules.specs.Units.{ratio-of, ratio-good, point-good, bounds, first-failed, bad-field, low, longest, moving, rise, start, run, stop, margin-good}
@@ -22,6 +23,7 @@ use Rattle.rules.specs.Forms.{value, checked, bounded, _then_, seen, row
 use Rattle.rules.specs.Job.{version, profile, gearbox, numbers as eight-numbers, point, curve, seconds, trace as speeds, hold, rising as rising-holds, padded, vehicle-of, vehicle, put, holds, packed, stages, job, job-read, points-of, parts-of, gather, fields, read-fault, job-of}
 use Rattle.rules.specs.Write.{job-from, job-bytes, job-fault, holds-fault, version-fault, profile-field, margin-field, lower-field, fields-fault, checks-fault}
 use Rattle.rules.specs.Mend.{mend-lo, mend-hi, mend-end, mended-fault, mended-card, mend-fault, mend-speeds, mend-card}
+use Rattle.rules.specs.Summary.{tally, shown, rests, drives, changes, counts, summary, summary-fault, no-counts, asked-summary, stopped, settled, updated, quick-summary, hold-summary, release-summary, mend-summary}
 use Rattle.rules.specs.Text.{digits, decimal, heading, pedal, line, lines, card-text, refusal-text, worked-text, read-text, printed, program-room, printed-fault}
 
 -- car Z, with its profile, gears and ratios, its margins, its idle and rated speeds and its F0
@@ -181,6 +183,21 @@ no-gear-at = refused-by 10
 margins-read : List ℕ → List ℕ
 margins-read bytes = let j = job-of (job-read bytes 9 9) in j .version ∷ take 8 (j .vehicle .m)
 
+-- a summary as it is printed: standing seconds, seconds in the gears 1 to 10, gear changes
+counted-as : Summary → Value
+counted-as m = numbers (m .standing ∷ (m .gears ++ (m .changes ∷ [])))
+
+-- that of car Z's card, and of the card with gear 3 held at second 2
+of-Z : Summary
+of-Z = summary trace (17 ∷ 1 ∷ 2 ∷ 18 ∷ 0 ∷ [])
+
+of-held : Summary
+of-held = summary trace (17 ∷ 1 ∷ 19 ∷ 18 ∷ 0 ∷ [])
+
+-- every count at one number
+all-at : ℕ → Summary
+all-at n = record { standing = n; gears = replicate 10 n; changes = n }
+
 rows : List Row
 rows =
     -- car Z minimum speeds
@@ -311,6 +328,29 @@ rows =
     -- the step into the span is not looked at, and no byte before it is written
     ∷ row (refusal (mend-fault Z (0 ∷ 100 ∷ 200 ∷ 0 ∷ 50 ∷ 0 ∷ []) (replicate 6 0) (replicate 6 0) 4 60)) (refusal none)
     ∷ row (numbers (mend-card Z (0 ∷ 100 ∷ 200 ∷ 0 ∷ 50 ∷ 0 ∷ []) (replicate 6 0) (replicate 6 0) 4 60)) (numbers (0 ∷ 0 ∷ 0 ∷ 17 ∷ 17 ∷ 0 ∷ []))
+    -- request Nine: car Z's card has two standing seconds, one in gear 1, two in gear 2, of which one with the clutch down, and one gear change
+    ∷ row (counted-as of-Z) (numbers (2 ∷ 1 ∷ 2 ∷ 0 ∷ 0 ∷ 0 ∷ 0 ∷ 0 ∷ 0 ∷ 0 ∷ 0 ∷ 1 ∷ []))
+    ∷ row (counted-as of-held) (numbers (2 ∷ 1 ∷ 1 ∷ 1 ∷ 0 ∷ 0 ∷ 0 ∷ 0 ∷ 0 ∷ 0 ∷ 0 ∷ 2 ∷ []))
+    -- no change across a standing second
+    ∷ row (counted-as (summary split (17 ∷ 1 ∷ 18 ∷ 2 ∷ 0 ∷ []))) (numbers (3 ∷ 1 ∷ 1 ∷ 0 ∷ 0 ∷ 0 ∷ 0 ∷ 0 ∷ 0 ∷ 0 ∷ 0 ∷ 0 ∷ []))
+    -- on a wrong card gear 11 is counted in no gear, but makes changes like any other; so does gear 0
+    ∷ row (counted-as (summary trace (17 ∷ 1 ∷ 27 ∷ 1 ∷ 0 ∷ []))) (numbers (2 ∷ 2 ∷ 0 ∷ 0 ∷ 0 ∷ 0 ∷ 0 ∷ 0 ∷ 0 ∷ 0 ∷ 0 ∷ 2 ∷ []))
+    ∷ row (counted-as (summary trace (17 ∷ 10 ∷ 16 ∷ 0 ∷ 0 ∷ []))) (numbers (2 ∷ 0 ∷ 0 ∷ 0 ∷ 0 ∷ 0 ∷ 0 ∷ 0 ∷ 0 ∷ 0 ∷ 1 ∷ 1 ∷ []))
+    -- held and released
+    ∷ row (counted-as (hold-summary Z trace (replicate 5 0) (17 ∷ 1 ∷ 2 ∷ 18 ∷ 0 ∷ []) 2 3 of-Z)) (counted-as of-held)
+    ∷ row (counted-as (release-summary Z trace (0 ∷ 0 ∷ 3 ∷ 0 ∷ 0 ∷ []) (17 ∷ 1 ∷ 19 ∷ 18 ∷ 0 ∷ []) 2 of-held)) (counted-as of-Z)
+    -- mended: the trip is split, and a standing second is one more
+    ∷ row (counted-as (mend-summary Z trace (replicate 5 0) (17 ∷ 1 ∷ 2 ∷ 18 ∷ 0 ∷ []) 2 0 of-Z)) (numbers (3 ∷ 2 ∷ 0 ∷ 0 ∷ 0 ∷ 0 ∷ 0 ∷ 0 ∷ 0 ∷ 0 ∷ 0 ∷ 0 ∷ []))
+    -- a wrong summary: each count stops at 0 and at 65,535, judged once, on the result
+    ∷ row (counted-as (mend-summary Z trace (replicate 5 0) (17 ∷ 1 ∷ 2 ∷ 18 ∷ 0 ∷ []) 2 0 (all-at 0))) (numbers (1 ∷ 1 ∷ 0 ∷ 0 ∷ 0 ∷ 0 ∷ 0 ∷ 0 ∷ 0 ∷ 0 ∷ 0 ∷ 0 ∷ []))
+    ∷ row (counted-as (mend-summary Z trace (replicate 5 0) (17 ∷ 1 ∷ 2 ∷ 18 ∷ 0 ∷ []) 2 0 (all-at 65535)))
+    (numbers (65535 ∷ 65535 ∷ 65533 ∷ 65535 ∷ 65535 ∷ 65535 ∷ 65535 ∷ 65535 ∷ 65535 ∷ 65535 ∷ 65535 ∷ 65534 ∷ []))
+    -- a refused edit changes no count
+    ∷ row (counted-as (hold-summary Z trace (replicate 5 0) (17 ∷ 1 ∷ 2 ∷ 18 ∷ 0 ∷ []) 2 0 (all-at 7))) (counted-as (all-at 7))
+    -- asking for the summary of a card is refused by 1, then by 2
+    ∷ row (refusal (summary-fault [] (0 ∷ []))) (refusal (some (record { no = 1; spot = 0 })))
+    ∷ row (refusal (summary-fault trace (0 ∷ []))) (refusal (some (record { no = 2; spot = 0 })))
+    ∷ row (counted-as (asked-summary trace (0 ∷ []))) (counted-as (all-at 0))
     -- request Ten: 16383 takes two bytes, 16384 three
     ∷ row (numbers (form 16383)) (numbers (0xFF ∷ 0x7F ∷ []))
     ∷ row (numbers (form 16384)) (numbers (0x80 ∷ 0x80 ∷ 0x01 ∷ []))
@@ -365,5 +405,5 @@ papers [] = []
 papers (r ∷ rs) = r .paper ∷ papers rs
 
 sums-done-on-paper : sums rows ≡ papers rows
-unfolding sums papers rows row choice vehicle-with five-gears van-with van gap-van refused-by car-of car-Z Z halves inside free-trip steady up trace two-trips job-Z _and_ _or_ within every first highest pass table patch ratio-of ratio-good point-good bounds first-failed bad-field low longest moving rise start run stop engine minimum-of minimum under-nmax over-minimum allowed fits required between on-segment reaches segment power-speed power enough more suits beats strongest choose floor closing ceiling here first-choice free is-peak peak too-high rising too-low slowing firsts after-A after-B gears trip-speeds trip-holds first-at gear-at clutch byte card-at card refuse-at _orelse_ when trace-fault room-fault vehicle-fault not-driven check-number checks last-check bad fault-of seconds-fault gear-fault span-fault work-fault left second-fault edit-fault span-lo span-hi standing-fault own-fault quick-fault reworked quick-holds quick-card asked hold-fault hold-holds hold-card release-holds release-card hand-on demand early group-if group value checked bounded _then_ seen row-read in-a-row many counted whole version profile gearbox eight-numbers point curve seconds speeds hold rising-holds padded vehicle-of vehicle put holds packed stages job job-read digits decimal heading pedal line lines card-text refusal-text worked-text read-text printed next-minimums firsts-of no-gear-at car-with halves-after gap dip dip-closing slow-start is-first next-minimum place-at place-of form row-write points-of parts-of gather fields job-from job-bytes split mend-lo mend-hi mend-end mended-fault mended-card mend-fault mend-speeds mend-card counting too-long read-fault program-room printed-fault margins-read job-of margins-Z margin-good derated known only-if job-fault holds-fault version-fault profile-field margin-field lower-field fields-fault checks-fault
+unfolding sums papers rows row choice vehicle-with five-gears van-with van gap-van refused-by car-of car-Z Z halves inside free-trip steady up trace two-trips job-Z _and_ _or_ within every first highest pass table patch ratio-of ratio-good point-good bounds first-failed bad-field low longest moving rise start run stop engine minimum-of minimum under-nmax over-minimum allowed fits required between on-segment reaches segment power-speed power enough more suits beats strongest choose floor closing ceiling here first-choice free is-peak peak too-high rising too-low slowing firsts after-A after-B gears trip-speeds trip-holds first-at gear-at clutch byte card-at card refuse-at _orelse_ when trace-fault room-fault vehicle-fault not-driven check-number checks last-check bad fault-of seconds-fault gear-fault span-fault work-fault left second-fault edit-fault span-lo span-hi standing-fault own-fault quick-fault reworked quick-holds quick-card asked hold-fault hold-holds hold-card release-holds release-card hand-on demand early group-if group value checked bounded _then_ seen row-read in-a-row many counted whole version profile gearbox eight-numbers point curve seconds speeds hold rising-holds padded vehicle-of vehicle put holds packed stages job job-read digits decimal heading pedal line lines card-text refusal-text worked-text read-text printed next-minimums firsts-of no-gear-at car-with halves-after gap dip dip-closing slow-start is-first next-minimum place-at place-of form row-write points-of parts-of gather fields job-from job-bytes split mend-lo mend-hi mend-end mended-fault mended-card mend-fault mend-speeds mend-card counting too-long read-fault program-room printed-fault margins-read job-of margins-Z margin-good derated known only-if job-fault holds-fault version-fault profile-field margin-field lower-field fields-fault checks-fault counted-as of-Z of-held all-at tally shown rests drives changes counts summary summary-fault no-counts asked-summary stopped settled updated quick-summary hold-summary release-summary mend-summary
 sums-done-on-paper = refl

@@ -25,6 +25,7 @@ pub mod Span
 pub mod Holds
 pub mod Mend
 pub mod Runs
+pub mod Summary
 pub mod Reading
 pub mod Groups
 pub mod Forms

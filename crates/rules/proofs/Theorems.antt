@@ -12,22 +12,24 @@ use lib.ListN.{length, set, take}
 use lib.IntN.{ℤ, pos, natAbs, _-ℤ_, _*ℤ_}
 use Rattle.rules.specs.declared.Vehicle.{Vehicle}
 use Rattle.rules.specs.declared.Answer.{Answer}
+use Rattle.rules.specs.declared.Summary.{Summary}
 use Rattle.rules.specs.declared.Place.{Place}
 use Rattle.rules.specs.declared.Place.the-variants.{AfterLow}
-use Rattle.rules.specs.Words.{if_then_else_, _or_, at, first, pass, patch}
+use Rattle.rules.specs.Words.{if_then_else_, _or_, at, part, first, pass, patch}
 use Rattle.rules.specs.Units.{bad-field, low, longest, fastest, steepest, moving, start, stop, rise}
 use Rattle.rules.specs.Gears.{engine, under-nmax, fits, required, Power, on-segment, segment, power-speed, choose, is-first, minimum, power, enough, more}
 use Rattle.rules.specs.Corrections.{peak, rising, slowing, gear-at, card-at, card, first-at, place-at}
-use Rattle.rules.specs.Refusals.{said, refuse-at, _orelse_, not-driven, speed, step, ends, fault-of, span-fault, work-fault, left, work-card, edit-fault}
+use Rattle.rules.specs.Refusals.{said, refuse-at, _orelse_, not-driven, speed, step, ends, fault-of, span-fault, work-fault, left, work-card, edit-fault, Fault}
 use Rattle.rules.specs.Job.{most-groups, longest-job, Job, job-read, version, vehicle}
 use Rattle.rules.specs.Text.{printed, refusal-text, program-room}
 use Rattle.rules.specs.Groups.{got, form, group}
 use Rattle.rules.specs.Quick.{span-lo, span-hi, own-fault, quick-fault, reworked, quick-holds, quick-card}
 use Rattle.rules.specs.Holds.{asked, hold-fault, hold-holds, hold-card, release-fault, release-holds, release-card}
-use Rattle.rules.specs.Vocabulary.{IsTrip, FirstChoice, OnSegment, Wanting, PassesOthers, Out, Edit, SameSpan, OneForm, _times_, In64, nested, nested-sum, engine-sum, idle-sum, required-sum, w-sum, Q-sum, Bytes, MayChange, Right, Run, Spares, Turns, Allowed, NoMargins, full-load, enough-before, choose-before, card-by, available-sum}
+use Rattle.rules.specs.Vocabulary.{IsTrip, FirstChoice, OnSegment, Wanting, PassesOthers, Out, Edit, SameSpan, OneForm, _times_, In64, nested, nested-sum, engine-sum, idle-sum, required-sum, w-sum, Q-sum, Bytes, MayChange, Right, Run, carried, Spares, Turns, Allowed, NoMargins, full-load, enough-before, choose-before, card-by, available-sum}
 use Rattle.rules.specs.Groups.{got}
 use Rattle.rules.specs.Write.{job-from, job-fault, write-fault, written, cleared}
 use Rattle.rules.specs.Mend.{mend-lo, mend-hi, mend-end, mended-fault, mended-card, mend-fault, mend-speeds, mend-card}
+use Rattle.rules.specs.Summary.{summary, seconds-in, updated, hold-summary, release-summary, mend-summary}
 use Rattle.rules.proofs.Laws.Words.{by-order, pass-keeps}
 use Rattle.rules.proofs.Laws.Trips.{trip-of, trip-le, trip-start, trip-stop, start-before, stop-after, stop-in, moving-in}
 use Rattle.rules.proofs.Laws.Vehicle.{in-bounds}
@@ -47,6 +49,7 @@ use Rattle.rules.proofs.Laws.Span.{looks-at-span, reworks-span, card-fr
 use Rattle.rules.proofs.Laws.Holds.{asked-gear, held-from-one, none-held-moving, none-held-standing, none-held-right, hold-whole, release-whole, free-released, cleared-standing, fault-of-two, holds-of-two, card-of-two}
 use Rattle.rules.proofs.Laws.Mend.{mend-whole, mend-same, lo-kept, hi-kept, bytes-kept, speeds-kept, may-change, mend-looks, mend-reworks, hold-wins}
 use Rattle.rules.proofs.Laws.Runs.{hold-stays, release-stays, mend-stays, run-right}
+use Rattle.rules.proofs.Laws.Summary.{quick-counts-right, quick-by-part, quick-no-count, mend-counts-right as mended-counts-right, mend-by-part, mend-no-count, run-counts, seconds-of, gears-shown}
 use Rattle.rules.proofs.Laws.Groups.{one-form}
 use Rattle.rules.proofs.Laws.Writes.{writable, reads-written, writes-read, write-none, none-write, read-passes}
 use Rattle.rules.proofs.Laws.Long.{long-job, too-long, two-bytes-most}
@@ -349,6 +352,60 @@ module _ (car : Vehicle) (vs hs old : List ℕ) (s : ℕ) (R : Right car vs hs o
 
 pub run-stays-right : {car : Vehicle} {vs hs old ws ks new : List ℕ} → Run car vs hs old ws ks new → Right car vs hs old → Right car ws ks new
 run-stays-right = run-right
+
+-- ---- Request Nine: the summary
+
+-- it equals the count over the whole card whenever it did before ..
+module _ (car : Vehicle) (vs hs old : List ℕ) (s : ℕ) (was : Summary) (right : was ≡ summary vs old) where
+  pub hold-counts-right : (g : ℕ) → hold-summary car vs hs old s g was ≡ summary vs (hold-card car vs hs old s g)
+  unfolding hold-summary hold-card
+  hold-counts-right g = quick-counts-right car vs hs old s (asked g) was right
+
+  pub release-counts-right : release-summary car vs hs old s was ≡ summary vs (release-card car vs hs old s)
+  unfolding release-summary release-card
+  release-counts-right = quick-counts-right car vs hs old s 0 was right
+
+  pub mend-counts-right : (v : ℕ) → mend-summary car vs hs old s v was ≡ summary (mend-speeds car vs hs old s v) (mend-card car vs hs old s v)
+  mend-counts-right v = mended-counts-right car vs hs old s v was right
+
+-- .. and after any run of edits, each perhaps refused, be the card right or not
+pub run-counts-right : {car : Vehicle} {vs hs old ws ks new : List ℕ} (r : Run car vs hs old ws ks new) (was : Summary) → was ≡ summary vs old → carried r was ≡ summary ws new
+run-counts-right = run-counts
+
+-- right or not, it is brought up to date from the old and new speeds and bytes of the changed span alone; and a refused edit changes no count
+module _ (car : Vehicle) (vs hs old : List ℕ) (s : ℕ) (was : Summary) where
+  pub hold-counts-span : (g : ℕ) → hold-fault car vs hs old s g ≡ none
+      → let lo = start vs s in let hi = stop vs s in
+      hold-summary car vs hs old s g was ≡ updated was (summary (part vs lo hi) (part old lo hi)) (summary (part vs lo hi) (part (hold-card car vs hs old s g) lo hi))
+  unfolding hold-fault hold-summary hold-card
+  hold-counts-span g e = quick-by-part car vs hs old s (asked g) was e
+
+  pub release-counts-span : release-fault car vs hs old s ≡ none
+      → let lo = start vs s in let hi = stop vs s in
+      release-summary car vs hs old s was ≡ updated was (summary (part vs lo hi) (part old lo hi)) (summary (part vs lo hi) (part (release-card car vs hs old s) lo hi))
+  unfolding release-fault release-summary release-card
+  release-counts-span e = quick-by-part car vs hs old s 0 was e
+
+  pub mend-counts-span : (v : ℕ) → mend-fault car vs hs old s v ≡ none
+      → let lo = start vs s in let hi = stop vs (suc s) in
+      mend-summary car vs hs old s v was
+      ≡ updated was (summary (part vs lo hi) (part old lo hi)) (summary (part (mend-speeds car vs hs old s v) lo hi) (part (mend-card car vs hs old s v) lo hi))
+  mend-counts-span v e = mend-by-part car vs hs old s v was e
+
+  pub hold-counts-refused : (g : ℕ) (q : Fault) → hold-fault car vs hs old s g ≡ some q → hold-summary car vs hs old s g was ≡ was
+  unfolding hold-fault hold-summary
+  hold-counts-refused g = quick-no-count car vs hs old s (asked g) was
+
+  pub release-counts-refused : (q : Fault) → release-fault car vs hs old s ≡ some q → release-summary car vs hs old s was ≡ was
+  unfolding release-fault release-summary
+  release-counts-refused = quick-no-count car vs hs old s 0 was
+
+  pub mend-counts-refused : (v : ℕ) (q : Fault) → mend-fault car vs hs old s v ≡ some q → mend-summary car vs hs old s v was ≡ was
+  mend-counts-refused v = mend-no-count car vs hs old s v was
+
+-- on a right card the seconds in it add up to the trace length
+pub seconds-add-up : (car : Vehicle) (vs hs old : List ℕ) → work-fault car vs hs old ≡ none → old ≡ card car vs hs → seconds-in (summary vs old) ≡ length vs
+seconds-add-up car vs hs old ok right = rw right (seconds-of vs (card car vs hs) (gears-shown car vs hs old (accepted car vs hs old ok)))
 
 -- ---- 8. Groups: every value 0 to 65,535 has exactly one form that is accepted, and reading that form gives the value and the place after it
 

@@ -190,8 +190,8 @@ span-fault car vs hs lo hi = seconds-fault car vs hs lo hi orelse gear-fault car
 unfoldable pub work-fault : Vehicle → List ℕ → List ℕ → List ℕ → Option Fault
 work-fault car vs hs old = trace-fault vs orelse room-fault vs hs old orelse vehicle-fault car orelse span-fault car vs hs 0 (length vs)
 
--- what is left in a lent slice: a refusal writes nothing at all
-unfoldable pub left : Option Fault → List ℕ → List ℕ → List ℕ
+-- what is left, in a lent slice or of a summary: a refusal writes nothing at all
+unfoldable pub left : {A : Type 0} → Option Fault → A → A → A
 left none old new = new
 left (some f) old new = old
 

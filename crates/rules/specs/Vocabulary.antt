@@ -13,15 +13,16 @@ use lib.IntN.{ℤ, pos, natAbs, _+ℤ_, _-ℤ_, _*ℤ_}
 use lib.Signed.{leZ}
 use Rattle.rules.specs.declared.Vehicle.{Vehicle}
 use Rattle.rules.specs.declared.Place.{Place}
+use Rattle.rules.specs.declared.Summary.{Summary}
 use Rattle.rules.specs.Words.{at, if_then_else_, _and_, _or_, highest, pass, table}
 use Rattle.rules.specs.Units.{ratio-of, low, moving, start, rise}
 use Rattle.rules.specs.Gears.{engine, minimum, fits, power, enough, more, suits, required, Power, between, segment, power-speed}
 use Rattle.rules.specs.Refusals.{trace-fault, room-fault, vehicle-fault, over-ng, over-rev, no-gear, bad, seconds-fault, work-fault}
-use Rattle.rules.specs.Corrections.{floor, card, here, peak, rising, slowing, trip-speeds, trip-holds, byte}
+use Rattle.rules.specs.Corrections.{floor, card, here, peak, rising, slowing, trip-speeds, trip-holds, byte, place-at}
 use Rattle.rules.specs.Holds.{hold-holds, hold-card, release-holds, release-card}
 use Rattle.rules.specs.Mend.{mend-speeds, mend-card}
+use Rattle.rules.specs.Summary.{hold-summary, release-summary, mend-summary}
 use Rattle.rules.specs.Groups.{got, group, form}
-use Rattle.rules.specs.Corrections.{place-at}
 
 -- ---- the vehicle
 
@@ -346,6 +347,13 @@ pub data Run (car : Vehicle) : List ℕ → List ℕ → List ℕ → List ℕ �
   then-hold : {vs hs old ws ks new : List ℕ} (s g : ℕ) → Run car vs (hold-holds car vs hs old s g) (hold-card car vs hs old s g) ws ks new → Run car vs hs old ws ks new
   then-release : {vs hs old ws ks new : List ℕ} (s : ℕ) → Run car vs (release-holds car vs hs old s) (release-card car vs hs old s) ws ks new → Run car vs hs old ws ks new
   then-mend : {vs hs old ws ks new : List ℕ} (s v : ℕ) → Run car (mend-speeds car vs hs old s v) hs (mend-card car vs hs old s v) ws ks new → Run car vs hs old ws ks new
+
+-- what the edits of a run make of the summary that is kept beside the card
+unfoldable pub carried : {car : Vehicle} {vs hs old ws ks new : List ℕ} → Run car vs hs old ws ks new → Summary → Summary
+carried no-more was = was
+carried {car} {vs} {hs} {old} (then-hold s g r) was = carried r (hold-summary car vs hs old s g was)
+carried {car} {vs} {hs} {old} (then-release s r) was = carried r (release-summary car vs hs old s was)
+carried {car} {vs} {hs} {old} (then-mend s v r) was = carried r (mend-summary car vs hs old s v was)
 
 -- ---- groups
 

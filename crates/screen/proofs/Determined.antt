@@ -9,6 +9,8 @@ use Rattle.screen.proofs.gearcard_write.Kinds as write-kinds
 use Rattle.screen.proofs.gearcard_write.Reads as write-reads
 use Rattle.screen.proofs.gearcard_work.Kinds as work-kinds
 use Rattle.screen.proofs.gearcard_work.Reads as work-reads
+use Rattle.screen.proofs.gearcard_summary_of.Kinds as summary-of-kinds
+use Rattle.screen.proofs.gearcard_summary_of.Reads as summary-of-reads
 use Rattle.screen.proofs.gearcard_hold.Kinds as hold-kinds
 use Rattle.screen.proofs.gearcard_hold.Reads as hold-reads
 use Rattle.screen.proofs.gearcard_release.Kinds as release-kinds
@@ -44,17 +46,26 @@ gearcard-write κs a asked z z′ ws ws′ p q = (
 pub gearcard-work : Determined work-kinds.ps work-kinds.r work-reads.Asked work-reads.Learnt
 gearcard-work κs a asked z z′ ws ws′ p q = (p .0 ∙ sym (q .0), λ i. (tt, (tt, (tt, ((p .1 ∙ sym (q .1)) i, tt)))))
 
+pub gearcard-summary-of : Determined summary-of-kinds.ps summary-of-kinds.r summary-of-reads.Asked summary-of-reads.Learnt
+gearcard-summary-of κs a asked z z′ ws ws′ p q = (λ i. record { verdict = (p .0 ∙ sym (q .0)) i; summary = (p .1 ∙ sym (q .1)) i }, refl)
+
 pub gearcard-hold : Determined hold-kinds.ps hold-kinds.r hold-reads.Asked hold-reads.Learnt
-gearcard-hold κs a asked z z′ ws ws′ p q =
-    (p .0 ∙ sym (q .0), λ i. (tt, (tt, ((p .1 .0 ∙ sym (q .1 .0)) i, ((p .1 .1 ∙ sym (q .1 .1)) i, (tt, (tt, tt)))))))
+gearcard-hold κs a asked z z′ ws ws′ p q = (
+  λ i. record { verdict = (p .0 ∙ sym (q .0)) i; summary = (p .1 .0 ∙ sym (q .1 .0)) i },
+  λ i. (tt, (tt, ((p .1 .1 .0 ∙ sym (q .1 .1 .0)) i, ((p .1 .1 .1 ∙ sym (q .1 .1 .1)) i, (tt, (tt, (tt, tt))))))),
+)
 
 pub gearcard-release : Determined release-kinds.ps release-kinds.r release-reads.Asked release-reads.Learnt
-gearcard-release κs a asked z z′ ws ws′ p q =
-    (p .0 ∙ sym (q .0), λ i. (tt, (tt, ((p .1 .0 ∙ sym (q .1 .0)) i, ((p .1 .1 ∙ sym (q .1 .1)) i, (tt, tt))))))
+gearcard-release κs a asked z z′ ws ws′ p q = (
+  λ i. record { verdict = (p .0 ∙ sym (q .0)) i; summary = (p .1 .0 ∙ sym (q .1 .0)) i },
+  λ i. (tt, (tt, ((p .1 .1 .0 ∙ sym (q .1 .1 .0)) i, ((p .1 .1 .1 ∙ sym (q .1 .1 .1)) i, (tt, (tt, tt)))))),
+)
 
 pub gearcard-mend : Determined mend-kinds.ps mend-kinds.r mend-reads.Asked mend-reads.Learnt
-gearcard-mend κs a asked z z′ ws ws′ p q =
-    (p .0 ∙ sym (q .0), λ i. (tt, ((p .1 .0 ∙ sym (q .1 .0)) i, (tt, ((p .1 .1 ∙ sym (q .1 .1)) i, (tt, (tt, tt)))))))
+gearcard-mend κs a asked z z′ ws ws′ p q = (
+  λ i. record { verdict = (p .0 ∙ sym (q .0)) i; summary = (p .1 .0 ∙ sym (q .1 .0)) i },
+  λ i. (tt, ((p .1 .1 .0 ∙ sym (q .1 .1 .0)) i, (tt, ((p .1 .1 .1 ∙ sym (q .1 .1 .1)) i, (tt, (tt, (tt, tt))))))),
+)
 
 pub gearcard-cycle : Determined cycle-kinds.ps cycle-kinds.r cycle-reads.Asked cycle-reads.Learnt
 gearcard-cycle κs a asked z z′ ws ws′ p q = (p .0 ∙ sym (q .0), λ i. (tt, ((p .1 ∙ sym (q .1)) i, tt)))

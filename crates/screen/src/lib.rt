@@ -1,15 +1,18 @@
-// The C functions for driver's aid screens: thin wrappers over the readers, the writer, the working, the two buttons, the mending of a sample and the built-in cycle.
+// The C functions for driver's aid screens: thin wrappers over the readers, the writer, the working, the summary, the two buttons, the mending of a sample and the
+// built-in cycle.
 // include/gearcard.h declares them.
 ghost use mathlib.Core.Path.{_≡_};
 ghost use Rattle.rules.specs.Refusals.{work-fault, work-card};
 ghost use Rattle.rules.specs.Holds.{hold-fault, hold-holds, hold-card, release-fault, release-holds, release-card};
 ghost use Rattle.rules.specs.Mend.{mend-fault, mend-speeds, mend-card};
+ghost use Rattle.rules.specs.Summary.{summary-fault, asked-summary, hold-summary, release-summary, mend-summary};
 ghost use lib.ListN.{length};
 ghost use Rattle.cycles.specs.Parts.{fill-fault, fill-room, stretch};
 ghost use Rattle.downscale.specs.Steps.{down-fault, down-room};
 ghost use Rattle.screen.specs.Screen.{says, as-verdict, ScreenRead, ScreenWrite, ScreenExport};
 use cycles::Stretch;
 use rules::Answer;
+use rules::Summary;
 use rules::Vehicle;
 
 // The refusal's number, 0 where there is none, and its place.
@@ -26,6 +29,13 @@ pub struct Job {
     pub version: u16,
     pub vehicle: Vehicle,
     pub count: usize,
+}
+
+// What an edit answers: the summary as it is then, where it refuses the one it was given.
+#[repr(C)]
+pub struct Counted {
+    pub verdict: Verdict,
+    pub summary: Summary,
 }
 
 // What the writer answers: how many bytes it wrote, 0 where it refuses.
@@ -52,6 +62,16 @@ fn verdict_of(answer: Answer) -> Verdict
         number: answer.number(),
         place: answer.place(),
     }
+}
+
+fn counted_of(counted: summaries::Counted) -> Counted
+    ensures verdict { λ r. ⌜ r .verdict ≡ says (counted .answer) ⌝ }
+    ensures summary { λ r. ⌜ r .summary ≡ counted .summary ⌝ }
+{
+    let told = counted.answer;
+    let summary = counted.summary;
+    let verdict = verdict_of(told);
+    Counted { verdict, summary }
 }
 
 // Reads a job into the start of the lent rooms.
@@ -106,6 +126,16 @@ pub extern "C" fn gearcard_work<'a>(
     verdict_of(answer)
 }
 
+// Counts the whole card.
+#[no_mangle]
+pub extern "C" fn gearcard_summary_of<'a>(speeds: &'a [u16], card: &'a [u8]) -> Counted
+    ensures answer { λ r. ⌜ r .verdict ≡ as-verdict (summary-fault (now (speeds .entry)) (now (card .entry))) ⌝ }
+    ensures summary { λ r. ⌜ r .summary ≡ asked-summary (now (speeds .entry)) (now (card .entry)) ⌝ }
+{
+    let counted = summaries::summary_of(speeds, card);
+    counted_of(counted)
+}
+
 // Holds one second in a gear.
 #[no_mangle]
 pub extern "C" fn gearcard_hold(
@@ -115,13 +145,15 @@ pub extern "C" fn gearcard_hold(
     card: &mut [u8],
     second: usize,
     gear: u8,
-) -> Verdict
-    ensures answer { λ r. ⌜ r ≡ as-verdict (hold-fault vehicle (now (speeds .entry)) (now (holds .entry)) (now (card .entry)) second gear) ⌝ }
+    summary: Summary,
+) -> Counted
+    ensures answer { λ r. ⌜ r .verdict ≡ as-verdict (hold-fault vehicle (now (speeds .entry)) (now (holds .entry)) (now (card .entry)) second gear) ⌝ }
+    ensures summary { λ r. ⌜ r .summary ≡ hold-summary vehicle (now (speeds .entry)) (now (holds .entry)) (now (card .entry)) second gear summary ⌝ }
     ensures holds { λ r. ⌜ now (holds .exit) ≡ hold-holds vehicle (now (speeds .entry)) (now (holds .entry)) (now (card .entry)) second gear ⌝ }
     ensures card { λ r. ⌜ now (card .exit) ≡ hold-card vehicle (now (speeds .entry)) (now (holds .entry)) (now (card .entry)) second gear ⌝ }
 {
-    let answer = cards::hold(vehicle, speeds, holds, card, second, gear);
-    verdict_of(answer)
+    let counted = summaries::hold(vehicle, speeds, holds, card, second, gear, summary);
+    counted_of(counted)
 }
 
 // Releases one second.
@@ -132,13 +164,15 @@ pub extern "C" fn gearcard_release(
     holds: &mut [u8],
     card: &mut [u8],
     second: usize,
-) -> Verdict
-    ensures answer { λ r. ⌜ r ≡ as-verdict (release-fault vehicle (now (speeds .entry)) (now (holds .entry)) (now (card .entry)) second) ⌝ }
+    summary: Summary,
+) -> Counted
+    ensures answer { λ r. ⌜ r .verdict ≡ as-verdict (release-fault vehicle (now (speeds .entry)) (now (holds .entry)) (now (card .entry)) second) ⌝ }
+    ensures summary { λ r. ⌜ r .summary ≡ release-summary vehicle (now (speeds .entry)) (now (holds .entry)) (now (card .entry)) second summary ⌝ }
     ensures holds { λ r. ⌜ now (holds .exit) ≡ release-holds vehicle (now (speeds .entry)) (now (holds .entry)) (now (card .entry)) second ⌝ }
     ensures card { λ r. ⌜ now (card .exit) ≡ release-card vehicle (now (speeds .entry)) (now (holds .entry)) (now (card .entry)) second ⌝ }
 {
-    let answer = cards::release(vehicle, speeds, holds, card, second);
-    verdict_of(answer)
+    let counted = summaries::release(vehicle, speeds, holds, card, second, summary);
+    counted_of(counted)
 }
 
 // Corrects one speed sample.
@@ -150,13 +184,15 @@ pub extern "C" fn gearcard_mend(
     card: &mut [u8],
     second: usize,
     speed: u16,
-) -> Verdict
-    ensures answer { λ r. ⌜ r ≡ as-verdict (mend-fault vehicle (now (speeds .entry)) (now (holds .entry)) (now (card .entry)) second speed) ⌝ }
+    summary: Summary,
+) -> Counted
+    ensures answer { λ r. ⌜ r .verdict ≡ as-verdict (mend-fault vehicle (now (speeds .entry)) (now (holds .entry)) (now (card .entry)) second speed) ⌝ }
+    ensures summary { λ r. ⌜ r .summary ≡ mend-summary vehicle (now (speeds .entry)) (now (holds .entry)) (now (card .entry)) second speed summary ⌝ }
     ensures speeds { λ r. ⌜ now (speeds .exit) ≡ mend-speeds vehicle (now (speeds .entry)) (now (holds .entry)) (now (card .entry)) second speed ⌝ }
     ensures card { λ r. ⌜ now (card .exit) ≡ mend-card vehicle (now (speeds .entry)) (now (holds .entry)) (now (card .entry)) second speed ⌝ }
 {
-    let answer = cards::mend(vehicle, speeds, holds, card, second, speed);
-    verdict_of(answer)
+    let counted = summaries::mend(vehicle, speeds, holds, card, second, speed, summary);
+    counted_of(counted)
 }
 
 // Fills the first 1,801 places with the Class 3 cycle.

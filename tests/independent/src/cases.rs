@@ -7,11 +7,12 @@ use crate::library::{Library, Loan};
 use crate::paper::{self, Edited, Mended, Refusal};
 use crate::revs::Finished;
 use crate::rng::Rng;
+use crate::summary::{self, Shown, Summary};
 use crate::traces;
 use crate::vehicle::{without_crawler, Vehicle, ZERO};
 use crate::vehicles;
 
-pub const KINDS: [&str; 7] = ["read", "work", "hold", "release", "export", "write", "mend"];
+pub const KINDS: [&str; 8] = ["read", "work", "hold", "release", "export", "write", "mend", "summary"];
 
 /// The number of the answer (0: accepted), and the profile of the vehicle, of a refused job and of an export 0.
 pub struct Met {
@@ -31,7 +32,8 @@ pub fn run(library: &mut Library, seed: u64, kind: usize, index: u64) -> Outcome
         3 => release_case(library, &mut r),
         4 => export_case(library, &mut r),
         5 => write_case(library, &mut r),
-        _ => mend_case(library, &mut r),
+        6 => mend_case(library, &mut r),
+        _ => summary_case(library, &mut r),
     };
     outcome.map_err(|why| format!("FAILED: gearcard_{}, seed {seed}, case {index}\n{why}", KINDS[kind]))
 }
@@ -53,6 +55,12 @@ struct Setting {
     card: Vec<u8>,
     /// Seconds where a fault was put, for the quick way to ask about.
     faults: Vec<usize>,
+}
+
+impl Setting {
+    fn shown(&self) -> Shown<'_> {
+        Shown { speeds: &self.speeds, card: &self.card }
+    }
 }
 
 /// A sound vehicle, trace and holds; the card is noise, which the quick way may replace by the right one.
@@ -163,8 +171,9 @@ fn hold_case(library: &mut Library, r: &mut Rng) -> Outcome {
     let gear = ask_gear(r, &c, second);
     let expected = paper::hold(&c.vehicle, &c.speeds, &c.holds, &c.card, second, gear);
     let loan = Loan::new(r, &c.speeds, &c.holds, &c.card);
-    let told = |why: String| format!("{why}\nsecond {second} gear {gear}\n{}\nreference (holds, card): {expected:?}", describe(&c));
-    library.hold(&c.vehicle, &loan, second, gear, &expected).map_err(told)?;
+    let summary = summary::lent(r, c.shown());
+    let told = |why: String| format!("{why}\nsecond {second} gear {gear} {summary:?}\n{}\nreference (holds, card): {expected:?}", describe(&c));
+    library.hold(&c.vehicle, &loan, second, gear, summary, &expected).map_err(told)?;
     if right {
         agrees_with_whole(&c, &expected).map_err(told)?;
     }
@@ -177,8 +186,9 @@ fn release_case(library: &mut Library, r: &mut Rng) -> Outcome {
     let second = held.filter(|_| r.chance(50)).unwrap_or_else(|| ask_second(r, &c));
     let expected = paper::release(&c.vehicle, &c.speeds, &c.holds, &c.card, second);
     let loan = Loan::new(r, &c.speeds, &c.holds, &c.card);
-    let told = |why: String| format!("{why}\nsecond {second} released\n{}\nreference (holds, card): {expected:?}", describe(&c));
-    library.release(&c.vehicle, &loan, second, &expected).map_err(told)?;
+    let summary = summary::lent(r, c.shown());
+    let told = |why: String| format!("{why}\nsecond {second} released {summary:?}\n{}\nreference (holds, card): {expected:?}", describe(&c));
+    library.release(&c.vehicle, &loan, second, summary, &expected).map_err(told)?;
     if right {
         agrees_with_whole(&c, &expected).map_err(told)?;
         free_changes_nothing(&c, second, &expected).map_err(told)?;
@@ -430,28 +440,30 @@ fn mend_case(library: &mut Library, r: &mut Rng) -> Outcome {
     let second = ask_mended(r, &c);
     let speed = ask_speed(r, &c, second);
     let was = c.speeds.get(second).copied();
-    let expected = mend_once(library, r, &c, right, second, speed)?;
+    let summary = summary::lent(r, c.shown());
+    let (expected, summary) = mend_once(library, r, &c, right, second, speed, summary)?;
     let answer = met(&expected, c.vehicle.profile);
     if let (Ok((speeds, card)), Some(was), true) = (expected, was, r.chance(60)) {
         (c.speeds, c.card) = (speeds, card);
         right &= paper::work(&c.vehicle, &c.speeds, &c.holds, c.card.len()).as_ref() == Ok(&c.card);
-        mend_once(library, r, &c, right, second, was).map(drop)?;
+        mend_once(library, r, &c, right, second, was, summary).map(drop)?;
     }
     answer
 }
 
-fn mend_once(library: &mut Library, r: &mut Rng, c: &Setting, right: bool, second: usize, speed: u16) -> Result<Mended, String> {
+/// With the summary afterwards.
+fn mend_once(library: &mut Library, r: &mut Rng, c: &Setting, right: bool, second: usize, speed: u16, summary: Summary) -> Result<(Mended, Summary), String> {
     let expected = paper::mend(&c.vehicle, &c.speeds, &c.holds, &c.card, second, speed);
     let loan = Loan::new(r, &c.speeds, &c.holds, &c.card);
-    let told = |why: String| format!("{why}\nsecond {second} mended to {speed}\n{}\nreference (speeds, card): {expected:?}", describe(c));
-    library.mend(&c.vehicle, &loan, second, speed, &expected).map_err(told)?;
+    let told = |why: String| format!("{why}\nsecond {second} mended to {speed} {summary:?}\n{}\nreference (speeds, card): {expected:?}", describe(c));
+    let kept = library.mend(&c.vehicle, &loan, second, speed, summary, &expected).map_err(told)?;
     if right {
         mended_as_whole(c, second, speed, &expected).map_err(told)?;
     }
     if expected == Err((8, second)) && paper::gears(&c.vehicle).contains(&c.holds[second]) && !paper::moving(speed) {
         note(Event::HoldWon);
     }
-    Ok(expected)
+    Ok((expected, kept))
 }
 
 /// The paper against itself: from a right card the very card, or the very refusal, of the whole working on the new trace, and it spares the engine.
@@ -505,4 +517,36 @@ fn ask_speed(r: &mut Rng, c: &Setting, second: usize) -> u16 {
         _ => now,
     };
     speed.clamp(0, 65_535) as u16
+}
+
+// ---------------------------------------------------------------- the summary of a card
+
+/// Of a card that is right, once was right, or is noise; lengths spoiled more often than other things, for nothing else is refused.
+fn summary_case(library: &mut Library, r: &mut Rng) -> Outcome {
+    let (mut c, right) = on_screen(r);
+    match r.range(0, 99) {
+        0..=4 => spoil_length(r, &mut c),
+        5..=11 => spoil_rooms(r, &mut c),
+        // The clutch alone differs here and there.
+        12..=30 => c.card.iter_mut().for_each(|byte| *byte = *byte % 16 + r.pick(&[0, 0, 16, 240])),
+        _ => {}
+    }
+    let expected = summary::of(c.shown());
+    let loan = Loan::new(r, &c.speeds, &c.holds, &c.card);
+    let told = |why: String| format!("{why}\n{}\nreference: {expected:?}", describe(&c));
+    library.summary(&loan, &expected).map_err(told)?;
+    if let Ok(summary) = expected {
+        clutch_alone(&c);
+        if right && summary.seconds() != c.speeds.len() {
+            return Err(told(String::from("the reference's seconds of a right card do not add up to the trace")));
+        }
+    }
+    met(&expected, 0)
+}
+
+fn clutch_alone(c: &Setting) {
+    let both_moving = |s: usize| paper::moving(c.speeds[s]) && paper::moving(c.speeds[s + 1]);
+    if (0..c.speeds.len() - 1).any(|s| both_moving(s) && c.card[s] != c.card[s + 1] && c.card[s] % 16 == c.card[s + 1] % 16) {
+        note(Event::ClutchAlone);
+    }
 }

@@ -1,5 +1,5 @@
 //! The regulation's cycles, each driven whole by several cars: the working, the job read back and written, holds set and released the quick way, and
-//! samples mended and mended back.
+//! samples mended and mended back, with a summary that is counted once and kept by each edit.
 
 use crate::cycles;
 use crate::jobs;
@@ -7,6 +7,7 @@ use crate::library::{Library, Loan};
 use crate::paper;
 use crate::revs::Finished;
 use crate::rng::Rng;
+use crate::summary::{self, Shown, Summary};
 use crate::traces;
 use crate::vehicle::{car_z, with_crawler, Vehicle};
 use crate::vehicles;
@@ -29,7 +30,7 @@ pub fn run(library: &mut Library, seed: u64, dir: &Path) -> Result<(), String> {
         let mut r = Rng::of_case(seed, KIND, index as u64);
         let (mut driven, mut refused, mut holds, mut mends) = (0, 0, 0, 0);
         for vehicle in &cars(&mut r) {
-            let mut drive = Drive { library, r: &mut r, vehicle, speeds };
+            let mut drive = Drive { library, r: &mut r, vehicle, speeds, summary: summary::NONE };
             match drive.whole().map_err(|why| format!("FAILED: cycle {name}, seed {seed}\n{vehicle:?}\n{why}"))? {
                 Some((held, mended)) => (driven, holds, mends) = (driven + 1, holds + held, mends + mended),
                 None => refused += 1,
@@ -58,6 +59,8 @@ struct Drive<'a> {
     r: &'a mut Rng,
     vehicle: &'a Vehicle,
     speeds: &'a [u16],
+    /// Of the card as it is.
+    summary: Summary,
 }
 
 impl Drive<'_> {
@@ -65,6 +68,8 @@ impl Drive<'_> {
     fn whole(&mut self) -> Result<Option<(usize, usize)>, String> {
         let none = vec![0; self.speeds.len()];
         let Some(first) = self.work(&none)? else { return Ok(None) };
+        self.count(&first)?;
+        let at_first = self.summary;
         let (mut holds, mut card) = (none, first.clone());
         let mut accepted = 0;
         for _ in 0..HOLDS {
@@ -82,14 +87,26 @@ impl Drive<'_> {
         while holds.iter().any(|gear| *gear != 0) {
             accepted += self.release_one(&mut holds, &mut card)?;
         }
-        if card != first {
-            return Err(String::from("the reference's card is another after all holds are released"));
+        if card != first || self.summary != at_first {
+            return Err(String::from("the reference's card, or its summary, is another after all holds are released"));
         }
         let mut mended = 0;
         for _ in 0..MENDS {
             mended += self.mend_and_back(&first)?;
         }
         Ok(Some((accepted, mended)))
+    }
+
+    /// The summary counted whole.
+    fn count(&mut self, card: &[u8]) -> Result<(), String> {
+        let expected = summary::of(Shown { speeds: self.speeds, card });
+        let loan = Loan::new(self.r, self.speeds, &[], card);
+        self.library.summary(&loan, &expected).map_err(|why| format!("{why}\ncard {card:?}"))?;
+        self.summary = expected.map_err(|refusal| format!("the reference refuses its own card: {refusal:?}"))?;
+        if self.summary.seconds() != self.speeds.len() {
+            return Err(format!("the reference's seconds do not add up: {:?}", self.summary));
+        }
+        Ok(())
     }
 
     /// 1 where the sample is taken, a little more or less, or at rest; mended back, the card is the first again.
@@ -110,7 +127,7 @@ impl Drive<'_> {
         let expected = paper::mend(self.vehicle, speeds, holds, card, second, speed);
         let loan = Loan::new(self.r, speeds, holds, card);
         let told = |why| format!("{why}\nsecond {second} mended to {speed}\nspeeds {speeds:?}\ncard {card:?}\nreference (speeds, card): {expected:?}");
-        self.library.mend(self.vehicle, &loan, second, speed, &expected).map_err(told)?;
+        self.summary = self.library.mend(self.vehicle, &loan, second, speed, self.summary, &expected).map_err(told)?;
         if let Ok((speeds, card)) = &expected {
             Finished { vehicle: self.vehicle, speeds, holds, card }.check()?;
         }
@@ -131,7 +148,7 @@ impl Drive<'_> {
         let expected = paper::hold(self.vehicle, self.speeds, holds, card, second, gear);
         let loan = Loan::new(self.r, self.speeds, holds, card);
         let asked = || format!("second {second} gear {gear}\nholds {holds:?}\ncard {card:?}\nreference (holds, card): {expected:?}");
-        self.library.hold(self.vehicle, &loan, second, gear, &expected).map_err(|why| format!("{why}\n{}", asked()))?;
+        self.summary = self.library.hold(self.vehicle, &loan, second, gear, self.summary, &expected).map_err(|why| format!("{why}\n{}", asked()))?;
         let Ok(after) = expected else { return Ok(0) };
         (*holds, *card) = after;
         Finished { vehicle: self.vehicle, speeds: self.speeds, holds, card }.check()?;
@@ -142,7 +159,7 @@ impl Drive<'_> {
         let expected = paper::release(self.vehicle, self.speeds, holds, card, second);
         let loan = Loan::new(self.r, self.speeds, holds, card);
         let asked = || format!("second {second} released\nholds {holds:?}\ncard {card:?}\nreference (holds, card): {expected:?}");
-        self.library.release(self.vehicle, &loan, second, &expected).map_err(|why| format!("{why}\n{}", asked()))?;
+        self.summary = self.library.release(self.vehicle, &loan, second, self.summary, &expected).map_err(|why| format!("{why}\n{}", asked()))?;
         let Ok(after) = expected else { return Ok(0) };
         (*holds, *card) = after;
         Finished { vehicle: self.vehicle, speeds: self.speeds, holds, card }.check()?;

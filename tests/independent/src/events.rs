@@ -35,9 +35,17 @@ pub enum Event {
     ProfileRead,
     TwoGearsRead,
     VanAsCar,
+    InNoGear,
+    StoppedAtNone,
+    StoppedAtMost,
+    ChangesMoved,
+    StandingMoved,
+    KeptRight,
+    KeptRefused,
+    ClutchAlone,
 }
 
-const NAMES: [&str; 30] = [
+const NAMES: [&str; 38] = [
     "pass A lowered a gear",
     "pass A stopped by the floor",
     "pass B lowered a gear to the ceiling",
@@ -68,6 +76,14 @@ const NAMES: [&str; 30] = [
     "job refused for its profile",
     "job of two gears refused, the first a crawler",
     "van's card that of its car without the crawler, each gear one higher",
+    "moving second of a wrong card counted in no gear",
+    "count stopped at 0",
+    "count stopped at 65,535",
+    "edit that changed the count of gear changes",
+    "mended sample that changed the count of standing seconds",
+    "right summary kept right by an edit",
+    "summary kept as it was by a refused edit",
+    "neighbouring moving seconds that differ by the clutch alone",
 ];
 
 /// Of all threads that have handed theirs in.

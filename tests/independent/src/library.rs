@@ -1,9 +1,11 @@
 //! The library, called through scripts/driver.c: each lent slice lies inside a larger one, whose other places are compared too.
 
+use crate::events::{note, Event};
 use crate::exports::Coefficients;
 use crate::paper::{self, Edited, Job, Mended, Refusal};
 use crate::revs::Finished;
 use crate::rng::Rng;
+use crate::summary::{self, Shown, Summary};
 use crate::vehicle::{Vehicle, ZERO};
 use std::fmt::Debug;
 use std::io::{self, BufReader, BufWriter, Read, Write};
@@ -141,6 +143,24 @@ impl Loan {
         Finished { vehicle, speeds: self.speeds.content(), holds: self.holds.content(), card: self.third.content() }
     }
 
+    /// What an edit of this leaves of a summary, `after` being the trace and the card that it leaves, or none where it is refused. And the paper against itself: a right summary stays right.
+    fn kept(&self, was: Summary, after: Option<Shown>) -> Result<Summary, String> {
+        let before = Shown { speeds: self.speeds.content(), card: self.third.content() };
+        let Some(after) = after else {
+            note(Event::KeptRefused);
+            return Ok(was);
+        };
+        let kept = summary::after(was, before, after);
+        if summary::of(before) != Ok(was) {
+            return Ok(kept);
+        }
+        note(Event::KeptRight);
+        if summary::of(after) == Ok(kept) {
+            return Ok(kept);
+        }
+        Err(format!("the reference's summary, right before, is {kept:?} after"))
+    }
+
     pub fn new(r: &mut Rng, speeds: &[u16], holds: &[u8], third: &[u8]) -> Loan {
         Loan { speeds: Lent::new(r, speeds, |x| x as u16), holds: Lent::new(r, holds, |x| x as u8), third: Lent::new(r, third, |x| x as u8) }
     }
@@ -158,6 +178,7 @@ enum Call {
     Downscale,
     Write,
     Mend,
+    Summary,
 }
 
 struct Request<'a> {
@@ -166,6 +187,8 @@ struct Request<'a> {
     second: usize,
     /// Of a mend the speed.
     gear: u16,
+    /// Of an edit; of other calls it is not looked at.
+    summary: Summary,
     loan: &'a Loan,
 }
 
@@ -178,6 +201,8 @@ struct Answer {
     coefficients: Option<Coefficients>,
     /// Of a write only.
     length: Option<u64>,
+    /// Of an edit, and of a summary.
+    summary: Option<Summary>,
     loan: Loan,
 }
 
@@ -189,6 +214,13 @@ impl Answer {
             return Ok(());
         }
         Err(format!("answer: expected {number} at {place}, library {} at {}", self.number, self.place))
+    }
+
+    fn compare_summary(&self, expected: Summary) -> Result<(), String> {
+        if self.summary == Some(expected) {
+            return Ok(());
+        }
+        Err(format!("summary: expected {expected:?}, library {:?}", self.summary))
     }
 }
 
@@ -221,6 +253,7 @@ impl Library {
         put_all(&[request.call as u32, request.gear as u32], &mut bytes);
         (request.second as u64).put(&mut bytes);
         put_vehicle(request.vehicle, &mut bytes);
+        put_all(&request.summary.list(), &mut bytes);
         let mut loan = request.loan.clone();
         put_all(&[loan.speeds.span(), loan.holds.span(), loan.third.span()].concat(), &mut bytes);
         put_all(&loan.speeds.all, &mut bytes);
@@ -243,10 +276,18 @@ impl Library {
             Call::Write => Some(u64::get(from)?),
             _ => None,
         };
+        let summary = match request.call {
+            Call::Hold | Call::Release | Call::Mend | Call::Summary => {
+                let mut list = [0; 12];
+                get_all(&mut list, from)?;
+                Some(Summary::of_list(list))
+            }
+            _ => None,
+        };
         get_all(&mut loan.speeds.all, from)?;
         get_all(&mut loan.holds.all, from)?;
         get_all(&mut loan.third.all, from)?;
-        Ok(Answer { number, place, vehicle, coefficients, length, loan })
+        Ok(Answer { number, place, vehicle, coefficients, length, summary, loan })
     }
 
     /// No more requests: the driver then ends, and well.
@@ -260,7 +301,7 @@ impl Library {
 
     /// `expected`: the card.
     pub fn work(&mut self, vehicle: &Vehicle, loan: &Loan, expected: &Result<Vec<u8>, Refusal>) -> Result<(), String> {
-        let answer = self.call(&Request { call: Call::Work, vehicle, second: 0, gear: 0, loan })?;
+        let answer = self.call(&Request { call: Call::Work, vehicle, second: 0, gear: 0, summary: summary::NONE, loan })?;
         answer.compare(expected.as_ref().err().copied())?;
         loan.speeds.compare("speeds", &answer.loan.speeds, &[])?;
         loan.holds.compare("holds", &answer.loan.holds, &[])?;
@@ -271,16 +312,18 @@ impl Library {
         answer.loan.finished(vehicle).check()
     }
 
-    pub fn hold(&mut self, vehicle: &Vehicle, loan: &Loan, second: usize, gear: u8, expected: &Edited) -> Result<(), String> {
-        self.edit(&Request { call: Call::Hold, vehicle, second, gear: gear as u16, loan }, expected)
+    /// The summary afterwards.
+    pub fn hold(&mut self, vehicle: &Vehicle, loan: &Loan, second: usize, gear: u8, summary: Summary, expected: &Edited) -> Result<Summary, String> {
+        self.edit(&Request { call: Call::Hold, vehicle, second, gear: gear as u16, summary, loan }, expected)
     }
 
-    pub fn release(&mut self, vehicle: &Vehicle, loan: &Loan, second: usize, expected: &Edited) -> Result<(), String> {
-        self.edit(&Request { call: Call::Release, vehicle, second, gear: 0, loan }, expected)
+    /// The summary afterwards.
+    pub fn release(&mut self, vehicle: &Vehicle, loan: &Loan, second: usize, summary: Summary, expected: &Edited) -> Result<Summary, String> {
+        self.edit(&Request { call: Call::Release, vehicle, second, gear: 0, summary, loan }, expected)
     }
 
     /// `expected`: the holds and the card.
-    fn edit(&mut self, request: &Request, expected: &Edited) -> Result<(), String> {
+    fn edit(&mut self, request: &Request, expected: &Edited) -> Result<Summary, String> {
         let loan = request.loan;
         let answer = self.call(request)?;
         answer.compare(expected.as_ref().err().copied())?;
@@ -292,16 +335,19 @@ impl Library {
         loan.holds.compare("holds", &answer.loan.holds, holds)?;
         loan.third.compare("card", &answer.loan.third, card)?;
         let speeds = loan.speeds.content();
+        let kept = loan.kept(request.summary, expected.as_ref().ok().map(|_| Shown { speeds, card }))?;
+        answer.compare_summary(kept)?;
         if answer.number != 0 || !paper::moving(speeds[request.second]) {
-            return Ok(());
+            return Ok(kept);
         }
         // Whether the card was right or not, the seconds that were worked anew.
-        answer.loan.finished(request.vehicle).check_trip(paper::trip_of(speeds, request.second))
+        answer.loan.finished(request.vehicle).check_trip(paper::trip_of(speeds, request.second))?;
+        Ok(kept)
     }
 
-    /// `expected`: the speeds and the card.
-    pub fn mend(&mut self, vehicle: &Vehicle, loan: &Loan, second: usize, speed: u16, expected: &Mended) -> Result<(), String> {
-        let answer = self.call(&Request { call: Call::Mend, vehicle, second, gear: speed, loan })?;
+    /// `expected`: the speeds and the card. The summary afterwards.
+    pub fn mend(&mut self, vehicle: &Vehicle, loan: &Loan, second: usize, speed: u16, summary: Summary, expected: &Mended) -> Result<Summary, String> {
+        let answer = self.call(&Request { call: Call::Mend, vehicle, second, gear: speed, summary, loan })?;
         answer.compare(expected.as_ref().err().copied())?;
         let (speeds, card): (&[u16], &[u8]) = match expected {
             Ok((speeds, card)) => (speeds, card),
@@ -309,26 +355,37 @@ impl Library {
         };
         loan.speeds.compare("speeds", &answer.loan.speeds, speeds)?;
         loan.holds.compare("holds", &answer.loan.holds, &[])?;
-        loan.third.compare("card", &answer.loan.third, card)
+        loan.third.compare("card", &answer.loan.third, card)?;
+        let kept = loan.kept(summary, expected.as_ref().ok().map(|_| Shown { speeds, card }))?;
+        answer.compare_summary(kept)?;
+        Ok(kept)
+    }
+
+    /// `expected`: the summary of the speeds and the third.
+    pub fn summary(&mut self, loan: &Loan, expected: &Result<Summary, Refusal>) -> Result<(), String> {
+        let answer = self.call(&Request { call: Call::Summary, vehicle: &ZERO, second: 0, gear: 0, summary: summary::NONE, loan })?;
+        answer.compare(expected.as_ref().err().copied())?;
+        answer.compare_summary(expected.unwrap_or(summary::NONE))?;
+        loan.same_but_speeds(&answer.loan, &[])
     }
 
     /// `expected`: the first places of the room, which is lent as the speeds.
     pub fn cycle(&mut self, part: u32, loan: &Loan, expected: &Result<Vec<u16>, Refusal>) -> Result<(), String> {
-        let answer = self.call(&Request { call: Call::Cycle, vehicle: &ZERO, second: part as usize, gear: 0, loan })?;
+        let answer = self.call(&Request { call: Call::Cycle, vehicle: &ZERO, second: part as usize, gear: 0, summary: summary::NONE, loan })?;
         answer.compare(expected.as_ref().err().copied())?;
         loan.same_but_speeds(&answer.loan, expected.as_deref().unwrap_or(&[]))
     }
 
     /// `expected`: the room, which is lent as the speeds.
     pub fn downscale(&mut self, factor: u32, loan: &Loan, expected: &Result<Vec<u16>, Refusal>) -> Result<(), String> {
-        let answer = self.call(&Request { call: Call::Downscale, vehicle: &ZERO, second: factor as usize, gear: 0, loan })?;
+        let answer = self.call(&Request { call: Call::Downscale, vehicle: &ZERO, second: factor as usize, gear: 0, summary: summary::NONE, loan })?;
         answer.compare(expected.as_ref().err().copied())?;
         loan.same_but_speeds(&answer.loan, expected.as_deref().unwrap_or(&[]))
     }
 
     /// `expected`: the part's first second and how many there are, in a room as long as the speeds.
     pub fn cycle_part(&mut self, part: u32, loan: &Loan, expected: (usize, usize)) -> Result<(), String> {
-        let answer = self.call(&Request { call: Call::CyclePart, vehicle: &ZERO, second: part as usize, gear: 0, loan })?;
+        let answer = self.call(&Request { call: Call::CyclePart, vehicle: &ZERO, second: part as usize, gear: 0, summary: summary::NONE, loan })?;
         if (answer.place, answer.number as u64) != (expected.0 as u64, expected.1 as u64) {
             return Err(format!("part: expected {} from {}, library {} from {}", expected.1, expected.0, answer.number, answer.place));
         }
@@ -336,7 +393,7 @@ impl Library {
     }
 
     pub fn read(&mut self, loan: &Loan, expected: &Result<Job, Refusal>) -> Result<(), String> {
-        let answer = self.call(&Request { call: Call::Read, vehicle: &ZERO, second: 0, gear: 0, loan })?;
+        let answer = self.call(&Request { call: Call::Read, vehicle: &ZERO, second: 0, gear: 0, summary: summary::NONE, loan })?;
         answer.compare(expected.as_ref().err().copied())?;
         let (version, vehicle, speeds, holds): (u16, Vehicle, &[u16], &[u8]) = match expected {
             Ok(job) => (job.version, job.vehicle, &job.speeds, &job.holds),
@@ -352,7 +409,7 @@ impl Library {
 
     /// `expected`: the bytes of the job.
     pub fn write(&mut self, version: u16, vehicle: &Vehicle, loan: &Loan, expected: &Result<Vec<u8>, Refusal>) -> Result<(), String> {
-        let answer = self.call(&Request { call: Call::Write, vehicle, second: version as usize, gear: 0, loan })?;
+        let answer = self.call(&Request { call: Call::Write, vehicle, second: version as usize, gear: 0, summary: summary::NONE, loan })?;
         answer.compare(expected.as_ref().err().copied())?;
         let bytes = expected.as_deref().unwrap_or(&[]);
         if answer.length != Some(bytes.len() as u64) {
@@ -364,7 +421,7 @@ impl Library {
     }
 
     pub fn export(&mut self, loan: &Loan, expected: &Result<Coefficients, Refusal>) -> Result<(), String> {
-        let answer = self.call(&Request { call: Call::Export, vehicle: &ZERO, second: 0, gear: 0, loan })?;
+        let answer = self.call(&Request { call: Call::Export, vehicle: &ZERO, second: 0, gear: 0, summary: summary::NONE, loan })?;
         answer.compare(expected.as_ref().err().copied())?;
         let wanted = expected.unwrap_or_default();
         if answer.coefficients != Some(wanted) {

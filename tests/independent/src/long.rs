@@ -6,6 +6,7 @@ use crate::jobs;
 use crate::library::{Library, Loan};
 use crate::paper::{self, Refusal};
 use crate::rng::Rng;
+use crate::summary::{self, Shown, Summary};
 use crate::traces;
 use crate::vehicle::{car_z, with_crawler, Vehicle};
 use crate::vehicles;
@@ -24,7 +25,7 @@ pub fn run(library: &mut Library, seed: u64, dir: &Path) -> Result<(), String> {
         let speeds = joined(&cycle, length);
         let mut holds = 0;
         for vehicle in [car_z(), vehicles::mid_size(7), vehicles::mid_size(64), with_crawler(&vehicles::mid_size(7), 20_000)] {
-            let mut long = Long { library, r: &mut r, vehicle: &vehicle, speeds: &speeds };
+            let mut long = Long { library, r: &mut r, vehicle: &vehicle, speeds: &speeds, summary: summary::NONE };
             holds += long.drive().map_err(|why| format!("FAILED: {length} seconds, seed {seed}\n{why}"))?;
         }
         if (holds == 0) != (length > paper::LONGEST) {
@@ -48,6 +49,8 @@ struct Long<'a> {
     r: &'a mut Rng,
     vehicle: &'a Vehicle,
     speeds: &'a [u16],
+    /// Of the card as it is.
+    summary: Summary,
 }
 
 impl Long<'_> {
@@ -56,9 +59,11 @@ impl Long<'_> {
         let mut holds = vec![0; self.speeds.len()];
         let Some(mut card) = self.work(&holds)? else {
             self.hold(&mut holds.clone(), &mut holds.clone(), 1, 1)?;
+            self.count(&holds)?;
             self.read(&holds)?;
             return Ok(0);
         };
+        self.count(&card)?;
         let mut accepted = 0;
         for _ in 0..HOLDS {
             let second = traces::any_place(self.r, self.speeds.len(), |s| paper::moving(self.speeds[s])).unwrap_or(0);
@@ -80,6 +85,15 @@ impl Long<'_> {
         Ok(accepted)
     }
 
+    /// The summary counted whole; all 0 where that is refused.
+    fn count(&mut self, card: &[u8]) -> Result<(), String> {
+        let expected = summary::of(Shown { speeds: self.speeds, card });
+        let loan = Loan::new(self.r, self.speeds, &[], card);
+        self.library.summary(&loan, &expected).map_err(|why| format!("summary: {why}"))?;
+        self.summary = expected.unwrap_or(summary::NONE);
+        Ok(())
+    }
+
     fn work(&mut self, holds: &[u8]) -> Result<Option<Vec<u8>>, String> {
         let expected = paper::work(self.vehicle, self.speeds, holds, self.speeds.len());
         let noise: Vec<u8> = self.speeds.iter().map(|_| self.r.next() as u8).collect();
@@ -93,12 +107,14 @@ impl Long<'_> {
         let loan = Loan::new(self.r, self.speeds, holds, card);
         let expected = if gear == 0 {
             let expected = paper::release(self.vehicle, self.speeds, holds, card, second);
-            self.library.release(self.vehicle, &loan, second, &expected).map(|()| expected)
+            self.library.release(self.vehicle, &loan, second, self.summary, &expected).map(|kept| (expected, kept))
         } else {
             let expected = paper::hold(self.vehicle, self.speeds, holds, card, second, gear);
-            self.library.hold(self.vehicle, &loan, second, gear, &expected).map(|()| expected)
+            self.library.hold(self.vehicle, &loan, second, gear, self.summary, &expected).map(|kept| (expected, kept))
         };
-        match expected.map_err(|why| format!("second {second} gear {gear}: {why}"))? {
+        let (expected, kept) = expected.map_err(|why| format!("second {second} gear {gear}: {why}"))?;
+        self.summary = kept;
+        match expected {
             Ok(after) => {
                 (*holds, *card) = after;
                 Ok(1)

@@ -1,6 +1,6 @@
-//! Compares the gear card library with a working of its own, written from docs/01-scope.md and requests One, Five and Eight of document 02 alone; margins and versions from request Six.
+//! Compares the gear card library with a working of its own, written from docs/01-scope.md and requests One, Five, Eight and Nine of document 02 alone; margins and versions from request Six.
 //!
-//!   independent [--seed S] [--cases N] [--cycles DIR] -- DRIVER..    the cycles of DIR, the built-in and the scaled cycle, the long traces, then N cases of each kind (read, work, hold, release, export, write, mend)
+//!   independent [--seed S] [--cases N] [--cycles DIR] -- DRIVER..    the cycles of DIR, the built-in and the scaled cycle, the long traces, then N cases of each kind (read, work, hold, release, export, write, mend, summary)
 //!   with --class-3 FILE: that job must have the speeds of the built-in cycle
 //!   with --threads N: so many, each with a driver of its own, where else there is one for each processor; the cases and the counts are the same
 //!   independent [--seed S] --case KIND I -- DRIVER..                 one case again (KIND as above)
@@ -20,6 +20,7 @@ mod paper;
 mod parts;
 mod revs;
 mod rng;
+mod summary;
 mod sums;
 mod traces;
 mod vehicle;
@@ -38,6 +39,7 @@ const DEFAULT_SEED: u64 = 20_261_115;
 /// The numbers of refusal, those of an export and those of a write.
 const NUMBERS: [usize; 21] = [1, 2, 3, 4, 5, 6, 7, 8, 9, 10, 11, 12, 13, 14, 15, 16, 17, 19, 20, 21, 22];
 const OF_EXPORTS: [usize; 6] = [12, 16, 19, 20, 21, 22];
+const OF_SUMMARIES: [usize; 2] = [1, 2];
 const OF_WRITES: [usize; 11] = [1, 2, 3, 4, 5, 6, 7, 8, 9, 14, 17];
 
 struct Options {
@@ -137,6 +139,7 @@ fn run(driver: &[String], options: &Options) -> Result<(), String> {
     print_profiles(&tally);
     minima_met()?;
     vans_met(&tally)?;
+    summaries_met(&tally.met)?;
     all_met(&tally.met)
 }
 
@@ -177,10 +180,23 @@ fn print_profiles(tally: &Tally) {
 
 /// Vans are tried with every kind that knows of vehicles, and each turn that is theirs alone.
 fn vans_met(tally: &Tally) -> Result<(), String> {
-    if let Some(kind) = (0..cases::KINDS.len()).find(|&kind| cases::KINDS[kind] != "export" && tally.vans[kind] == 0) {
+    if let Some(kind) = (0..cases::KINDS.len()).find(|&kind| !["export", "summary"].contains(&cases::KINDS[kind]) && tally.vans[kind] == 0) {
         return Err(format!("FAILED: no van was accepted by {}", cases::KINDS[kind]));
     }
     let wanted = [Event::CrawlerHeld, Event::CrawlerAtRest, Event::ProfileRead, Event::TwoGearsRead, Event::VanAsCar];
+    let missed: Vec<&str> = wanted.into_iter().filter_map(events::missed).collect();
+    if missed.is_empty() {
+        return Ok(());
+    }
+    Err(format!("FAILED: never met: {}", missed.join("; ")))
+}
+
+/// Counts that never stopped at an end, or never moved, were not tested.
+fn summaries_met(met: &Counts) -> Result<(), String> {
+    if OF_SUMMARIES.into_iter().any(|number| met[7][number] == 0) {
+        return Err(String::from("FAILED: a refusal of a summary was met by none"));
+    }
+    let wanted = [Event::InNoGear, Event::StoppedAtNone, Event::StoppedAtMost, Event::ChangesMoved, Event::StandingMoved, Event::KeptRight, Event::KeptRefused, Event::ClutchAlone];
     let missed: Vec<&str> = wanted.into_iter().filter_map(events::missed).collect();
     if missed.is_empty() {
         return Ok(());

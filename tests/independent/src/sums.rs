@@ -2,6 +2,7 @@
 
 use crate::jobs;
 use crate::paper::{self, Lies, Trip, LIES};
+use crate::summary::{self, Shown, Summary};
 use crate::vehicle::{car_z, with_crawler, without_crawler, Vehicle};
 
 pub fn check() {
@@ -12,6 +13,7 @@ pub fn check() {
     printed();
     written();
     vans();
+    summaries();
 }
 
 /// Request Thirteen: car Z with a crawler of 200 min^-1 per km/h.
@@ -129,4 +131,30 @@ fn written() {
     assert_eq!(paper::write(1, &marked, &speeds, &[0; 5], 100), Err((3, 12)));
     let bytes = paper::write(2, &marked, &speeds, &[0; 5], 70).unwrap();
     assert_eq!((bytes.len(), bytes[0], &bytes[28..37]), (70, 2, &[160, 6, 100, 0, 136, 14, 172, 2, 50][..]));
+}
+
+/// Request Nine, counted by hand.
+fn summaries() {
+    let of = |speeds: &[u16], card: &[u8]| summary::of(Shown { speeds, card });
+    let speeds = [0, 50, 150, 100, 0];
+    let counted = |standing, gears: [u16; 3], changes| {
+        let mut summary = Summary { standing, changes, ..summary::NONE };
+        summary.gears[..3].copy_from_slice(&gears);
+        summary
+    };
+    let right = counted(2, [1, 2, 0], 1);
+    assert_eq!(of(&speeds, &[17, 1, 2, 18, 0]), Ok(right));
+    // The clutch makes no change; gears 0 and 11 are in no gear, but make changes; a standing second between makes none.
+    assert_eq!(of(&speeds, &[17, 1, 0, 11, 0]), Ok(counted(2, [1, 0, 0], 2)));
+    assert_eq!(of(&[0, 50, 9, 100, 0], &[17, 1, 18, 2, 0]), Ok(counted(3, [1, 1, 0], 0)));
+    assert_eq!(of(&[], &[]), Err((1, 0)));
+    assert_eq!(of(&speeds, &[0; 4]), Err((2, 0)));
+    // Second 2 held in gear 3: it leaves gear 2, and there is one change more. A wrong summary stops at an end.
+    let before = Shown { speeds: &speeds, card: &[17, 1, 2, 18, 0] };
+    let after = Shown { speeds: &speeds, card: &[17, 1, 19, 18, 0] };
+    assert_eq!(summary::after(right, before, after), counted(2, [1, 1, 1], 2));
+    assert_eq!(summary::after(counted(9, [9, 0, 65_535], 65_535), before, after), counted(9, [9, 0, 65_535], 65_535));
+    // Mended to rest: one more standing.
+    let rests = Shown { speeds: &[0, 50, 0, 100, 0], card: &[17, 17, 17, 1, 0] };
+    assert_eq!(summary::after(right, before, rests), counted(3, [2, 0, 0], 0));
 }

@@ -128,11 +128,11 @@ by-fault none x y = x refl
 by-fault (some q) x y = y q refl
 
 -- what is left by one answer
-pub left-none : {f : Option Fault} (old new : List ℕ) → f ≡ none → left f old new ≡ new
+pub left-none : {A : Type 0} {f : Option Fault} (old new : A) → f ≡ none → left f old new ≡ new
 unfolding left
 left-none old new e = rw e
 
-pub left-some : {f : Option Fault} {q : Fault} (old new : List ℕ) → f ≡ some q → left f old new ≡ old
+pub left-some : {A : Type 0} {f : Option Fault} {q : Fault} (old new : A) → f ≡ some q → left f old new ≡ old
 unfolding left
 left-some old new e = rw e
 

@@ -8,7 +8,7 @@ use mathlib.Core.Bool.{true, false}
 use lib.Dec.{leb, leb·suc-suc}
 use lib.IntN.{ℤ, pos, negsuc, negℤ, sucℤ, predℤ, ℤ-ind, _+ℤ_, _*ℤ_, _-ℤ_, +ℤ-one, -ℤ-one, +ℤ-assoc, +ℤ-comm, +ℤ-idl, +ℤ-idr, +ℤ-invr, *ℤ-comm, sucℤ-*ℤ, predℤ-*ℤ, sucℤ-+ℤ, predℤ-+ℤ, zero-*ℤ, negℤ-+ℤ, negℤ-sucℤ, negℤ-predℤ, negℤ-negℤ}
 use lib.Signed.{leZ, ltZ}
-use borrow.Author.Tests.{leb-true, leb-false, ltb-true, ltb-false, le-leb, le-ltb}
+use borrow.Author.Tests.{leb-true, leb-false, ltb-true, ltb-false, le-leb, le-ltb, lt-ltb}
 use Rattle.rules.proofs.Laws.Words.{by-test}
 
 -- ---- sums and products
@@ -19,7 +19,7 @@ by-ones P o s p z =
     ℤ-ind P o (λ n h. subst P (sym (+ℤ-one (pos n))) (s (pos n) h)) (λ n h. subst P (sym (-ℤ-one (negℤ (pos n)))) (p (negℤ (pos n)) h)) z
 
 -- the second and third of three summands change places
-swap : (a b c : ℤ) → a +ℤ b +ℤ c ≡ a +ℤ c +ℤ b
+pub swap : (a b c : ℤ) → a +ℤ b +ℤ c ≡ a +ℤ c +ℤ b
 swap a b c = +ℤ-assoc a b c ∙ ap (λ x. a +ℤ x) (+ℤ-comm b c) ∙ sym (+ℤ-assoc a c b)
 
 -- a sum times k is the sum of the products
@@ -67,6 +67,11 @@ add-back a b = ap (λ x. a +ℤ x) (+ℤ-comm b (negℤ a)) ∙ sym (+ℤ-assoc 
 pub pos-sub : (m n : ℕ) → n ≤ m → pos m -ℤ pos n ≡ pos (m - n)
 pos-sub m zero h = +ℤ-idr (pos m) ∙ ap pos (omega arith)
 pos-sub m (suc n) h = rw (le-ltb m (suc n) h)
+
+-- and one that is
+pub pos-below : (m n : ℕ) → m < n → pos m -ℤ pos n ≡ negsuc (n - suc m)
+pos-below m zero h = absurd (not-suc-le-zero h)
+pos-below m (suc n) h = rw (lt-ltb m (suc n) h)
 
 -- ---- the order
 

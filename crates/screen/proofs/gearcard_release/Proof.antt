@@ -9,8 +9,8 @@ use Rattle.screen.proofs.gearcard_release.Tie as tie
 release-requires : tie.Need-release-requires
 release-requires c κs = search needs
 
-verdict-of-requires : tie.Need-verdict-of-requires
-verdict-of-requires c κs = search needs
+counted-of-requires : tie.Need-counted-of-requires
+counted-of-requires c κs = search needs
 
 same-length : tie.Need-same-length
 same-length c = search needs
@@ -19,8 +19,10 @@ same-length-2 : tie.Need-same-length-2
 same-length-2 c = search needs
 
 returns : tie.Need-returns
-returns c = (c .verdict-of .ensures ∙ says-told _ _ (c .before .before .before .before .before .release .ensures .0), (search needs, search needs))
+returns c =
+    let r = c .before .before .before .before .before .release .ensures in
+    (c .counted-of .ensures .0 ∙ says-told _ _ (r .0), (c .counted-of .ensures .1 ∙ r .1 .0, (search needs, search needs)))
 
 pub gearcard-release-spec : {M : Type 1} → statement M
 gearcard-release-spec =
-    tie.close (tie.spec release-requires verdict-of-requires same-length same-length-2 returns)
+    tie.close (tie.spec release-requires counted-of-requires same-length same-length-2 returns)

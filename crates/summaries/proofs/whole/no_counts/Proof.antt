@@ -1,0 +1,14 @@
+-- `summaries::whole::no_counts` meets its contract.
+-- Assumes nothing.
+use mathlib.Core.Path.{refl}
+use Rattle.rules.specs.Words.{table}
+use Rattle.rules.specs.Summary.{no-counts}
+use Rattle.summaries.proofs.whole.no_counts.Statement.{statement}
+use Rattle.summaries.proofs.whole.no_counts.Tie as tie
+
+returns : tie.Need-returns
+unfolding no-counts table
+returns c = refl
+
+pub no-counts-spec : {M : Type 1} → statement M
+no-counts-spec = tie.close (tie.spec returns)
