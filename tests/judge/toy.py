@@ -1,0 +1,111 @@
+"""A crate of three functions, on which the judge of the trials is tried. It stands here as text: rt takes every .rt file below the root for one that it
+is to prove."""
+
+from pathlib import Path
+
+FILES = {
+    "crates.txt": "toy:\n",
+    "crates/toy/src/lib.rt": """\
+// Two numbers, three numbers, and a number that needs no proof file.
+ghost use mathlib.Core.Path.{_≡_};
+ghost use Rattle.toy.specs.Toy.{most};
+
+pub fn larger(a: u16, b: u16) -> u16
+    ensures { λ r. ⌜ r ≡ most a b ⌝ }
+{
+    if a < b {
+        return b;
+    }
+    a
+}
+
+// It calls the function above.
+pub fn largest(a: u16, b: u16, c: u16) -> u16
+    ensures { λ r. ⌜ r ≡ most (most a b) c ⌝ }
+{
+    let ab = larger(a, b);
+    larger(ab, c)
+}
+
+pub fn seven() -> u16
+    ensures { λ r. ⌜ r ≡ 7 ⌝ }
+{
+    7
+}
+""",
+    "crates/toy/specs/Lib.antt": "pub mod Toy\n",
+    "crates/toy/specs/Toy.antt": """\
+use Prim.Native.Nat.{ℕ}
+use mathlib.Core.Bool.{Bool, true, false}
+use lib.Dec.{ltb}
+
+unfoldable pub pick : Bool → ℕ → ℕ → ℕ
+pick true a b = a
+pick false a b = b
+
+unfoldable pub most : ℕ → ℕ → ℕ
+most a b = pick (ltb a b) b a
+""",
+    "crates/toy/proofs/Lib.antt": "pub mod Laws\n",
+    "crates/toy/proofs/Laws.antt": """\
+use Prim.Native.Nat.{ℕ, _<_, _≤_}
+use mathlib.Core.Path.{_≡_}
+use borrow.Author.Tests.{lt-ltb, le-ltb}
+use Rattle.toy.specs.Toy.{pick, most}
+
+pub most-right : (a b : ℕ) → a < b → b ≡ most a b
+unfolding most pick
+most-right a b h = rw (lt-ltb a b h)
+
+pub most-left : (a b : ℕ) → b ≤ a → a ≡ most a b
+unfolding most pick
+most-left a b h = rw (le-ltb a b h)
+""",
+    "crates/toy/proofs/larger/Proof.antt": """\
+use native.Mathlib.Omega.{arith}
+use Rattle.toy.proofs.Laws.{most-right, most-left}
+use Rattle.toy.proofs.larger.Statement.{statement}
+use Rattle.toy.proofs.larger.Tie as tie
+
+returns : tie.Need-returns
+returns c = most-right (c .before .args .a) (c .before .args .b) (omega arith)
+
+returns-2 : tie.Need-returns-2
+returns-2 c = most-left (c .before .args .a) (c .before .args .b) (omega arith)
+
+pub larger-spec : {M : Type 1} → statement M
+larger-spec = tie.close (tie.spec returns returns-2)
+""",
+    "crates/toy/proofs/largest/Proof.antt": """\
+use borrow.Author.Needs.{needs}
+use Rattle.toy.proofs.largest.Statement.{statement}
+use Rattle.toy.proofs.largest.Tie as tie
+
+larger-requires : tie.Need-larger-requires
+larger-requires c κs = search needs
+
+larger-requires-2 : tie.Need-larger-requires-2
+larger-requires-2 c κs = search needs
+
+returns : tie.Need-returns
+returns c = rw (c .larger2 .ensures, c .before .larger .ensures)
+
+pub largest-spec : {M : Type 1} → statement M
+largest-spec = tie.close (tie.spec larger-requires larger-requires-2 returns)
+""",
+}
+
+CODE, DEFINITION = "src/lib.rt", "specs/Toy.antt"
+HARMLESS = (CODE, "if a < b {", "if b > a {")
+
+
+def write(root: Path, trials: dict[str, tuple[str, str, str]]) -> None:
+    """The crate, with trials: of each its file, its old text and its new one."""
+    for name, text in FILES.items():
+        file = root / name
+        file.parent.mkdir(parents=True, exist_ok=True)
+        file.write_text(text)
+    folder = root / "crates/toy/trials"
+    folder.mkdir()
+    for label, (name, old, new) in trials.items():
+        (folder / f"{label}.edit").write_text(f"file: {name}\nold: {old}\nnew: {new}\n")
