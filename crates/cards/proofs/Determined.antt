@@ -1,30 +1,20 @@
 -- Each public function's contract allows one outcome. `Reads` is the contract's own reading, which the check makes of the clauses.
 -- Assumes nothing.
-use mathlib.Core.Path.{_≡_, sym, _∙_, ap}
+use mathlib.Core.Path.{_≡_, refl, sym, _∙_, ap}
 use mathlib.Core.List.{List}
 use Prim.Native.Nat.{ℕ}
 use Rattle.rules.proofs.Laws.Refusals.{said-once}
 use Rattle.once.specs.Determined.{Determined}
 use Rattle.cards.proofs.whole.work.Kinds as work-kinds
 use Rattle.cards.proofs.whole.work.Reads as work-reads
-use Rattle.cards.proofs.buttons.hold.Kinds as hold-kinds
-use Rattle.cards.proofs.buttons.hold.Reads as hold-reads
-use Rattle.cards.proofs.buttons.release.Kinds as release-kinds
-use Rattle.cards.proofs.buttons.release.Reads as release-reads
-use Rattle.cards.proofs.sample.mend.Kinds as mend-kinds
-use Rattle.cards.proofs.sample.mend.Reads as mend-reads
+use Rattle.cards.proofs.rework.sweep.Kinds as sweep-kinds
+use Rattle.cards.proofs.rework.sweep.Reads as sweep-reads
 
 pub work : Determined work-kinds.ps work-kinds.r work-reads.Asked work-reads.Learnt
 work κs a asked z z′ ws ws′ p q = (said-once z z′ (p .0 ∙ sym (q .0)), ap (λ (x : List ℕ). (tt, (tt, (tt, (x, tt))))) (p .1 ∙ sym (q .1)))
 
-pub hold : Determined hold-kinds.ps hold-kinds.r hold-reads.Asked hold-reads.Learnt
-hold κs a asked z z′ ws ws′ p q =
-    (said-once z z′ (p .0 ∙ sym (q .0)), λ i. (tt, (tt, ((p .1 .0 ∙ sym (q .1 .0)) i, ((p .1 .1 ∙ sym (q .1 .1)) i, (tt, (tt, tt)))))))
-
-pub release : Determined release-kinds.ps release-kinds.r release-reads.Asked release-reads.Learnt
-release κs a asked z z′ ws ws′ p q =
-    (said-once z z′ (p .0 ∙ sym (q .0)), λ i. (tt, (tt, ((p .1 .0 ∙ sym (q .1 .0)) i, ((p .1 .1 ∙ sym (q .1 .1)) i, (tt, tt))))))
-
-pub mend : Determined mend-kinds.ps mend-kinds.r mend-reads.Asked mend-reads.Learnt
-mend κs a asked z z′ ws ws′ p q =
-    (said-once z z′ (p .0 ∙ sym (q .0)), λ i. (tt, ((p .1 .0 ∙ sym (q .1 .0)) i, (tt, ((p .1 .1 ∙ sym (q .1 .1)) i, (tt, (tt, tt)))))))
+pub sweep : Determined sweep-kinds.ps sweep-kinds.r sweep-reads.Asked sweep-reads.Learnt
+sweep κs a asked z z′ ws ws′ p q =
+    let car = asked .0 .car in
+    let L = asked .0 .lent in
+    (refl, ap (λ (x : List ℕ). (tt, (tt, (tt, (tt, (tt, (tt, (x, (tt, tt))))))))) (p car L ∙ sym (q car L)))

@@ -2,7 +2,5 @@
 pub mod Patches
 pub mod Reworking
 pub mod Working
-pub mod Holding
-pub mod Mending
 pub mod Demands
 pub mod Determined

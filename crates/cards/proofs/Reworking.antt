@@ -18,12 +18,13 @@ use Rattle.rules.specs.Words.{if_then_else_, _and_, _or_, at, part, table, patc
 use Rattle.rules.specs.Units.{steepest, moving, rise, start, stop}
 use Rattle.rules.specs.Corrections.{gear-at, card-at, card}
 use Rattle.rules.specs.Refusals.{Check, speed, step, ends, over-ng, bad, span-fault}
-use Rattle.rules.specs.Vocabulary.{InBounds, IsTrip}
+use Rattle.rules.specs.Vocabulary.{IsTrip}
 use Rattle.rules.proofs.Laws.Words.{patch-in, clash, by-test, by-order, both, or-left, or-right, at-part, length-part}
 use Rattle.rules.proofs.Laws.Range.{natAbs-gap}
 use Rattle.rules.proofs.Laws.Trips.{trip-of, stop-le, stop-to, stop-after, stop-in, stop-standing, standing-past}
 use Rattle.rules.proofs.Laws.Checks.{passed, driven}
 use Rattle.rules.proofs.Laws.Cards.{fit-of, byte-gear}
+use Rattle.rules.specs.Inside.{InBounds}
 use Rattle.gears.specs.declared.Numbers.{Numbers}
 use Rattle.gears.specs.Parts.{Counts}
 use Rattle.gears.proofs.Parts.{ng-of}

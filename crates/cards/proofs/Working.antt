@@ -1,24 +1,20 @@
--- Each way out of the whole working, and of the quick way at a standing second.
+-- Each way out of the whole working.
 -- Assumes nothing.
-use Prim.Native.Nat.{ℕ, suc, _≤_, _<_, min}
+use Prim.Native.Nat.{ℕ, suc, min}
 use native.Mathlib.Omega.{arith}
 use mathlib.Core.Path.{_≡_, refl, sym, ap, _∙_}
 use mathlib.Core.Logic.{inl}
-use mathlib.Core.Option.{Option, none}
-use mathlib.Core.Bool.{true, false}
+use mathlib.Core.Option.{Option}
 use mathlib.Core.List.{List}
-use lib.ListN.{length, set}
-use lib.Seq.{set-out}
-use borrow.Author.Tests.{eq-eqb, ne-eqb}
+use lib.ListN.{length, set, length-set}
+use lib.Seq.{set-out, set-getD}
 use Rattle.rules.specs.declared.Vehicle.{Vehicle}
 use Rattle.rules.specs.declared.Refusal.{Refusal}
-use Rattle.rules.specs.declared.Refusal.the-variants.{HoldOverNg, HoldStanding}
 use Rattle.rules.specs.declared.Answer.{Answer}
 use Rattle.rules.specs.declared.Answer.the-variants.{Done, Refused}
-use Rattle.rules.specs.Words.{patch}
+use Rattle.rules.specs.Words.{at, patch}
 use Rattle.rules.specs.Corrections.{card-at, card}
-use Rattle.rules.specs.Refusals.{Fault, said, refuse-at, _orelse_, when, span-fault, work-fault, work-card, not-driven}
-use Rattle.rules.specs.Quick.{standing-fault}
+use Rattle.rules.specs.Refusals.{Fault, said, span-fault, work-fault, work-card}
 use Rattle.rules.proofs.Laws.Words.{by-order}
 use Rattle.rules.proofs.Laws.Trips.{standing-past}
 use Rattle.rules.proofs.Laws.Checks.{trace-in}
@@ -47,14 +43,16 @@ pub its-parts : {k : Numbers} {car : Vehicle} {vs hs old : List ℕ} → Counts 
     → Lent car k (car .ratio) (car .n) p
 its-parts {car = car} K O e = record { has = its-ratios K; speeds = refl; powers = rw e (derated-powers car (O .bounds)); bounds = O .bounds }
 
--- the whole trace begins and ends with itself
-pub whole-resting : {car : Vehicle} {vs hs old : List ℕ} → Opened car vs hs old → Resting vs 0 (length vs)
-whole-resting {vs = vs} O = record { some = trace-in vs (O .trace) .0; begins = λ z. absurd (z refl); ends = λ z. absurd (z refl) }
-
--- past the opening; no hold is replaced
+-- past the opening; nothing is asked for
 module _ {car : Vehicle} {vs hs old : List ℕ} (O : Opened car vs hs old) where
-  pub no-edit : (one : Vehicle) (g : ℕ) (f : Option Fault) → f ≡ span-fault one vs (set hs (length vs) g) 0 (length vs) → f ≡ span-fault one vs hs 0 (length vs)
-  no-edit one g f e = e ∙ ap (λ (ks : List ℕ). span-fault one vs ks 0 (length vs)) (set-out hs (length vs) g (omega (arith, O .holds-long)))
+  -- the whole trace begins and ends with itself
+  pub whole-resting : (v : ℕ) → Resting (set vs (length vs) v) 0 (length vs)
+  whole-resting v = record { some = trace-in vs (O .trace) .0; begins = λ z. absurd (z refl); ends = λ z. absurd (z (sym (length-set vs (length vs) v))) }
+
+  pub no-edit : (one : Vehicle) (v g : ℕ) (f : Option Fault) → f ≡ span-fault one (set vs (length vs) v) (set hs (length vs) g) 0 (length vs) → f ≡ span-fault one vs hs 0 (length vs)
+  no-edit one v g f e =
+      e ∙ ap (λ (us : List ℕ). span-fault one us (set hs (length vs) g) 0 (length vs)) (set-out vs (length vs) v (omega arith))
+      ∙ ap (λ (ks : List ℕ). span-fault one vs ks 0 (length vs)) (set-out hs (length vs) g (omega (arith, O .holds-long)))
 
   work-is : work-fault car vs hs old ≡ span-fault car vs hs 0 (length vs)
   unfolding work-fault
@@ -88,18 +86,3 @@ module _ {car : Vehicle} {vs hs old : List ℕ} (O : Opened car vs hs old) where
       → (said Done ≡ work-fault car vs hs old) × (new ≡ work-card car vs hs old)
   unfolding work-card said
   work-done e h c = let f = work-is ∙ said-none e h in (sym f, c ∙ whole-card ∙ left-new old (card car vs hs) f)
-
--- ---- a hold at a standing second
-
-module _ (car : Vehicle) (s g : ℕ) where
-  pub standing-over : true ≡ not-driven car g → said (Refused (HoldOverNg s)) ≡ standing-fault car s g
-  unfolding said standing-fault when refuse-at _orelse_
-  standing-over h = rw (← h)
-
-  pub standing-gear : false ≡ not-driven car g → (g ≡ 0 → ⊥) → said (Refused (HoldStanding s)) ≡ standing-fault car s g
-  unfolding said standing-fault when refuse-at _orelse_
-  standing-gear h n = rw (← h, ne-eqb g 0 n)
-
-  pub standing-clear : false ≡ not-driven car g → g ≡ 0 → said Done ≡ standing-fault car s g
-  unfolding said standing-fault when refuse-at _orelse_
-  standing-clear h e = rw (← h, eq-eqb g 0 e)

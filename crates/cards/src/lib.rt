@@ -1,11 +1,6 @@
-// The whole working of document 01, and the edits of one second: held, released, its sample mended.
-mod buttons;
-mod quick;
+// The whole working of document 01, and the sweep that works a range of the card in place.
 mod rework;
-mod sample;
 mod whole;
 
-pub use buttons::hold;
-pub use buttons::release;
-pub use sample::mend;
+pub use rework::sweep;
 pub use whole::work;

@@ -2,7 +2,7 @@
 ghost use mathlib.Core.Path.{_≡_};
 ghost use Rattle.rules.specs.Refusals.{said, work-fault, work-card};
 use crate::rework::sweep;
-use checks::Hold;
+use checks::Asked;
 use checks::Span;
 use checks::check_opening;
 use checks::check_span;
@@ -24,9 +24,10 @@ pub fn work<'a>(vehicle: Vehicle, speeds: &'a [u16], holds: &'a [u8], card: &mut
     let k = numbers_of(vehicle);
     let powers = derate(vehicle.margin, &vehicle.p, &vehicle.m, vehicle.points);
     let all = Span { lo: 0, hi: seconds };
-    // no hold is asked for: a second past the trace leaves the holds as they are
-    let none = Hold {
+    // nothing is asked for: the second lies past the trace
+    let none = Asked {
         second: seconds,
+        speed: 0,
         gear: 0,
     };
     let span = check_span(

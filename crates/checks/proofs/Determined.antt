@@ -19,8 +19,6 @@ use Rattle.checks.proofs.seconds.check_seconds.Kinds as check-seconds-k
 use Rattle.checks.proofs.seconds.check_seconds.Reads as check-seconds-reads
 use Rattle.checks.proofs.row.check_span.Kinds as check-span-kinds
 use Rattle.checks.proofs.row.check_span.Reads as check-span-reads
-use Rattle.checks.proofs.mended.check_mended.Kinds as check-mended-kinds
-use Rattle.checks.proofs.mended.check_mended.Reads as check-mended-reads
 
 -- some list of a length
 of : (n : ℕ) → length {A = ℕ} (replicate n 0) ≡ n
@@ -49,6 +47,3 @@ check-seconds κs a asked z z′ ws ws′ p q = let H = built-has (a .0) (now (a
 
 pub check-span : Determined check-span-kinds.ps check-span-kinds.r check-span-reads.Asked check-span-reads.Learnt
 check-span κs a asked z z′ ws ws′ p q = let car = asked .0 .car in let L = asked .0 .lent in (said-once z z′ (p car L ∙ sym (q car L)), refl)
-
-pub check-mended : Determined check-mended-kinds.ps check-mended-kinds.r check-mended-reads.Asked check-mended-reads.Learnt
-check-mended κs a asked z z′ ws ws′ p q = let car = asked .0 .car in let L = asked .0 .lent in (said-once z z′ (p car L ∙ sym (q car L)), refl)

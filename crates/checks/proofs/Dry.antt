@@ -15,9 +15,9 @@ use borrow.Author.Tests.{ltb-false, lt-ltb, le-leb, lt-leb, eq-eqb, ne-eqb, eqb-
 use Rattle.rules.specs.declared.Vehicle.{Vehicle}
 use Rattle.rules.specs.Words.{_and_, _or_, at, part, first, pass}
 use Rattle.rules.specs.Units.{fastest, steepest, moving, rise, start, stop}
-use Rattle.rules.specs.Corrections.{closing, place-of, first-at, place-at}
+use Rattle.rules.specs.Corrections.{closing, role-of, first-at}
 use Rattle.rules.specs.Refusals.{speed, step, ends, no-gear, checks, bad, seconds-fault}
-use Rattle.rules.specs.Vocabulary.{IsTrip}
+use Rattle.rules.specs.Vocabulary.{IsTrip, role-at}
 use Rattle.rules.proofs.Laws.Words.{clash, by-test, by-order, by-eq, both, and-no, or-left, or-right, at-part, length-part}
 use Rattle.rules.proofs.Laws.Range.{natAbs-gap}
 use Rattle.rules.proofs.Laws.Walk.{Left, again}
@@ -51,13 +51,13 @@ end-second i n o = elim o [ inl x ↦ rw (eq-eqb i 0 x) | inr x ↦ by-test (eqb
 module _ (car : Vehicle) (vs hs : List ℕ) (lo hi : ℕ) (e : seconds-fault car vs hs lo hi ≡ none) where
   speed-passed : (i : ℕ) → lo ≤ i → i < hi → at vs i ≤ fastest
   unfolding seconds-fault checks bad
-  speed-passed i a b = ltb-false _ _ (listed car vs hs lo hi checks e 0 (lit< tt) i a b)
+  speed-passed i a b = ltb-false _ _ (listed (λ c. bad c car vs hs lo) lo hi checks e 0 (lit< tt) i a b)
 
   -- the trace's first or last second stands
   end-stands : (i : ℕ) → lo ≤ i → i < hi → (i ≡ 0) ⊎ (suc i ≡ length vs) → moving (at vs i) ≡ false
   unfolding seconds-fault checks bad
   end-stands i a b o =
-      by-test (moving (at vs i)) (λ m. clash (both m (end-second i (length vs) o)) (listed car vs hs lo hi checks e 2 (lit< tt) i a b)) (λ m. m)
+      by-test (moving (at vs i)) (λ m. clash (both m (end-second i (length vs) o)) (listed (λ c. bad c car vs hs lo) lo hi checks e 2 (lit< tt) i a b)) (λ m. m)
 
   -- so that a span which begins and ends with a standing second, or with the trace, begins and ends with a standing second
   module _ (R : Resting vs lo hi) (b : hi ≤ length vs) where
@@ -120,8 +120,8 @@ module _ {vs hs : List ℕ} {a b run i : ℕ} (W : OnWay vs hs a b run i) where
 
   module _ (car : Vehicle) (ks : List ℕ) (same : length ks ≡ length hs) {before : ℕ} (last : (i ≡ a → ⊥) → before ≡ first-at car vs ks (i - 1)) where
     -- what it is in its trip
-    place-here : place-of car (eqb i a) (leb run (i - a)) before ≡ place-at car vs ks i
-    unfolding place-at place-of
+    place-here : role-of car (eqb i a) (leb run (i - a)) before ≡ role-at car vs ks i
+    unfolding role-at role-of
     place-here =
         let s : start vs i ≡ a = trip-start vs its-trip i (W .since) (W .until) in
         by-order a i

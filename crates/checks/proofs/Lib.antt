@@ -1,4 +1,5 @@
 -- What belongs to no one function: laws of the definitions as the code meets them.
+pub mod Through
 pub mod Rows
 pub mod OnePass
 pub mod Scans

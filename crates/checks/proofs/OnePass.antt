@@ -87,17 +87,17 @@ module _ (car : Vehicle) (vs hs : List ℕ) (lo i : ℕ) where
       let l : n < check-number c = ltb-true _ _ (and-left _ _ r) in
       if-ind (λ x. n < x) (bad c car vs hs lo i) (λ t. l) (λ t. omega (arith, no-above (check-number c) cs (and-right _ _ r)))
 
-  fault-above : (n : ℕ) (cs : List Check) → rises n cs ≡ true → Above n (fault-of car vs hs lo i cs)
+  fault-above : (n : ℕ) (cs : List Check) → rises n cs ≡ true → Above n (fault-of (λ c. bad c car vs hs lo) lo i cs)
   unfolding fault-of rises Above
   fault-above n [] r = ltb-true n 10 r
   fault-above n (c ∷ cs) r =
       let l : n < check-number c = ltb-true _ _ (and-left _ _ r) in
-      let rest : Above (check-number c) (fault-of car vs hs lo i cs) = fault-above (check-number c) cs (and-right _ _ r) in
-      above-row n (check-number c) _ (fault-of car vs hs lo i cs) l (above-less n (check-number c) (fault-of car vs hs lo i cs) l rest)
+      let rest : Above (check-number c) (fault-of (λ c. bad c car vs hs lo) lo i cs) = fault-above (check-number c) cs (and-right _ _ r) in
+      above-row n (check-number c) _ (fault-of (λ c. bad c car vs hs lo) lo i cs) l (above-less n (check-number c) (fault-of (λ c. bad c car vs hs lo) lo i cs) l rest)
 
   -- the key: over checks whose numbers rise, second i adds its first check that fails, and only where that number is the lowest yet
   fault-more : (n : ℕ) (cs : List Check) → rises n cs ≡ true → lo ≤ i
-      → fault-of car vs hs lo (suc i) cs ≡ better (fault-of car vs hs lo i cs) (fault-no car vs hs lo i cs) i
+      → fault-of (λ c. bad c car vs hs lo) lo (suc i) cs ≡ better (fault-of (λ c. bad c car vs hs lo) lo i cs) (fault-no car vs hs lo i cs) i
   unfolding fault-of fault-no rises better kept
   fault-more n [] r h = refl
   fault-more n (c ∷ cs) r h =
@@ -106,7 +106,7 @@ module _ (car : Vehicle) (vs hs : List ℕ) (lo i : ℕ) where
       let z : suc i - lo ≡ suc (i - lo) = omega arith in
       let y : lo + (i - lo) ≡ i = omega arith in
       rw (z, first-last (bad c car vs hs lo) (i - lo) lo, y, fault-more m cs up h)
-      (row-better m (fault-no car vs hs lo i cs) i (first (bad c car vs hs lo) lo (i - lo)) (bad c car vs hs lo i) (fault-of car vs hs lo i cs)
+      (row-better m (fault-no car vs hs lo i cs) i (first (bad c car vs hs lo) lo (i - lo)) (bad c car vs hs lo i) (fault-of (λ c. bad c car vs hs lo) lo i cs)
       (rises-below m cs up) (no-above m cs up) (fault-above m cs up))
 
 -- the numbers of the checks 4 to 9 rise
@@ -115,7 +115,7 @@ unfolding checks rises check-number _and_
 table-rises = refl
 
 -- of no seconds nothing is refused
-none-yet : (car : Vehicle) (vs hs : List ℕ) (lo : ℕ) (cs : List Check) → fault-of car vs hs lo lo cs ≡ none
+none-yet : (car : Vehicle) (vs hs : List ℕ) (lo : ℕ) (cs : List Check) → fault-of (λ c. bad c car vs hs lo) lo lo cs ≡ none
 unfolding fault-of first refuse-at _orelse_
 none-yet car vs hs lo [] = refl
 none-yet car vs hs lo (c ∷ cs) = rw sub-self (none-yet car vs hs lo cs)
@@ -139,7 +139,7 @@ pub record Kept (P : Vehicle → Type 0) (cs : List Check) (vs hs : List ℕ) (l
   pub since : lo ≤ i
   pub until : i ≤ hi
   pub best-from : 4 ≤ best
-  pub same : (car : Vehicle) → P car → fault-of car vs hs lo i cs ≡ kept best place
+  pub same : (car : Vehicle) → P car → fault-of (λ c. bad c car vs hs lo) lo i cs ≡ kept best place
 
 module _ (P : Vehicle → Type 0) (cs : List Check) {vs hs : List ℕ} {lo hi : ℕ} where
   -- of no seconds nothing is refused
@@ -152,7 +152,7 @@ module _ (P : Vehicle → Type 0) (cs : List Check) {vs hs : List ℕ} {lo hi : 
     -- second i's first check that fails, of which the code knows the number; some vehicle is of this kind
     module _ (one : Vehicle) (is-one : P one) {no : ℕ} (is : (car : Vehicle) → P car → no ≡ fault-no car vs hs lo i cs) (h : i < hi) where
       -- the refusal of one second more, from what is kept
-      next : (car : Vehicle) → P car → fault-of car vs hs lo (suc i) cs ≡ better (kept best place) no i
+      next : (car : Vehicle) → P car → fault-of (λ c. bad c car vs hs lo) lo (suc i) cs ≡ better (kept best place) no i
       next car H = fault-more car vs hs lo i 3 cs up (inv .since) ∙ rw (inv .same car H, ← is car H)
 
       -- a lower number than any before is kept, with this second
@@ -176,5 +176,5 @@ module _ (P : Vehicle → Type 0) (cs : List Check) {vs hs : List ℕ} {lo hi : 
       }
 
   -- past the last second, what is kept is the span's refusal
-  pub done : {i best place : ℕ} → Kept P cs vs hs lo hi i best place → hi ≤ i → (car : Vehicle) → P car → kept best place ≡ fault-of car vs hs lo hi cs
+  pub done : {i best place : ℕ} → Kept P cs vs hs lo hi i best place → hi ≤ i → (car : Vehicle) → P car → kept best place ≡ fault-of (λ c. bad c car vs hs lo) lo hi cs
   done {i} inv h car H = let e : i ≡ hi = omega (arith, inv .until) in rw e at (sym (inv .same car H))

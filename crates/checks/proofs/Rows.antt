@@ -15,7 +15,7 @@ use Rattle.rules.specs.declared.Answer.the-variants.{Done, Refused}
 use Rattle.rules.specs.Words.{_and_, within}
 use Rattle.rules.specs.Units.{longest}
 use Rattle.rules.specs.Refusals.{Fault, said, refuse-at, _orelse_, when, trace-fault, room-fault, vehicle-fault, left}
-use Rattle.rules.specs.Vocabulary.{InBounds}
+use Rattle.rules.specs.Inside.{InBounds}
 use Rattle.rules.proofs.Laws.Checks.{orelse-none, none-orelse, orelse-assoc, rooms-in, vehicle-in}
 use Rattle.gears.specs.declared.Numbers.{Numbers}
 use Rattle.gears.specs.Parts.{Counts}
@@ -35,11 +35,11 @@ unfolding said
 said-none e h = sym e ∙ ap said h
 
 -- a refusal leaves what was there
-pub left-old : {x : Answer} {r : Refusal} {f : Option Fault} (old new : List ℕ) → said x ≡ f → x ≡ Refused r → old ≡ left f old new
+pub left-old : {A : Type 0} {x : Answer} {r : Refusal} {f : Option Fault} (old new : A) → said x ≡ f → x ≡ Refused r → old ≡ left f old new
 unfolding said left
 left-old old new e h = rw (← e, h)
 
-pub left-new : {f : Option Fault} (old new : List ℕ) → f ≡ none → new ≡ left f old new
+pub left-new : {A : Type 0} {f : Option Fault} (old new : A) → f ≡ none → new ≡ left f old new
 unfolding left
 left-new old new e = rw e
 

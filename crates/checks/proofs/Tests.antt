@@ -12,7 +12,7 @@ use Rattle.rules.specs.declared.Vehicle.{Vehicle}
 use Rattle.rules.specs.Words.{if_then_else_, _and_, _or_, at, highest}
 use Rattle.rules.specs.Units.{fastest, steepest, moving}
 use Rattle.rules.specs.Gears.{engine, under-nmax, fits}
-use Rattle.rules.specs.Corrections.{place-at}
+use Rattle.rules.specs.Vocabulary.{role-at}
 use Rattle.rules.specs.Refusals.{not-driven, speed, step, ends, over-ng, at-rest, over-rev, no-gear, check-number, checks, bad}
 use Rattle.rules.proofs.Laws.Words.{by-order, and-no}
 use Rattle.rules.proofs.Laws.Cards.{first-at-is}
@@ -128,9 +128,9 @@ module _ (car : Vehicle) (vs hs : List ℕ) (lo i : ℕ) where
 
   -- a second without one wants a gear exactly where no gear fits
   pub gear-free : length hs ≡ length vs → moving (at vs i) ≡ true → at hs i ≡ 0
-      → bad no-gear car vs hs lo i ≡ eqb (highest (fits car (place-at car vs hs i) (at vs i)) (car .ng)) 0
+      → bad no-gear car vs hs lo i ≡ eqb (highest (fits car (role-at car vs hs i) (at vs i)) (car .ng)) 0
   unfolding bad _and_
-  gear-free s m e = rw (m, first-at-is car vs hs s i m, eq-eqb (at hs i) 0 e) (choice-none-fits car (place-at car vs hs i) (at vs i) _)
+  gear-free s m e = rw (m, first-at-is car vs hs s i m, eq-eqb (at hs i) 0 e) (choice-none-fits car (role-at car vs hs i) (at vs i) _)
 
 -- ---- the first check that fails, of those that look at a hold
 

@@ -11,18 +11,20 @@ use lib.Dec.{eqb}
 use lib.ListN.{length, drop}
 use borrow.Author.Tests.{le-leb, leb-false, eqb-true, eqb-false, ne-eqb, not-true, eq-eqb}
 use Rattle.rules.specs.declared.Vehicle.{Vehicle}
-use Rattle.rules.specs.declared.Place.{Place}
-use Rattle.rules.specs.declared.Place.the-variants.{AfterLow}
+use Rattle.rules.specs.declared.Role.{Role}
+use Rattle.rules.specs.declared.Role.the-variants.{AfterLow}
 use Rattle.rules.specs.Words.{if_then_else_, _and_, _or_, at, first, highest}
 use Rattle.rules.specs.Units.{low, fastest, steepest, moving, start}
 use Rattle.rules.specs.Gears.{is-first, minimum, engine, under-nmax, over-minimum, allowed, fits}
-use Rattle.rules.specs.Corrections.{closing, place-of, first-at, place-at}
-use Rattle.rules.specs.Refusals.{Fault, refuse-at, _orelse_, step, no-gear, check-number, last-check, bad, fault-of, seconds-fault, gear-fault}
+use Rattle.rules.specs.Corrections.{closing, role-of, first-at}
+use Rattle.rules.specs.Refusals.{Fault, refuse-at, _orelse_, step, no-gear, bad, seconds-fault}
 use Rattle.rules.proofs.Laws.Words.{clash, by-test, by-order, by-eq, first-none}
 use Rattle.rules.proofs.Laws.Walk.{one-holds}
 use Rattle.rules.proofs.Laws.Trips.{start-le}
 use Rattle.rules.proofs.Laws.Checks.{step-passed}
 use Rattle.rules.proofs.Theorems.{fits-at-any}
+use Rattle.rules.specs.Vocabulary.{role-at}
+use Rattle.rules.specs.Inside.{gear-fault}
 use Rattle.gears.specs.declared.Numbers.{Numbers}
 use Rattle.gears.specs.Parts.{Has, low-in}
 use Rattle.gears.proofs.Parts.{low-of, ng-of, nmax-of, engine-of}
@@ -46,15 +48,15 @@ reached a b v m most over on =
     (λ h. let e : a ≡ 0 = omega arith in let z : 1000 * most < 0 * v = rw e at over in absurd (omega (arith, zero-mul v)))
 
 -- a second is its trip's first where its trip begins
-first-place : (car : Vehicle) (begins closes : Bool) (before : ℕ) → is-first (place-of car begins closes before) ≡ begins
-unfolding place-of is-first
+first-place : (car : Vehicle) (begins closes : Bool) (before : ℕ) → is-first (role-of car begins closes before) ≡ begins
+unfolding role-of is-first
 first-place car true closes before = refl
 first-place car false true before = refl
 first-place car false false before = by-test (eqb before (low car)) (λ t. rw t) (λ t. rw t)
 
 module _ {car : Vehicle} {k : Numbers} {ratio : List ℕ} (H : Has car k ratio) (v : ℕ) where
   -- the lowest gear has no minimum, and may fit at any second
-  low-fits : (here : Place) → at ratio (low-in k - 1) * v ≤ 1000 * k .nmax → fits car here v (low-in k) ≡ true
+  low-fits : (here : Role) → at ratio (low-in k - 1) * v ≤ 1000 * k .nmax → fits car here v (low-in k) ≡ true
   unfolding fits allowed over-minimum under-nmax _and_ _or_
   low-fits here h =
       let l : engine car (low-in k) v ≤ 1000 * car .nmax = omega (arith, engine-of H (low-in k) v, nmax-of (H .counts)) in
@@ -70,7 +72,7 @@ module _ {car : Vehicle} {k : Numbers} {ratio : List ℕ} (H : Has car k ratio) 
       let to : engine car (g + 1) v ≤ 1000 * car .nmax = omega (arith, nmax-of (H .counts)) in
       rw (low-of (H .counts), le-leb (low-in k) (g + 1) (omega arith), ne-eqb (g + 1) (low-in k) (λ z. omega arith), le-leb _ _ up, le-leb _ _ to)
 
-  module _ (on : Each (Follows k ratio) (low-in k) (k .ng)) (here : Place) (later : is-first here ≡ false) where
+  module _ (on : Each (Follows k ratio) (low-in k) (k .ng)) (here : Role) (later : is-first here ≡ false) where
     -- from a gear that turns no faster than nmax down to the floor, which fits: it is the lowest, or the gear below it turns past nmax
     floor-fits : (j : ℕ) → low-in k ≤ suc j → j < k .ng → at ratio j * v ≤ 1000 * k .nmax → true ≡ not (eqb (highest (fits car here v) (k .ng)) 0)
     floor-fits zero b a h = let e : low-in k ≡ 1 = omega arith in one-holds _ (k .ng) (low-in k) (omega arith) (omega arith) (low-fits here (rw e h))
@@ -87,7 +89,7 @@ module _ {car : Vehicle} {k : Numbers} {ratio : List ℕ} (H : Has car k ratio) 
         (λ under. floor-fits j (omega arith) (omega arith) under))
 
   -- so that some gear fits at every speed up to `most`, and at the first second of a trip at every speed up to 159
-  some-gear : {most : ℕ} → NoGap k ratio most → v ≤ most → (here : Place) → (is-first here ≡ true → v ≤ 159)
+  some-gear : {most : ℕ} → NoGap k ratio most → v ≤ most → (here : Role) → (is-first here ≡ true → v ≤ 159)
       → true ≡ not (eqb (highest (fits car here v) (k .ng)) 0)
   some-gear d a here b =
       by-test (is-first here)
@@ -125,13 +127,13 @@ module _ {car : Vehicle} {k : Numbers} {ratio : List ℕ} (H : Has car k ratio) 
         (λ s. let u : at vs (i - 1) < 10 = leb-false 10 (at vs (i - 1)) s in omega arith)
 
     gear-good : bad no-gear car vs hs lo i ≡ false
-    unfolding place-at
+    unfolding role-at
     gear-good =
         by-test (moving (at vs i))
         (λ m. by-test (eqb (at hs i) 0)
         (λ t.
         let free : at hs i ≡ 0 = eqb-true _ _ t in
-        let here = place-at car vs hs i in
+        let here = role-at car vs hs i in
         gear-free car vs hs lo i rooms m free
         ∙ ap (λ (g : ℕ). eqb (highest (fits car here (at vs i)) g) 0) (ng-of (H .counts))
         ∙ not-true _ (sym (some-gear H (at vs i) gears (speeds i since until) here (λ f. first-slow m (sym (first-place car (eqb i (start vs i)) (closing (drop i vs)) (first-at car vs hs (i - 1))) ∙ f)))))
@@ -139,16 +141,16 @@ module _ {car : Vehicle} {k : Numbers} {ratio : List ℕ} (H : Has car k ratio) 
         (λ m. sym (gear-standing car vs hs lo i m))
 
   pub no-want : none ≡ gear-fault car vs hs lo hi
-  unfolding gear-fault last-check fault-of refuse-at _orelse_
+  unfolding gear-fault refuse-at _orelse_
   no-want = rw (first-none (bad no-gear car vs hs lo) (hi - lo) lo (λ i a b. gear-good i a (omega arith)))
 
 -- ---- the exact pass
 
 -- the second found, or none
 pub wanted : (car : Vehicle) (vs hs : List ℕ) (lo hi i : ℕ) → some i ≡ first (bad no-gear car vs hs lo) lo (hi - lo) → some (record { no = 10; spot = i }) ≡ gear-fault car vs hs lo hi
-unfolding gear-fault last-check fault-of check-number refuse-at _orelse_
+unfolding gear-fault refuse-at _orelse_
 wanted car vs hs lo hi i e = rw (← e)
 
 pub not-wanted : (car : Vehicle) (vs hs : List ℕ) (lo hi : ℕ) → none ≡ first (bad no-gear car vs hs lo) lo (hi - lo) → none ≡ gear-fault car vs hs lo hi
-unfolding gear-fault last-check fault-of refuse-at _orelse_
+unfolding gear-fault refuse-at _orelse_
 not-wanted car vs hs lo hi e = rw (← e)

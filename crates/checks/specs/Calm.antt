@@ -7,10 +7,11 @@ use mathlib.Core.Bool.{false}
 use mathlib.Core.List.{List}
 use lib.ListN.{length}
 use Rattle.rules.specs.declared.Vehicle.{Vehicle}
-use Rattle.rules.specs.declared.Place.the-variants.{AfterLow}
+use Rattle.rules.specs.declared.Role.the-variants.{AfterLow}
 use Rattle.rules.specs.Words.{at}
-use Rattle.rules.specs.Units.{moving}
+use Rattle.rules.specs.Units.{fastest, steepest, moving}
 use Rattle.rules.specs.Gears.{minimum}
+use Rattle.rules.specs.Refusals.{step, checks, bad}
 use Rattle.gears.specs.declared.Numbers.{Numbers}
 use Rattle.gears.specs.Parts.{low-in, Counts, Has}
 use Rattle.checks.specs.Checks.{fault-no, hold-checks}
@@ -59,6 +60,21 @@ pub record NoGap (k : Numbers) (ratio : List ℕ) (most : ℕ) : Type 0 where
   pub at-most : at ratio (k .ng - 1) * most ≤ 1000 * k .nmax
   pub covered : Each (Follows k ratio) (low-in k) (k .ng)
 
--- a second passes the checks that look at a hold, if it is held
-abbrev pub HoldPasses : Numbers → List ℕ → List ℕ → List ℕ → ℕ → ℕ → Type 0
-HoldPasses k ratio vs hs lo i = at hs i ≢ 0 → (car : Vehicle) → Has car k ratio → 10 ≡ fault-no car vs hs lo i hold-checks
+-- a second of this speed passes the checks that look at a hold, if it is held in this gear
+abbrev pub HoldPasses : Numbers → List ℕ → ℕ → ℕ → Type 0
+HoldPasses k ratio v g = g ≢ 0 → (car : Vehicle) → Has car k ratio → (vs hs : List ℕ) (lo i : ℕ) → at vs i ≡ v → at hs i ≡ g → 10 ≡ fault-no car vs hs lo i hold-checks
+
+-- so second i
+abbrev pub HoldsPass : Numbers → List ℕ → List ℕ → List ℕ → ℕ → Type 0
+HoldsPass k ratio vs hs i = HoldPasses k ratio (at vs i) (at hs i)
+
+-- nothing is wrong with the speeds, the steps and the holds from lo up to hi
+pub record Quiet (k : Numbers) (ratio vs hs : List ℕ) (lo hi : ℕ) : Type 0 where
+  pub speeds : AtMost (at vs) lo hi fastest
+  pub steps : AtMost (gap-at vs) (lo + 1) hi steepest
+  pub holds : Each (HoldsPass k ratio vs hs) lo hi
+
+-- second s, held in gear g, fails none of the checks 4 to 9, and the step from it to the next is none too large
+pub record OwnPasses (k : Numbers) (ratio vs : List ℕ) (g lo hi s : ℕ) : Type 0 where
+  pub here : (car : Vehicle) → Has car k ratio → (hs : List ℕ) → at hs s ≡ g → 10 ≡ fault-no car vs hs lo s checks
+  pub next : s + 1 < hi → (car : Vehicle) (hs : List ℕ) → bad step car vs hs lo (s + 1) ≡ false

@@ -1,30 +1,31 @@
-// A cheap test of a span: what it lets through passes checks 4 to 9, and what it does not is judged second by second. Its loops over the
-// speeds neither branch nor leave early, so that several seconds are looked at at once.
+// A cheap test of a span: what it lets through passes checks 4 to 9, and what it does not is judged second by second. It is made of the pieces before and
+// after the second that is asked for, which are as they are written; that second itself is judged. Its loops over the speeds neither branch nor leave
+// early, so that several seconds are looked at at once.
 ghost use mathlib.Core.Path.{_≡_};
 ghost use mathlib.Core.Bool.{true};
 ghost use mathlib.Core.Option.{none};
 ghost use Prim.Native.Nat.{_+_, _≤_};
-ghost use lib.ListN.{set};
 ghost use Rattle.rules.specs.declared.Vehicle.{Vehicle};
 ghost use Rattle.rules.specs.Words.{at};
 ghost use Rattle.rules.specs.Refusals.{seconds-fault};
 ghost use Rattle.gears.specs.Parts.{Has};
-ghost use Rattle.checks.specs.Checks.{Spanned};
-ghost use Rattle.checks.specs.Calm.{Seconds, Each, AtMost, gap-at, Stands, HoldPasses};
-use crate::Hold;
-use crate::Sample;
+ghost use Rattle.checks.specs.Asked.{speeds-with, holds-with};
+ghost use Rattle.checks.specs.Checks.{TraceSecond, Spanned};
+ghost use Rattle.checks.specs.Calm.{Seconds, Around, Each, AtMost, gap-at, Stands, HoldsPass, Quiet, OwnPasses};
+use crate::Asked;
 use crate::Span;
+use crate::seconds::fault_at;
 use crate::seconds::gap;
 use crate::seconds::held_fault;
-use crate::seconds::hold_at;
 use crate::seconds::speed_at;
+use crate::seconds::step_over;
 use gears::Numbers;
 use rules::FASTEST;
 use rules::STEEPEST;
 use rules::moving;
 
 // The larger of two.
-pub fn larger(a: u16, b: u16) -> u16
+fn larger(a: u16, b: u16) -> u16
     ensures first { λ r. ⌜ a ≤ r ⌝ }
     ensures second { λ r. ⌜ b ≤ r ⌝ }
 {
@@ -46,7 +47,7 @@ fn higher(a: u8, b: u8) -> u8
 }
 
 // The highest speed of a span.
-pub fn fastest(speeds: &[u16], span: Span) -> u16
+fn fastest(speeds: &[u16], span: Span) -> u16
     requires { ⌜ Seconds (now speeds) (span .lo) (span .hi) ⌝ }
     ensures { λ r. ⌜ AtMost (at (now (speeds .entry))) (span .lo) (span .hi) r ⌝ }
 {
@@ -60,7 +61,7 @@ pub fn fastest(speeds: &[u16], span: Span) -> u16
 }
 
 // The largest step between two seconds of a span, up or down.
-pub fn steepest(speeds: &[u16], span: Span) -> u16
+fn steepest(speeds: &[u16], span: Span) -> u16
     requires { ⌜ Seconds (now speeds) (span .lo) (span .hi) ⌝ }
     ensures { λ r. ⌜ AtMost (gap-at (now (speeds .entry))) (span .lo + 1) (span .hi) r ⌝ }
 {
@@ -73,24 +74,8 @@ pub fn steepest(speeds: &[u16], span: Span) -> u16
     most
 }
 
-// Whether a span begins and ends with a standing second: then check 6 passes, and the step into each of its trips lies in the span.
-pub fn stands(speeds: &[u16], span: Span) -> bool
-    requires { ⌜ Seconds (now speeds) (span .lo) (span .hi) ⌝ }
-    ensures { λ r. ⌜ (r ≡ true → Stands (now (speeds .entry)) (span .lo) (span .hi)) ⌝ }
-{
-    let lo = span.lo;
-    let hi = span.hi;
-    if hi <= lo {
-        return false;
-    }
-    if moving(speeds[lo]) {
-        return false;
-    }
-    !moving(speeds[hi - 1])
-}
-
 // The highest hold of a span: 0 where no second is held.
-pub fn most_held(holds: &[u8], span: Span) -> u8
+fn most_held(holds: &[u8], span: Span) -> u8
     requires { ⌜ Seconds (now holds) (span .lo) (span .hi) ⌝ }
     ensures { λ r. ⌜ AtMost (at (now (holds .entry))) (span .lo) (span .hi) r ⌝ }
 {
@@ -104,23 +89,21 @@ pub fn most_held(holds: &[u8], span: Span) -> u8
 }
 
 // Whether each held second passes 7, 8 and 9, one after the other.
-pub fn each_passes<'a>(
+fn each_passes<'a>(
     k: Numbers,
     ratio: &'a [u16; 10],
     speeds: &'a [u16],
     holds: &'a [u8],
-    sample: Sample,
-    hold: Hold,
     span: Span,
 ) -> bool
     requires { ⌜ Spanned k (now speeds) (now holds) (span .lo) (span .hi) ⌝ }
-    ensures { λ r. ⌜ (r ≡ true → Each (HoldPasses k (now (ratio .entry)) (set (now (speeds .entry)) (sample .second) (sample .speed)) (set (now (holds .entry)) (hold .second) (hold .gear)) (span .lo)) (span .lo) (span .hi)) ⌝ }
+    ensures { λ r. ⌜ (r ≡ true → Each (HoldsPass k (now (ratio .entry)) (now (speeds .entry)) (now (holds .entry))) (span .lo) (span .hi)) ⌝ }
 {
     let mut i = span.lo;
     while i < span.hi {
-        let held = hold_at(holds, hold, i);
+        let held = holds[i];
         if held != 0 {
-            if held_fault(k, ratio, speed_at(speeds, sample, i), held) != 10 {
+            if held_fault(k, ratio, speeds[i], held) != 10 {
                 return false;
             }
         }
@@ -129,58 +112,118 @@ pub fn each_passes<'a>(
     true
 }
 
-// The same. Where no second has a hold, only the one that is asked for can be held.
-fn holds_pass<'a>(
+// Whether nothing is wrong with the speeds, the steps and the holds of a piece in which nothing is asked for, by the highest speed and the largest step
+// alone where no second is held.
+fn quiet<'a>(
     k: Numbers,
     ratio: &'a [u16; 10],
     speeds: &'a [u16],
     holds: &'a [u8],
-    hold: Hold,
-    span: Span,
+    piece: Span,
 ) -> bool
-    requires { ⌜ Spanned k (now speeds) (now holds) (span .lo) (span .hi) ⌝ }
-    ensures { λ r. ⌜ (r ≡ true → Each (HoldPasses k (now (ratio .entry)) (now (speeds .entry)) (set (now (holds .entry)) (hold .second) (hold .gear)) (span .lo)) (span .lo) (span .hi)) ⌝ }
+    requires { ⌜ Spanned k (now speeds) (now holds) (piece .lo) (piece .hi) ⌝ }
+    ensures { λ r. ⌜ (r ≡ true → Quiet k (now (ratio .entry)) (now (speeds .entry)) (now (holds .entry)) (piece .lo) (piece .hi)) ⌝ }
 {
-    if most_held(holds, span) != 0 {
-        let none = Sample {
-            second: speeds.len(),
-            speed: 0,
-        };
-        return each_passes(k, ratio, speeds, holds, none, hold, span);
+    if STEEPEST < steepest(speeds, piece) {
+        return false;
     }
-    if hold.second < span.lo {
+    if FASTEST < fastest(speeds, piece) {
+        return false;
+    }
+    if most_held(holds, piece) == 0 {
         return true;
     }
-    if span.hi <= hold.second {
-        return true;
-    }
-    if hold.gear == 0 {
-        return true;
-    }
-    let second = hold.second;
-    held_fault(k, ratio, speeds[second], hold.gear) == 10
+    each_passes(k, ratio, speeds, holds, piece)
 }
 
-// Whether nothing is wrong in the span, by the highest speed and the largest step alone where no second is held.
+// Whether the second that is asked for passes, and the step from it to the next.
+fn own_passes<'a>(
+    k: Numbers,
+    ratio: &'a [u16; 10],
+    speeds: &'a [u16],
+    asked: Asked,
+    span: Span,
+) -> bool
+    requires { ⌜ TraceSecond k (now speeds) (asked .second) × Around (now speeds) (span .lo) (span .hi) (asked .second) ⌝ }
+    ensures { λ r. ⌜ (r ≡ true → OwnPasses k (now (ratio .entry)) (speeds-with asked (now (speeds .entry))) (asked .gear) (span .lo) (span .hi) (asked .second)) ⌝ }
+{
+    let s = asked.second;
+    if fault_at(k, ratio, speeds, asked, asked.gear, span.lo, s) != 10 {
+        return false;
+    }
+    let next = s + 1;
+    if span.hi <= next {
+        return true;
+    }
+    !step_over(speeds, asked, span.lo, next)
+}
+
+// Whether a span begins and ends with a standing second: then check 6 passes, and the step into each of its trips lies in the span.
+fn stands(speeds: &[u16], asked: Asked, span: Span) -> bool
+    requires { ⌜ Seconds (now speeds) (span .lo) (span .hi) ⌝ }
+    ensures { λ r. ⌜ (r ≡ true → Stands (speeds-with asked (now (speeds .entry))) (span .lo) (span .hi)) ⌝ }
+{
+    let lo = span.lo;
+    let hi = span.hi;
+    if hi <= lo {
+        return false;
+    }
+    let first = speed_at(speeds, asked, lo);
+    if moving(first) {
+        return false;
+    }
+    let last = speed_at(speeds, asked, hi - 1);
+    !moving(last)
+}
+
+// Whether nothing is wrong in the span.
 pub fn calm<'a>(
     k: Numbers,
     ratio: &'a [u16; 10],
     speeds: &'a [u16],
     holds: &'a [u8],
-    hold: Hold,
+    asked: Asked,
     span: Span,
 ) -> bool
-    requires { ⌜ Spanned k (now speeds) (now holds) (span .lo) (span .hi) ⌝ }
-    ensures { λ r. ⌜ (r ≡ true → (car : Vehicle) → Has car k (now (ratio .entry)) → none ≡ seconds-fault car (now (speeds .entry)) (set (now (holds .entry)) (hold .second) (hold .gear)) (span .lo) (span .hi)) ⌝ }
+    requires { ⌜ Spanned k (now speeds) (now holds) (span .lo) (span .hi) × (span .lo ≤ asked .second) ⌝ }
+    ensures { λ r. ⌜ (r ≡ true → (car : Vehicle) → Has car k (now (ratio .entry)) → none ≡ seconds-fault car (speeds-with asked (now (speeds .entry))) (holds-with asked (now (holds .entry))) (span .lo) (span .hi)) ⌝ }
 {
-    if !stands(speeds, span) {
+    if !stands(speeds, asked, span) {
         return false;
     }
-    if STEEPEST < steepest(speeds, span) {
+    let s = asked.second;
+    if span.hi <= s {
+        return quiet(k, ratio, speeds, holds, span);
+    }
+    if !quiet(k, ratio, speeds, holds, Span { lo: span.lo, hi: s }) {
         return false;
     }
-    if FASTEST < fastest(speeds, span) {
+    let after = Span {
+        lo: s + 1,
+        hi: span.hi,
+    };
+    if !quiet(k, ratio, speeds, holds, after) {
         return false;
     }
-    holds_pass(k, ratio, speeds, holds, hold, span)
+    own_passes(k, ratio, speeds, asked, span)
+}
+
+// The highest speed of the span.
+pub fn fastest_asked(speeds: &[u16], asked: Asked, span: Span) -> u16
+    requires { ⌜ Seconds (now speeds) (span .lo) (span .hi) × (span .lo ≤ asked .second) ⌝ }
+    ensures { λ r. ⌜ AtMost (at (speeds-with asked (now (speeds .entry)))) (span .lo) (span .hi) r ⌝ }
+{
+    let s = asked.second;
+    if span.hi <= s {
+        return fastest(speeds, span);
+    }
+    let before = fastest(speeds, Span { lo: span.lo, hi: s });
+    let after = fastest(
+        speeds,
+        Span {
+            lo: s + 1,
+            hi: span.hi,
+        },
+    );
+    larger(larger(before, after), asked.speed)
 }

@@ -4,6 +4,7 @@ ghost use mathlib.Core.List.{List};
 ghost use Prim.Native.Nat.{ℕ};
 ghost use lib.ListN.{length};
 ghost use Rattle.rules.specs.Refusals.{said, _orelse_, trace-fault, room-fault, vehicle-fault};
+use gears::NEWEST;
 use gears::check_vehicle;
 use rules::Answer;
 use rules::LONGEST;
@@ -37,5 +38,5 @@ pub fn check_opening(vehicle: Vehicle, speeds: usize, holds: usize, card: usize)
     let Answer::Done = lengths else {
         return lengths;
     };
-    check_vehicle(vehicle)
+    check_vehicle(vehicle, NEWEST)
 }

@@ -2,14 +2,14 @@
 ghost use mathlib.Core.Path.{_≡_};
 ghost use mathlib.Core.List.{List};
 ghost use Prim.Native.Nat.{ℕ, _+_, _-_, _≤_, _<_};
-ghost use lib.ListN.{length, set};
+ghost use lib.ListN.{length};
 ghost use Rattle.rules.specs.declared.Vehicle.{Vehicle};
 ghost use Rattle.rules.specs.Words.{at};
 ghost use Rattle.rules.specs.Refusals.{step, ends, checks, bad, said, seconds-fault};
 ghost use Rattle.gears.specs.Parts.{Has};
+ghost use Rattle.checks.specs.Asked.{speeds-with, holds-with};
 ghost use Rattle.checks.specs.Checks.{fault-no, kept, hold-checks, HeldGear, TraceSecond, Spanned};
-use crate::Hold;
-use crate::Sample;
+use crate::Asked;
 use crate::Span;
 use crate::calm::calm;
 use gears::Numbers;
@@ -22,24 +22,24 @@ use rules::Refusal;
 use rules::STEEPEST;
 use rules::moving;
 
-// The hold of second i, were the hold that is asked for written: it is asked before it is written.
-pub fn hold_at(holds: &[u8], hold: Hold, i: usize) -> u8
+// The hold of second i, were what is asked for written.
+pub fn hold_at(holds: &[u8], asked: Asked, i: usize) -> u8
     requires { ⌜ i < length (now holds) ⌝ }
-    ensures { λ r. ⌜ r ≡ at (set (now (holds .entry)) (hold .second) (hold .gear)) i ⌝ }
+    ensures { λ r. ⌜ r ≡ at (holds-with asked (now (holds .entry))) i ⌝ }
 {
-    if i == hold.second {
-        return hold.gear;
+    if i == asked.second {
+        return asked.gear;
     }
     holds[i]
 }
 
-// The speed of second i, were the sample that is asked for written.
-pub fn speed_at(speeds: &[u16], sample: Sample, i: usize) -> u16
+// The speed of second i, were it written.
+pub fn speed_at(speeds: &[u16], asked: Asked, i: usize) -> u16
     requires { ⌜ i < length (now speeds) ⌝ }
-    ensures { λ r. ⌜ r ≡ at (set (now (speeds .entry)) (sample .second) (sample .speed)) i ⌝ }
+    ensures { λ r. ⌜ r ≡ at (speeds-with asked (now (speeds .entry))) i ⌝ }
 {
-    if i == sample.second {
-        return sample.speed;
+    if i == asked.second {
+        return asked.speed;
     }
     speeds[i]
 }
@@ -55,15 +55,15 @@ pub fn gap(a: u16, b: u16) -> u16
 }
 
 // Check 5. The step into the span's first second is not looked at.
-fn step_over(speeds: &[u16], sample: Sample, lo: usize, i: usize) -> bool
+pub fn step_over(speeds: &[u16], asked: Asked, lo: usize, i: usize) -> bool
     requires { ⌜ i < length (now speeds) ⌝ }
-    ensures { λ r. ⌜ ((car : Vehicle) (hs : List ℕ) → r ≡ bad step car (set (now (speeds .entry)) (sample .second) (sample .speed)) hs lo i) ⌝ }
+    ensures { λ r. ⌜ ((car : Vehicle) (hs : List ℕ) → r ≡ bad step car (speeds-with asked (now (speeds .entry))) hs lo i) ⌝ }
 {
     if i <= lo {
         return false;
     }
-    let before = speed_at(speeds, sample, i - 1);
-    let here = speed_at(speeds, sample, i);
+    let before = speed_at(speeds, asked, i - 1);
+    let here = speed_at(speeds, asked, i);
     if STEEPEST < gap(before, here) {
         return true;
     }
@@ -71,11 +71,11 @@ fn step_over(speeds: &[u16], sample: Sample, lo: usize, i: usize) -> bool
 }
 
 // Check 6, at the trace's own ends and not the span's.
-fn end_moving(speeds: &[u16], sample: Sample, i: usize) -> bool
+fn end_moving(speeds: &[u16], asked: Asked, i: usize) -> bool
     requires { ⌜ i < length (now speeds) ⌝ }
-    ensures { λ r. ⌜ ((car : Vehicle) (hs : List ℕ) (lo : ℕ) → r ≡ bad ends car (set (now (speeds .entry)) (sample .second) (sample .speed)) hs lo i) ⌝ }
+    ensures { λ r. ⌜ ((car : Vehicle) (hs : List ℕ) (lo : ℕ) → r ≡ bad ends car (speeds-with asked (now (speeds .entry))) hs lo i) ⌝ }
 {
-    let v = speed_at(speeds, sample, i);
+    let v = speed_at(speeds, asked, i);
     if !moving(v) {
         return false;
     }
@@ -106,26 +106,26 @@ pub fn held_fault(k: Numbers, ratio: &[u16; 10], v: u16, held: u8) -> u32
 }
 
 // The number of the first of the checks 4 to 9 that second i fails; 10 where it fails none. Without a hold 7, 8 and 9 pass.
-fn fault_at<'a>(
+pub fn fault_at<'a>(
     k: Numbers,
     ratio: &'a [u16; 10],
     speeds: &'a [u16],
-    sample: Sample,
+    asked: Asked,
     held: u8,
     lo: usize,
     i: usize,
 ) -> u32
     requires { ⌜ TraceSecond k (now speeds) i ⌝ }
-    ensures { λ r. ⌜ ((car : Vehicle) → Has car k (now (ratio .entry)) → (hs : List ℕ) → at hs i ≡ held → r ≡ fault-no car (set (now (speeds .entry)) (sample .second) (sample .speed)) hs lo i checks) ⌝ }
+    ensures { λ r. ⌜ ((car : Vehicle) → Has car k (now (ratio .entry)) → (hs : List ℕ) → at hs i ≡ held → r ≡ fault-no car (speeds-with asked (now (speeds .entry))) hs lo i checks) ⌝ }
 {
-    let v = speed_at(speeds, sample, i);
+    let v = speed_at(speeds, asked, i);
     if FASTEST < v {
         return 4;
     }
-    if step_over(speeds, sample, lo, i) {
+    if step_over(speeds, asked, lo, i) {
         return 5;
     }
-    if end_moving(speeds, sample, i) {
+    if end_moving(speeds, asked, i) {
         return 6;
     }
     if held == 0 {
@@ -143,7 +143,7 @@ fn answer_of(best: u32, place: usize) -> Answer
         4 => Answer::Refused(Refusal::SpeedOver(place)),
         5 => Answer::Refused(Refusal::StepOver(place)),
         6 => Answer::Refused(Refusal::EndMoving(place)),
-        7 => Answer::Refused(Refusal::HoldOverNg(place)),
+        7 => Answer::Refused(Refusal::HoldNotDriven(place)),
         8 => Answer::Refused(Refusal::HoldStanding(place)),
         9 => Answer::Refused(Refusal::HoldOverRev(place)),
         _ => Answer::Done,
@@ -156,19 +156,18 @@ pub fn judge_seconds<'a>(
     ratio: &'a [u16; 10],
     speeds: &'a [u16],
     holds: &'a [u8],
-    sample: Sample,
-    hold: Hold,
+    asked: Asked,
     span: Span,
 ) -> Answer
     requires { ⌜ Spanned k (now speeds) (now holds) (span .lo) (span .hi) ⌝ }
-    ensures { λ r. ⌜ ((car : Vehicle) → Has car k (now (ratio .entry)) → said r ≡ seconds-fault car (set (now (speeds .entry)) (sample .second) (sample .speed)) (set (now (holds .entry)) (hold .second) (hold .gear)) (span .lo) (span .hi)) ⌝ }
+    ensures { λ r. ⌜ ((car : Vehicle) → Has car k (now (ratio .entry)) → said r ≡ seconds-fault car (speeds-with asked (now (speeds .entry))) (holds-with asked (now (holds .entry))) (span .lo) (span .hi)) ⌝ }
 {
     let mut best: u32 = 10;
     let mut place: usize = 0;
     let mut i = span.lo;
     while i < span.hi {
-        let held = hold_at(holds, hold, i);
-        let no = fault_at(k, ratio, speeds, sample, held, span.lo, i);
+        let held = hold_at(holds, asked, i);
+        let no = fault_at(k, ratio, speeds, asked, held, span.lo, i);
         if no < best {
             best = no;
             place = i;
@@ -178,26 +177,20 @@ pub fn judge_seconds<'a>(
     answer_of(best, place)
 }
 
-// Checks 4 to 9 on the seconds of a span, of the holds as they would be with the hold that is asked for. Where a cheap test finds nothing wrong, no
-// second is judged.
+// Checks 4 to 9 on the seconds of a span, of what is asked for. Where a cheap test finds nothing wrong, no second is judged.
 pub fn check_seconds<'a>(
     k: Numbers,
     ratio: &'a [u16; 10],
     speeds: &'a [u16],
     holds: &'a [u8],
-    hold: Hold,
+    asked: Asked,
     span: Span,
 ) -> Answer
-    requires { ⌜ Spanned k (now speeds) (now holds) (span .lo) (span .hi) ⌝ }
-    ensures { λ r. ⌜ ((car : Vehicle) → Has car k (now (ratio .entry)) → said r ≡ seconds-fault car (now (speeds .entry)) (set (now (holds .entry)) (hold .second) (hold .gear)) (span .lo) (span .hi)) ⌝ }
+    requires { ⌜ Spanned k (now speeds) (now holds) (span .lo) (span .hi) × (span .lo ≤ asked .second) ⌝ }
+    ensures { λ r. ⌜ ((car : Vehicle) → Has car k (now (ratio .entry)) → said r ≡ seconds-fault car (speeds-with asked (now (speeds .entry))) (holds-with asked (now (holds .entry))) (span .lo) (span .hi)) ⌝ }
 {
-    if calm(k, ratio, speeds, holds, hold, span) {
+    if calm(k, ratio, speeds, holds, asked, span) {
         return Answer::Done;
     }
-    // no sample is asked for: a second past the trace leaves the speeds as they are
-    let none = Sample {
-        second: speeds.len(),
-        speed: 0,
-    };
-    judge_seconds(k, ratio, speeds, holds, none, hold, span)
+    judge_seconds(k, ratio, speeds, holds, asked, span)
 }

@@ -1,26 +1,27 @@
 // Check 10, for want of a gear, of the seconds of a span that passes the checks before it. Where the vehicle's gears leave no speed between them, by
-// engine speed alone; elsewhere by a dry run of the first choices. A hold or a sample may be asked for and not yet written.
+// engine speed alone; elsewhere by a dry run of the first choices. All of it is of what is asked for and not yet written.
 ghost use mathlib.Core.Path.{_≡_};
 ghost use mathlib.Core.Bool.{true};
 ghost use mathlib.Core.Option.{none};
-ghost use Prim.Native.Nat.{ℕ, _-_, _<_};
-ghost use lib.ListN.{length, set};
+ghost use Prim.Native.Nat.{ℕ, _-_, _≤_, _<_};
+ghost use lib.ListN.{length};
 ghost use Rattle.rules.specs.declared.Vehicle.{Vehicle};
 ghost use Rattle.rules.specs.Corrections.{first-at};
-ghost use Rattle.rules.specs.Refusals.{no-gear, bad, said, seconds-fault, gear-fault};
+ghost use Rattle.rules.specs.Refusals.{no-gear, bad, said, seconds-fault};
+ghost use Rattle.rules.specs.Inside.{gear-fault};
 ghost use Rattle.gears.specs.Parts.{low-in, Has, Lent, Parts};
 ghost use Rattle.gears.specs.Second.{Lowest, Geared};
+ghost use Rattle.checks.specs.Asked.{speeds-with, holds-with};
 ghost use Rattle.checks.specs.Checks.{Spanned};
 ghost use Rattle.checks.specs.Calm.{Each, HandsOn, Follows, NoGap};
 ghost use Rattle.checks.specs.Want.{Resting, Level, Ahead, OnWay, LowestAt};
-use crate::Hold;
-use crate::Sample;
+use crate::Asked;
 use crate::Span;
-use crate::calm::fastest;
-use crate::mended_trips::closing_with;
-use crate::mended_trips::stop_with;
+use crate::calm::fastest_asked;
 use crate::seconds::hold_at;
 use crate::seconds::speed_at;
+use crate::trips_asked::closing_asked;
+use crate::trips_asked::stop_asked;
 use gears::Numbers;
 use gears::engine;
 use gears::lowest;
@@ -28,8 +29,8 @@ use gears::minimum;
 use gears::top;
 use rules::Answer;
 use rules::MOVING;
-use rules::Place;
 use rules::Refusal;
+use rules::Role;
 use rules::STEEPEST;
 use trips::first_choices;
 
@@ -42,7 +43,7 @@ fn hands_on(k: Numbers, g: usize, below: u16, this: u16) -> bool
     requires { ⌜ Lowest k g ⌝ }
     ensures { λ r. ⌜ (r ≡ true → HandsOn k g below this) ⌝ }
 {
-    minimum(k, Place::AfterLow, g) * (below as u64) <= (k.nmax as u64) * (this as u64)
+    minimum(k, Role::AfterLow, g) * (below as u64) <= (k.nmax as u64) * (this as u64)
 }
 
 // So every gear above the lowest: then no speed lies between two gears.
@@ -100,19 +101,18 @@ fn choice_in<'a>(
     p: &'a [u32; 64],
     speeds: &'a [u16],
     holds: &'a [u8],
-    sample: Sample,
-    hold: Hold,
+    asked: Asked,
     trip: Span,
     run: usize,
     before: u8,
     i: usize,
 ) -> u8
-    requires { ⌜ Parts k (now ratio) (now n) (now p) × OnWay (set (now speeds) (sample .second) (sample .speed)) (now holds) (trip .lo) (trip .hi) run i ⌝ }
-    ensures { λ r. ⌜ ((car : Vehicle) → Lent car k (now (ratio .entry)) (now (n .entry)) (now (p .entry)) → ((i ≡ trip .lo → ⊥) → before ≡ first-at car (set (now (speeds .entry)) (sample .second) (sample .speed)) (set (now (holds .entry)) (hold .second) (hold .gear)) (i - 1)) → r ≡ first-at car (set (now (speeds .entry)) (sample .second) (sample .speed)) (set (now (holds .entry)) (hold .second) (hold .gear)) i) ⌝ }
+    requires { ⌜ Parts k (now ratio) (now n) (now p) × OnWay (speeds-with asked (now speeds)) (now holds) (trip .lo) (trip .hi) run i ⌝ }
+    ensures { λ r. ⌜ ((car : Vehicle) → Lent car k (now (ratio .entry)) (now (n .entry)) (now (p .entry)) → ((i ≡ trip .lo → ⊥) → before ≡ first-at car (speeds-with asked (now (speeds .entry))) (holds-with asked (now (holds .entry))) (i - 1)) → r ≡ first-at car (speeds-with asked (now (speeds .entry))) (holds-with asked (now (holds .entry))) i) ⌝ }
 {
-    let v = speed_at(speeds, sample, i);
-    let next = speed_at(speeds, sample, i + 1);
-    let held = hold_at(holds, hold, i);
+    let v = speed_at(speeds, asked, i);
+    let next = speed_at(speeds, asked, i + 1);
+    let held = hold_at(holds, asked, i);
     let a = trip.lo;
     let left = run_left(run, i - a);
     let us = [v, next];
@@ -130,33 +130,19 @@ fn wanting<'a>(
     p: &'a [u32; 64],
     speeds: &'a [u16],
     holds: &'a [u8],
-    sample: Sample,
-    hold: Hold,
+    asked: Asked,
     trip: Span,
 ) -> usize
-    requires { ⌜ Parts k (now ratio) (now n) (now p) × Ahead (set (now speeds) (sample .second) (sample .speed)) (trip .lo) (trip .hi) × (length (now holds) ≡ length (now speeds)) ⌝ }
-    ensures { λ r. ⌜ ((car : Vehicle) → Lent car k (now (ratio .entry)) (now (n .entry)) (now (p .entry)) → (lo : ℕ) → LowestAt (bad no-gear car (set (now (speeds .entry)) (sample .second) (sample .speed)) (set (now (holds .entry)) (hold .second) (hold .gear)) lo) (trip .lo) (trip .hi) r) ⌝ }
+    requires { ⌜ Parts k (now ratio) (now n) (now p) × Ahead (speeds-with asked (now speeds)) (trip .lo) (trip .hi) × (length (now holds) ≡ length (now speeds)) ⌝ }
+    ensures { λ r. ⌜ ((car : Vehicle) → Lent car k (now (ratio .entry)) (now (n .entry)) (now (p .entry)) → (lo : ℕ) → LowestAt (bad no-gear car (speeds-with asked (now (speeds .entry))) (holds-with asked (now (holds .entry))) lo) (trip .lo) (trip .hi) r) ⌝ }
 {
     let a = trip.lo;
     let b = trip.hi;
-    let run = closing_with(speeds, sample, trip);
+    let run = closing_asked(speeds, asked, trip);
     let mut before: u8 = 0;
     let mut i = a;
     while i < b {
-        let g = choice_in(
-            k,
-            ratio,
-            n,
-            p,
-            speeds,
-            holds,
-            sample,
-            hold,
-            trip,
-            run,
-            before,
-            i,
-        );
+        let g = choice_in(k, ratio, n, p, speeds, holds, asked, trip, run, before, i);
         if g == 0 {
             return i;
         }
@@ -174,18 +160,17 @@ pub fn judge_gears<'a>(
     p: &'a [u32; 64],
     speeds: &'a [u16],
     holds: &'a [u8],
-    sample: Sample,
-    hold: Hold,
+    asked: Asked,
     span: Span,
 ) -> Answer
-    requires { ⌜ Parts k (now ratio) (now n) (now p) × Level (set (now speeds) (sample .second) (sample .speed)) (now holds) (span .lo) (span .hi) ⌝ }
-    ensures { λ r. ⌜ ((car : Vehicle) → Lent car k (now (ratio .entry)) (now (n .entry)) (now (p .entry)) → said r ≡ gear-fault car (set (now (speeds .entry)) (sample .second) (sample .speed)) (set (now (holds .entry)) (hold .second) (hold .gear)) (span .lo) (span .hi)) ⌝ }
+    requires { ⌜ Parts k (now ratio) (now n) (now p) × Level (speeds-with asked (now speeds)) (now holds) (span .lo) (span .hi) ⌝ }
+    ensures { λ r. ⌜ ((car : Vehicle) → Lent car k (now (ratio .entry)) (now (n .entry)) (now (p .entry)) → said r ≡ gear-fault car (speeds-with asked (now (speeds .entry))) (holds-with asked (now (holds .entry))) (span .lo) (span .hi)) ⌝ }
 {
     let mut a = span.lo + 1;
     while a < span.hi {
-        let b = stop_with(speeds, sample, a);
+        let b = stop_asked(speeds, asked, a);
         let trip = Span { lo: a, hi: b };
-        let i = wanting(k, ratio, n, p, speeds, holds, sample, hold, trip);
+        let i = wanting(k, ratio, n, p, speeds, holds, asked, trip);
         if i < b {
             return Answer::Refused(Refusal::NoGear(i));
         }
@@ -202,19 +187,14 @@ pub fn check_gears<'a>(
     p: &'a [u32; 64],
     speeds: &'a [u16],
     holds: &'a [u8],
-    hold: Hold,
+    asked: Asked,
     span: Span,
 ) -> Answer
-    requires { ⌜ Parts k (now ratio) (now n) (now p) × Spanned k (now speeds) (now holds) (span .lo) (span .hi) × Resting (now speeds) (span .lo) (span .hi) × ((car : Vehicle) → Has car k (now ratio) → none ≡ seconds-fault car (now speeds) (set (now holds) (hold .second) (hold .gear)) (span .lo) (span .hi)) ⌝ }
-    ensures { λ r. ⌜ ((car : Vehicle) → Lent car k (now (ratio .entry)) (now (n .entry)) (now (p .entry)) → said r ≡ gear-fault car (now (speeds .entry)) (set (now (holds .entry)) (hold .second) (hold .gear)) (span .lo) (span .hi)) ⌝ }
+    requires { ⌜ Parts k (now ratio) (now n) (now p) × Spanned k (now speeds) (now holds) (span .lo) (span .hi) × (span .lo ≤ asked .second) × Resting (speeds-with asked (now speeds)) (span .lo) (span .hi) × ((car : Vehicle) → Has car k (now ratio) → none ≡ seconds-fault car (speeds-with asked (now speeds)) (holds-with asked (now holds)) (span .lo) (span .hi)) ⌝ }
+    ensures { λ r. ⌜ ((car : Vehicle) → Lent car k (now (ratio .entry)) (now (n .entry)) (now (p .entry)) → said r ≡ gear-fault car (speeds-with asked (now (speeds .entry))) (holds-with asked (now (holds .entry))) (span .lo) (span .hi)) ⌝ }
 {
-    if no_gap(k, ratio, fastest(speeds, span)) {
+    if no_gap(k, ratio, fastest_asked(speeds, asked, span)) {
         return Answer::Done;
     }
-    // no sample is asked for
-    let none = Sample {
-        second: speeds.len(),
-        speed: 0,
-    };
-    judge_gears(k, ratio, n, p, speeds, holds, none, hold, span)
+    judge_gears(k, ratio, n, p, speeds, holds, asked, span)
 }

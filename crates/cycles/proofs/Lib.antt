@@ -1,6 +1,6 @@
 -- What belongs to no one function.
 pub mod Copied
-pub mod Ways
+pub mod FillingEnds
 pub mod Stretches
 pub mod Table
 pub mod Drives

@@ -14,7 +14,7 @@ use Rattle.rules.specs.Words.{at, part}
 use Rattle.rules.specs.Refusals.{Fault, refuse-at, _orelse_, when, left}
 use Rattle.rules.proofs.Laws.Checks.{orelse-none, when-none}
 use Rattle.cycles.specs.declared.parts.Stretch.{Stretch}
-use Rattle.cycles.specs.Parts.{seconds, first-second, last-second, fill-fault, places, stretch, part-seconds}
+use Rattle.cycles.specs.Parts.{cycle-seconds, first-second, last-second, fill-fault, places, stretch, part-seconds}
 
 -- ---- the refusals
 
@@ -27,11 +27,11 @@ unfolding fill-fault refuse-at when _orelse_
 bad-part p n h = rw (lt-ltb 4 p h)
 
 pub short-room : (p n : ℕ) → p ≤ 4 → n < 1801 → fill-fault p n ≡ some (record { no = 2; spot = 0 })
-unfolding fill-fault refuse-at when _orelse_ seconds
+unfolding fill-fault refuse-at when _orelse_ cycle-seconds
 short-room p n h l = rw (le-ltb 4 p h, lt-ltb n 1801 l)
 
 pub accepted : (p n : ℕ) → p ≤ 4 → 1801 ≤ n → fill-fault p n ≡ none
-unfolding fill-fault refuse-at when _orelse_ seconds
+unfolding fill-fault refuse-at when _orelse_ cycle-seconds
 accepted p n h l = rw (le-ltb 4 p h, le-ltb n 1801 l)
 
 -- where nothing is refused the part is one, and the room is long enough
@@ -40,7 +40,7 @@ unfolding fill-fault
 accepted-part p n e = ltb-false 4 p (when-none 18 (ltb 4 p) 0 (orelse-none _ _ e .0))
 
 pub accepted-room : (p n : ℕ) → fill-fault p n ≡ none → 1801 ≤ n
-unfolding fill-fault seconds
+unfolding fill-fault cycle-seconds
 accepted-room p n e = ltb-false n 1801 (when-none 2 (ltb n 1801) 0 (orelse-none _ _ e .1))
 
 -- ---- the parts

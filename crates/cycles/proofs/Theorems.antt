@@ -20,7 +20,7 @@ use Rattle.rules.specs.Units.{longest, moving}
 use Rattle.rules.specs.Job.{filled}
 use Rattle.rules.specs.Refusals.{Fault, said, left}
 use Rattle.rules.proofs.Laws.Words.{length-part, at-part}
-use Rattle.cycles.specs.Cycle.{cycle, low, medium, high, extra-high, total}
+use Rattle.cycles.specs.Cycle.{cycle, low, medium, high, extra-high, speed-sum}
 use Rattle.cycles.specs.Parts.{trace-checks, first-second, last-second, fill-fault, fill-room, part-seconds}
 use Rattle.cycles.proofs.Stretches.{by-fault, ordered, at-ends, accepted, accepted-part, accepted-room}
 use Rattle.cycles.proofs.Table.{boundary, length-cycle, slow, Near, near, rests}
@@ -33,8 +33,8 @@ use Rattle.cycles.proofs.parts.part_of.Reads as part-reads
 -- ---- the table
 
 -- the sums of Table A1/13, in tenths: 11140.3, 17121.2, 25782.2 and 29714.9
-pub sums : (total low ≡ 111403) × (total medium ≡ 171212) × (total high ≡ 257822) × (total extra-high ≡ 297149)
-unfolding total low medium high extra-high
+pub sums : (speed-sum low ≡ 111403) × (speed-sum medium ≡ 171212) × (speed-sum high ≡ 257822) × (speed-sum extra-high ≡ 297149)
+unfolding speed-sum low medium high extra-high
 sums = (refl, refl, refl, refl)
 
 -- 1,801 seconds, every speed at most 2,000, every step at most 150

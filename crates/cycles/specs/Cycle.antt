@@ -116,6 +116,6 @@ unfoldable pub cycle : List ℕ
 cycle = low ++ medium ++ high ++ extra-high
 
 -- the sum of a phase's speeds, as Table A1/13 has it
-unfoldable pub total : List ℕ → ℕ
-total [] = 0
-total (v ∷ vs) = v + total vs
+unfoldable pub speed-sum : List ℕ → ℕ
+speed-sum [] = 0
+speed-sum (v ∷ vs) = v + speed-sum vs

@@ -8,7 +8,7 @@ use lib.Dec.{ltb}
 use Rattle.rules.specs.declared.Vehicle.{Vehicle}
 use Rattle.rules.specs.Words.{at, part}
 use Rattle.rules.specs.Job.{filled}
-use Rattle.rules.specs.Refusals.{Fault, refuse-at, _orelse_, when, left, trace-fault, fault-of, speed, step, ends}
+use Rattle.rules.specs.Refusals.{Fault, refuse-at, _orelse_, when, left, trace-fault, bad, fault-of, speed, step, ends}
 use Rattle.cycles.specs.declared.parts.Stretch.{Stretch}
 use Rattle.cycles.specs.Cycle.{cycle}
 
@@ -16,13 +16,13 @@ use Rattle.cycles.specs.Cycle.{cycle}
 
 -- the checks of document 01 that look at the trace alone: 1, then 4 to 6
 unfoldable pub trace-checks : Vehicle → List ℕ → List ℕ → Option Fault
-trace-checks car vs hs = trace-fault vs orelse fault-of car vs hs 0 (length vs) (speed ∷ step ∷ ends ∷ [])
+trace-checks car vs hs = trace-fault vs orelse fault-of (λ c. bad c car vs hs 0) 0 (length vs) (speed ∷ step ∷ ends ∷ [])
 
 -- ---- the parts
 
 -- the seconds of the cycle, 0 to 1800
-unfoldable pub seconds : ℕ
-seconds = 1801
+unfoldable pub cycle-seconds : ℕ
+cycle-seconds = 1801
 
 -- the first second of each part: 0 is the whole cycle, 1 to 4 are its parts, each with the standing second on either side
 unfoldable pub first-second : ℕ → ℕ
@@ -36,7 +36,7 @@ last-second p = at (1800 ∷ 589 ∷ 1022 ∷ 1477 ∷ 1800 ∷ []) p
 
 -- the refusals, in this order, of a part number and a room of n places: 18, part number not 1 to 4 or 0 for all; 2, room under 1,801
 unfoldable pub fill-fault : ℕ → ℕ → Option Fault
-fill-fault p n = refuse-at 18 (when (ltb 4 p) 0) orelse refuse-at 2 (when (ltb n seconds) 0)
+fill-fault p n = refuse-at 18 (when (ltb 4 p) 0) orelse refuse-at 2 (when (ltb n cycle-seconds) 0)
 
 -- the room that filling leaves: the whole cycle, whatever the part, in the first 1,801 places, and beyond them what was there
 unfoldable pub fill-room : ℕ → List ℕ → List ℕ

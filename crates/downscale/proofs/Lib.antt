@@ -3,6 +3,6 @@ pub mod Fractions
 pub mod Rounding
 pub mod Changes
 pub mod Stepping
-pub mod Whole
+pub mod ScaledRoom
 pub mod Theorems
 pub mod Determined

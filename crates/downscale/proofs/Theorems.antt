@@ -31,7 +31,7 @@ use Rattle.downscale.specs.Steps.{own, rise, fall, nearest, by-stretch, 
 use Rattle.downscale.specs.Closed.{drawn, drawn-speed, closed-at}
 use Rattle.downscale.proofs.Fractions as fractions
 use Rattle.downscale.proofs.Rounding.{nearest-most, nearest-near, nearest-same, nearest-exact, drawn-most, drawn-near, drawn-none}
-use Rattle.downscale.proofs.Whole.{in-rise, in-fall, ahead, behind, by-run, scaled-there, length-scaled, rise-speed, fall-speed, stays}
+use Rattle.downscale.proofs.ScaledRoom.{in-rise, in-fall, ahead, behind, by-run, scaled-there, length-scaled, rise-speed, fall-speed, stays}
 use Rattle.downscale.proofs.closed.downscale.Kinds as closed-kinds
 use Rattle.downscale.proofs.closed.downscale.Reads as closed-reads
 use Rattle.downscale.proofs.stepwise.downscale_steps.Kinds as steps-kinds

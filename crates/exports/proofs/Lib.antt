@@ -1,9 +1,9 @@
 -- What belongs to no one function.
 pub mod Values
 pub mod Sizes
-pub mod Ways
+pub mod RecordAnswers
 pub mod Once
-pub mod Whole
+pub mod WholeExport
 pub mod Determined
 pub mod Theorems
 pub mod Cases

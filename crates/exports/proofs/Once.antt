@@ -19,8 +19,8 @@ use Rattle.exports.specs.declared.Found.{Found}
 use Rattle.exports.specs.declared.Coefficients.{Coefficients}
 use Rattle.exports.specs.Fields.{F0, F1, F2, TM}
 use Rattle.exports.specs.Export.{none-yet, with-record, judged, coefficients-read, mass-read, end-read, of-kind, record-read, export-read}
-use Rattle.exports.specs.Stages.{Fresh}
-use Rattle.exports.proofs.Ways.{no-kind, by-kind}
+use Rattle.exports.specs.Answers.{Fresh}
+use Rattle.exports.proofs.RecordAnswers.{no-kind, by-kind}
 
 -- ---- a reading that came to its end went by each step
 

@@ -13,7 +13,7 @@ use lib.Ieee.{Float, nan, inf, fin, up, down, odd, ofFields, ofBits}
 use borrow.Author.Tests.{le-leb}
 use Rattle.rules.specs.declared.Vehicle.{Vehicle}
 use Rattle.rules.specs.Words.{_and_, within}
-use Rattle.rules.specs.Units.{bounds}
+use Rattle.rules.specs.Units.{newest, bounds}
 use Rattle.exports.specs.Floats.{float-of, nearest, signed, scaled}
 use Rattle.exports.specs.Fields.{F0, F1, F2, TM, units, in-bounds}
 
@@ -47,18 +47,18 @@ unfolding _and_
 from-zero n hi = rw (le-leb 0 n (omega arith))
 
 module _ (car : Vehicle) (x : Float) where
-  pub bounds-f0 : pos (car .f0) ≡ units F0 x → in-bounds F0 x ≡ getD (bounds car) 5 true
+  pub bounds-f0 : pos (car .f0) ≡ units F0 x → in-bounds F0 x ≡ getD (bounds newest car) 5 true
   unfolding in-bounds F0 bounds
   bounds-f0 e = rw (← e) (from-zero (car .f0) 10000)
 
-  pub bounds-f1 : car .f1 ≡ units F1 x → in-bounds F1 x ≡ getD (bounds car) 6 true
+  pub bounds-f1 : car .f1 ≡ units F1 x → in-bounds F1 x ≡ getD (bounds newest car) 6 true
   unfolding in-bounds F1 bounds
   bounds-f1 e = rw (← e)
 
-  pub bounds-f2 : pos (car .f2) ≡ units F2 x → in-bounds F2 x ≡ getD (bounds car) 7 true
+  pub bounds-f2 : pos (car .f2) ≡ units F2 x → in-bounds F2 x ≡ getD (bounds newest car) 7 true
   unfolding in-bounds F2 bounds
   bounds-f2 e = rw (← e) (from-zero (car .f2) 20000)
 
-  pub bounds-tm : pos (car .tm) ≡ units TM x → in-bounds TM x ≡ getD (bounds car) 8 true
+  pub bounds-tm : pos (car .tm) ≡ units TM x → in-bounds TM x ≡ getD (bounds newest car) 8 true
   unfolding in-bounds TM bounds within
   bounds-tm e = rw (← e)

@@ -3,4 +3,4 @@ pub mod Floats
 pub mod Fields
 pub mod Export
 pub mod Bits
-pub mod Stages
+pub mod Answers

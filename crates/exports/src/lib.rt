@@ -2,7 +2,7 @@
 // units from their bits, in whole numbers only. The first fault from left to right is the answer.
 ghost use mathlib.Core.Path.{_≡_};
 ghost use Rattle.exports.specs.Export.{ExportAs, none-yet, with-record};
-ghost use Rattle.exports.specs.Stages.{number-next, next-answer, nothing};
+ghost use Rattle.exports.specs.Answers.{number-next, next-answer, nothing};
 
 mod fields;
 mod floats;

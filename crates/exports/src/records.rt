@@ -6,7 +6,7 @@ ghost use Prim.Native.Nat.{ℕ};
 ghost use Rattle.exports.specs.declared.Found.{Found};
 ghost use Rattle.exports.specs.Export.{finite-float, judged, coefficients-read, mass-read, end-read, record-read};
 ghost use Rattle.exports.specs.Bits.{Fair};
-ghost use Rattle.exports.specs.Stages.{told, read-as, Comes, ComesFor, ComesAfter};
+ghost use Rattle.exports.specs.Answers.{float-as, read-as, Comes, ComesFor, ComesAfter};
 use crate::Coefficients;
 use crate::Field;
 use crate::Found;
@@ -24,7 +24,7 @@ use rules::Refusal;
 
 // A float, four bytes; the record that it stands in begins at spot.
 fn float_at(bytes: &[u8], at: usize, spot: usize) -> Number
-    ensures said { λ r. ⌜ told r ≡ finite-float (now (bytes .entry)) spot at ⌝ }
+    ensures said { λ r. ⌜ float-as r ≡ finite-float (now (bytes .entry)) spot at ⌝ }
     ensures finite { λ r. ⌜ Comes r ⌝ }
 {
     let end = bytes.len();
@@ -44,7 +44,7 @@ fn float_at(bytes: &[u8], at: usize, spot: usize) -> Number
 // A float for a field.
 fn judged_at(bytes: &[u8], at: usize, spot: usize, field: Field) -> Number
     requires { ⌜ Fair field ⌝ }
-    ensures said { λ r. ⌜ told r ≡ judged (now (bytes .entry)) spot field at ⌝ }
+    ensures said { λ r. ⌜ float-as r ≡ judged (now (bytes .entry)) spot field at ⌝ }
     ensures bounded { λ r. ⌜ ComesFor field r ⌝ }
 {
     let number = float_at(bytes, at, spot);

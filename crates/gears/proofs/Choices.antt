@@ -1,194 +1,350 @@
--- The steps of a choice: a gear that suits, or the strongest so far, as the code meets it.
+-- The steps of a choice, as the code meets them: the gears in reach, the gear tried next, and what each way out of the search comes to.
 -- Assumes nothing.
 use Prim.Native.Nat.{ℕ, zero, suc, _-_, _+_, _*_, _≤_, _<_}
-use native.Mathlib.Nat.{not-suc-le-zero, lt-of-le-of-lt}
+use native.Mathlib.Nat.{le-trans, lt-of-le-of-lt, mul-le-mul-right, le-refl}
 use native.Mathlib.Omega.{arith}
 use mathlib.Core.Path.{_≡_, refl, sym, ap, _∙_}
 use mathlib.Core.Logic.{_≢_}
-use mathlib.Core.Bool.{Bool, true, false, not}
+use mathlib.Core.Bool.{Bool, true, false}
 use mathlib.Core.List.{List}
-use lib.Dec.{eqb, leb}
+use lib.Dec.{eqb, leb, ltb}
 use lib.IntN.{ℤ, pos}
 use lib.Signed.{leZ}
-use borrow.Author.Tests.{eqb-true, eqb-false, eq-eqb, ne-eqb, le-leb, lt-leb}
+use borrow.Author.Tests.{eqb-true, eqb-false, eq-eqb, ne-eqb, le-leb, lt-leb, ltb-true, ltb-false, leb-false}
 use Rattle.rules.specs.declared.Vehicle.{Vehicle}
-use Rattle.rules.specs.declared.Place.{Place}
-use Rattle.rules.specs.declared.Place.the-variants.{First}
-use Rattle.rules.specs.Words.{if_then_else_, _and_, _or_, at, highest}
+use Rattle.rules.specs.declared.Role.{Role}
+use Rattle.rules.specs.declared.Role.the-variants.{First, Inner}
+use Rattle.rules.specs.Words.{_and_, _or_, at, highest}
 use Rattle.rules.specs.Units.{low, ratio-of}
-use Rattle.rules.specs.Gears.{is-first, minimum, engine, over-minimum, required, fits, power, enough, more, suits, beats, strongest, choose}
-use Rattle.rules.specs.Vocabulary.{InBounds, NoGear}
-use Rattle.rules.proofs.Laws.Words.{clash, by-test, by-order, and-left, and-right, or-skip, highest-holds}
-use Rattle.rules.proofs.Laws.Strongest.{fits-from, strongest-fits}
+use Rattle.rules.specs.Gears.{is-first, minimum, engine, required, fits, power, enough, more, suits, strongest, choose}
+use Rattle.rules.specs.Corrections.{role-of}
+use Rattle.rules.specs.Vocabulary.{NoGear}
+use Rattle.rules.proofs.Laws.Words.{clash, by-test, by-order, by-eq, if-ind, and-left, and-right, and-fails, highest-holds, highest-none}
+use Rattle.rules.proofs.Laws.Strongest.{fits-from, strongest-fits, strongest-none, strongest-tie, strongest-most, more-asym, more-irrefl, no-more-trans, gear-wide}
 use Rattle.rules.proofs.Laws.Limits.{higher}
-use Rattle.rules.proofs.Laws.Choice.{choose-strongest, choose-highest, first-choice-plainly}
+use Rattle.rules.proofs.Laws.Choice.{choose-strongest, choose-highest, choose-to, first-choice-plainly}
+use Rattle.rules.specs.Inside.{InBounds}
 use Rattle.gears.specs.declared.Numbers.{Numbers}
 use Rattle.gears.specs.declared.Power as code
 use Rattle.gears.specs.declared.Best.{Best}
 use Rattle.gears.specs.Parts.{low-in, Has, Lent}
-use Rattle.gears.specs.Choosing.{power-of, PowerSized, enough-for, suits-for, InGear, Strongest, only-first, next-down}
+use Rattle.gears.specs.Choosing.{power-of, PowerSized, enough-for, suits-for, choose-for, InGear, Falling, Reached, InReach, only-lowest, the-stronger, Highest, Tried}
 use Rattle.gears.proofs.Powers.{turning-of, turning-enough, sized-of}
-use Rattle.gears.proofs.Speeds.{fits-not, fits-below, fits-under}
-use Rattle.gears.proofs.Down.{Down, drops, again, ends}
-use Rattle.gears.proofs.Parts.{low-of, engine-of}
+use Rattle.gears.proofs.Speeds.{minimum-above, same-minimum, fits-not, fits-below, fits-over, fits-one, fits-later, fits-under}
+use Rattle.gears.proofs.Down.{start, drops, stops}
+use Rattle.gears.proofs.Parts.{low-of, ng-of, engine-of}
 
--- the strongest of the gears up to g, by whether g beats the one of those below
-step : (car : Vehicle) (here : Place) (v g : ℕ) → 1 ≤ g
-    → strongest car here v g ≡ (let r = strongest car here v (g - 1) in if beats car here v g r then g else r)
-unfolding strongest
-step car here v zero h = absurd (not-suc-le-zero h)
-step car here v (suc k) h = let e : suc k - 1 ≡ k = omega arith in rw e
+-- ---- the way to the highest gear in reach
 
-module _ {car : Vehicle} {k : Numbers} {ratio n p : List ℕ} (L : Lent car k ratio n p) (here : Place) (v g : ℕ) where
-  -- a gear that fits suits if its power is enough
-  pub suits-power : {r : Bool} (e : ℤ) (a : code.Power) → fits car here v g ≡ true → power-of a ≡ power car v g
-      → r ≡ enough-for (power-of a) e → r ≡ suits-for car here v e g
-  unfolding suits-for _and_
-  suits-power e a f q h = h ∙ rw (f, q)
+-- ratios that fall from gear to gear fall over more than one
+falls-by : {k : Numbers} {ratio : List ℕ} → Falling k ratio → (g d : ℕ) → 1 ≤ g → g + d ≤ k .ng → at ratio (g + d - 1) ≤ at ratio (g - 1)
+falls-by F g zero a b = let e : g + 0 ≡ g = omega arith in rw e (le-refl _)
+falls-by {k} {ratio} F g (suc d) a b =
+    let e : g + suc d - 1 ≡ g + d = omega arith in
+    let f : at ratio (g + d) ≤ at ratio (g + d - 1) = F .falls (g + d) (omega arith) (omega arith) in
+    rw e (le-trans f (falls-by F g d a (omega arith)))
 
-  -- or if E is at most 0
-  pub suits-none : (d : InGear k g) (e : ℤ) → fits car here v g ≡ true → leZ e (pos 0) ≡ true → true ≡ suits-for car here v e g
-  unfolding suits-for _and_
-  suits-none d e f h = rw (f, turning-enough L v g (turning-of (L .has) here v g d f) e h)
+-- the gears above g are out of reach
+pub record Above (ng : ℕ) (ratio : List ℕ) (v least g : ℕ) : Type 0 where
+  pub out : (i : ℕ) → g < i → i ≤ ng → at ratio (i - 1) * v < least
 
-  -- one that does not fit does not suit
-  pub unfit : (e : ℤ) → fits car here v g ≡ false → false ≡ suits-for car here v e g
-  unfolding suits-for _and_
-  unfit e f = rw f
+-- where the next one up is
+pub turns-back : {k : Numbers} {ratio : List ℕ} → Falling k ratio → (v least g : ℕ) → {ng : ℕ} → ng ≡ k .ng → false ≡ (leb (g + 1) ng and leb least (at ratio (g + 1 - 1) * v)) → Above ng ratio v least g
+turns-back {k} {ratio} F v least g {ng} n t = record {
+  out = λ i a b.
+      let l : at ratio (g + 1 - 1) * v < least = leb-false _ _ (and-fails _ _ (le-leb (g + 1) ng (omega arith)) (sym t)) in
+      let e : g + 1 + (i - (g + 1)) ≡ i = omega arith in
+      lt-of-le-of-lt (mul-le-mul-right v (rw e at (falls-by F (g + 1) (i - (g + 1)) (omega arith) (omega arith)))) l;
+}
 
-  module _ (d : InGear k g) (b : Best) (s : Strongest car here v (g - 1) b) where
-    -- the same with the one of those below at hand
-    strongest-step : strongest car here v g ≡ (if beats car here v g (b .gear) then g else b .gear)
-    strongest-step = step car here v g (d .from) ∙ rw (s .is)
+module _ {ng : ℕ} {ratio : List ℕ} {v least g : ℕ} (above : Above ng ratio v least g) where
+  -- and where g itself is, the search goes on below it
+  pub goes-on : at ratio (g - 1) * v < least → Above ng ratio v least (g - 1)
+  goes-on l = record { out = λ i a b. by-eq {i = g} {j = i} (omega arith) (λ e. rw (← e) l) (λ m. above .out i m b) }
 
-    -- the power of the strongest so far is within its bounds
-    pub best-sized : b .gear ≢ 0 → PowerSized (b .power)
-    best-sized o =
-        let r = strongest-fits car here v (g - 1) (λ z. o (s .is ∙ z)) in
-        let t : fits car here v (b .gear) ≡ true = rw (s .is) (r .0) in
-        let l : b .gear ≤ g - 1 = rw (s .is) (r .1) in
-        let from : 1 ≤ b .gear = fits-from car here v (b .gear) t in
-        sized-of L v (b .gear) (turning-of (L .has) here v (b .gear) (record { from = from; to = omega (arith, d .to) }) t) (b .power) (s .its-power o)
+  -- the search ends
+  pub ends-there : {k : Numbers} → ng ≡ k .ng → low-in k + 1 ≤ g → g ≤ ng → (low-in k + 1 < g → least ≤ at ratio (g - 1) * v) → Reached k ratio v least g
+  ends-there n a b over = record { from = a; to = omega arith; above = λ i x y. above .out i x (omega arith); over = over }
 
-    -- a gear that does not fit leaves the strongest as it is
-    pub stays-unfit : fits car here v g ≡ false → Strongest car here v g b
-    unfolding beats _and_
-    stays-unfit f = record { is = sym (strongest-step ∙ rw f); its-power = s .its-power }
+-- ---- which gears fit
 
-    module _ (a : code.Power) (f : fits car here v g ≡ true) (q : power-of a ≡ power car v g) where
-      -- and so does one with less power
-      pub stays : b .gear ≢ 0 → more (power-of (b .power)) (power-of a) ≡ true → Strongest car here v g b
-      unfolding beats _and_ _or_
-      stays o m =
-          let m′ : more (power car v (b .gear)) (power car v g) ≡ true = rw (← s .its-power o, ← q) m in
-          record { is = sym (strongest-step ∙ rw (f, ne-eqb (b .gear) 0 o, m′)); its-power = s .its-power }
+-- a second that is not its trip's first
+pub later : (car : Vehicle) (closes : Bool) (before : ℕ) → is-first (role-of car false closes before) ≡ false
+unfolding role-of is-first
+later car true before = refl
+later car false before = by-test (eqb before (low car)) (λ t. rw t) (λ t. rw t)
 
-      -- the first gear that fits is the strongest
-      pub becomes-first : b .gear ≡ 0 → Strongest car here v g (record { gear = g; power = a })
-      unfolding beats _and_ _or_
-      becomes-first z = record { is = sym (strongest-step ∙ rw (f, eq-eqb (b .gear) 0 z)); its-power = λ o. q }
+-- from two above the lowest on the place does not matter
+any-place : (car : Vehicle) (here there : Role) (g : ℕ) → low car + 1 < g → minimum car here g ≡ minimum car there g
+any-place car here there g h =
+    minimum-above car here g (λ z. omega arith) (λ z. omega arith) ∙ sym (minimum-above car there g (λ z. omega arith) (λ z. omega arith))
 
-      -- and so is a later one with no less power
-      pub becomes : b .gear ≢ 0 → more (power-of (b .power)) (power-of a) ≡ false → Strongest car here v g (record { gear = g; power = a })
-      unfolding beats _and_ _or_
-      becomes o m =
-          let m′ : more (power car v (b .gear)) (power car v g) ≡ false = rw (← s .its-power o, ← q) m in
-          record { is = sym (strongest-step ∙ rw (f, ne-eqb (b .gear) 0 o, m′)); its-power = λ z. q }
+-- gears below one in reach are in reach
+pub reach-below : {car : Vehicle} {v g h : ℕ} → InReach car v g → h ≤ g → InReach car v h
+reach-below R l = record { over = λ i a b. R .over i a (omega arith) }
 
--- no gear below the lowest is the strongest
-none-below : (car : Vehicle) (here : Place) (v j : ℕ) → j < low car → strongest car here v j ≡ 0
-unfolding strongest beats _and_
-none-below car here v zero l = refl
-none-below car here v (suc j) l = rw (fits-below car here v (suc j) l) (none-below car here v j (omega arith))
+module _ {car : Vehicle} {k : Numbers} {ratio : List ℕ} (H : Has car k ratio) (here : Role) (is-later : is-first here ≡ false) (v g : ℕ) where
+  -- the gear above the lowest, below its minimum
+  pub fits-under-own : {x : ℕ} → x ≡ at ratio (g - 1) * v → true ≡ (eqb g (low-in k + 1) and ltb x (1000 * minimum car here g)) → false ≡ fits car here v g
+  fits-under-own {x} e t =
+      let a : g ≡ low-in k + 1 = eqb-true _ _ (and-left _ _ (sym t)) in
+      let l : x < 1000 * minimum car here g = ltb-true _ _ (and-right _ _ (sym t)) in
+      by-order (1000 * k .nmax) (at ratio (g - 1) * v)
+      (λ o. fits-over H here v g o)
+      (λ o. rw (lt-leb (1000 * minimum car here g) (at ratio (g - 1) * v) (rw e at l)) at (fits-later H here v g (omega arith) is-later o))
 
--- the loop over the gears from the lowest up: no gear yet
-pub none-yet : (car : Vehicle) (here : Place) (v j : ℕ) (a : code.Power) → j < low car → Strongest car here v j (record { gear = 0; power = a })
-none-yet car here v j a l = record { is = sym (none-below car here v j l); its-power = λ n. absurd (n refl) }
+  -- any other gear in reach: nmax decides
+  pub fits-else : {x : ℕ} → x ≡ at ratio (g - 1) * v → low-in k ≤ g → InReach car v g → false ≡ (eqb g (low-in k + 1) and ltb x (1000 * minimum car here g))
+      → leb x (1000 * k .nmax) ≡ fits car here v g
+  fits-else {x} e a R t =
+      let lo = low-of (H .counts) in
+      rw e (by-order (1000 * k .nmax) (at ratio (g - 1) * v)
+      (λ o. rw (lt-leb (at ratio (g - 1) * v) (1000 * k .nmax) o) (fits-over H here v g o))
+      (λ o. rw (le-leb (at ratio (g - 1) * v) (1000 * k .nmax) o) (by-eq a
+      (λ z. rw (eq-eqb g (low-in k) (sym z)) at (fits-one H here v g (omega arith) o))
+      (λ m.
+      let min : 1000 * minimum car here g ≤ at ratio (g - 1) * v =
+      by-order (low-in k + 1) g
+      (λ two. rw (any-place car here Inner g (omega (arith, lo)), ← engine-of H g v) (R .over g (omega (arith, lo)) (le-refl g)))
+      (λ one. rw e at (ltb-false x (1000 * minimum car here g) (and-fails _ _ (eq-eqb g (low-in k + 1) (omega arith)) (sym t)))) in
+      rw (le-leb (1000 * minimum car here g) (at ratio (g - 1) * v) min) at (fits-later H here v g m is-later o)))))
 
--- ---- the gears out of reach
+module _ {car : Vehicle} {k : Numbers} {ratio n p : List ℕ} (L : Lent car k ratio n p) (v : ℕ) where
+  -- the ratios fall
+  pub falling-of : Falling k ratio
+  unfolding ratio-of
+  falling-of = record {
+    ng-to = omega (arith, ng-of (L .has .counts), L .bounds .ng-to);
+    low-ng = omega (arith, ng-of (L .has .counts), low-of (L .has .counts), L .bounds .low-ng);
+    falls = λ g a b.
+        let z : suc g - 1 ≡ g = omega arith in
+        let f : at (car .ratio) (suc g - 1) < at (car .ratio) (g - 1) = L .bounds .falling g a (omega (arith, ng-of (L .has .counts))) in
+        omega (arith, rw (z, L .has .ratios) at f);
+  }
 
--- where X of the gear two above the lowest is below the shared minimum, no gear from there on fits: ratios fall
-module _ {car : Vehicle} {k : Numbers} {ratio n p : List ℕ} (L : Lent car k ratio n p) (here : Place) (later : is-first here ≡ false) (v : ℕ) {least : ℕ} (e : least ≡ 1000 * minimum car here (low-in k + 2)) (h : at ratio (low-in k + 1) * v < least) where
-  out-of-reach : (g : ℕ) → low-in k + 1 < g → g ≤ car .ng → at ratio (g - 1) * v < least
-  out-of-reach g a b =
-      let d : low-in k + 2 + (g - (low-in k + 2)) ≡ g = omega arith in
-      let x : engine car g v ≤ engine car (low-in k + 2) v = rw d at (higher car (L .bounds) v (low-in k + 2) (g - (low-in k + 2)) (omega (arith, low-of (L .has .counts))) (omega arith)) in
-      let z : low-in k + 2 - 1 ≡ low-in k + 1 = omega arith in
-      omega (arith, engine-of (L .has) g v, rw z at (engine-of (L .has) (low-in k + 2) v))
+  module _ {least g : ℕ} (e : least ≡ 1000 * minimum car Inner (low-in k + 2)) (R : Reached k ratio v least g) where
+    -- the highest gear in reach and those below it are
+    pub in-reach : InReach car v g
+    in-reach =
+        let lo = low-of (L .has .counts) in
+        let ng = ng-of (L .has .counts) in
+        record {
+          over = λ i a b.
+              let d : i + (g - i) ≡ g = omega arith in
+              let x : engine car g v ≤ engine car i v = rw d at (higher car (L .bounds) v i (g - i) (omega arith) (omega (arith, R .to))) in
+              let m : minimum car Inner (low-in k + 2) ≡ minimum car Inner i = rw lo at (same-minimum car Inner i a) in
+              let o : least ≤ at ratio (g - 1) * v = R .over (omega arith) in
+              rw (← m, ← e) (omega (arith, o, x, engine-of (L .has) g v));
+        }
 
-  unsuited : (x : ℤ) (g : ℕ) → low-in k + 1 < g → g ≤ car .ng → suits-for car here v x g ≡ false
-  unsuited x g a b = sym (unfit L here v g x (sym (fits-under (L .has) here v g e a later (out-of-reach g a b))))
+    -- none above it fits
+    pub none-above : (here : Role) → is-first here ≡ false → (h : ℕ) → g < h → h ≤ car .ng → fits car here v h ≡ false
+    none-above here t h a b =
+        let lo = low-of (L .has .counts) in
+        let ng = ng-of (L .has .counts) in
+        sym (fits-under (L .has) here v h (e ∙ ap (λ x. 1000 * x) (any-place car Inner here (low-in k + 2) (omega arith))) (omega (arith, R .from)) t (R .above h a (omega arith)))
 
-  -- so the search may go on at the gear above the lowest
-  pub skips : (x : ℤ) {g : ℕ} → g ≤ car .ng → low-in k + 1 < g → Down (suits-for car here v x) (car .ng) g → Down (suits-for car here v x) (car .ng) (low-in k + 1)
-  skips x b a inv = drops inv (low-in k + 1) (omega arith) (λ i c d. unsuited x i c (omega arith))
+-- ---- what a search comes to
 
--- below the lowest gear none suits, so that the search has ended
-pub ends-below : (car : Vehicle) (here : Place) (v : ℕ) (x : ℤ) {g : ℕ} → g < low car → Down (suits-for car here v x) (car .ng) g → highest (suits-for car here v x) (car .ng) ≡ 0
-unfolding suits-for _and_
-ends-below car here v x l inv = ends (drops inv 0 (omega arith) (λ i c d. rw (fits-below car here v i (omega arith)))) refl
-
--- the next gear down is below
-down-less : (lowest : ℕ) (t : Bool) (g : ℕ) → 1 ≤ g → next-down lowest t g < g
-unfolding next-down _or_
-down-less lowest true g h = omega arith
-down-less lowest false g h = by-order (lowest + 2) g (λ a. rw (lt-leb g (lowest + 2) a) (omega arith)) (λ a. rw (le-leb g (lowest + 2) a) (omega arith))
-
-pub down-of : (lowest : ℕ) (t : Bool) {g r : ℕ} → r ≡ next-down lowest t g → 1 ≤ g → r < g
-down-of lowest t {g} e h = rw e (down-less lowest t g h)
-
--- from a gear that does not suit the search goes on at the next one down
-module _ {car : Vehicle} {k : Numbers} {ratio n p : List ℕ} (L : Lent car k ratio n p) (here : Place) (later : is-first here ≡ false) (v : ℕ) {least : ℕ} (e : least ≡ 1000 * minimum car here (low-in k + 2)) where
-  pub goes-down : (y : ℤ) {g r : ℕ} → r ≡ next-down (low-in k) (leb least (at ratio (low-in k + 1) * v)) g → 1 ≤ g → g ≤ car .ng → suits-for car here v y g ≡ false
-      → Down (suits-for car here v y) (car .ng) g → Down (suits-for car here v y) (car .ng) r
-  unfolding next-down _or_
-  goes-down y {g} {r} d a b fails inv =
-      let x = at ratio (low-in k + 1) * v in
-      by-order x least
-      (λ l. by-order (low-in k + 2) g
-      (λ c. let z : r ≡ low-in k + 1 = d ∙ rw (lt-leb least x l, lt-leb g (low-in k + 2) c) in rw z (skips L here later v e l y b (omega arith) inv))
-      (λ c. let z : r ≡ g - 1 = d ∙ rw (lt-leb least x l, le-leb g (low-in k + 2) c) in rw z (again inv a fails)))
-      (λ l. let z : r ≡ g - 1 = d ∙ rw (le-leb least x l) in rw z (again inv a fails))
-
--- ---- the choice, where E is the required power
-
-module _ (car : Vehicle) (here : Place) (v : ℕ) (d : ℤ) {e : ℤ} (h : e ≡ required car v d) where
-  -- a gear suits by the rules exactly when it suits for E
-  same-highest : highest (suits car here v d) (car .ng) ≡ highest (suits-for car here v e) (car .ng)
-  unfolding suits-for enough-for suits enough
-  same-highest = rw h
-
+module _ (car : Vehicle) (here : Role) (v : ℕ) (e : ℤ) where
   -- the highest gear that suits is the choice
-  pub choice-highest : {g : ℕ} → 0 < g → highest (suits-for car here v e) (car .ng) ≡ g → g ≡ choose car here v d
-  choice-highest {g} l f = let n : highest (suits car here v d) (car .ng) ≡ g = same-highest ∙ f in sym (choose-highest car here v d (λ z. omega arith) ∙ n)
+  for-highest : {g : ℕ} → 0 < g → highest (suits-for car here v e) (car .ng) ≡ g → g ≡ choose-for car here v e
+  unfolding choose-for
+  for-highest {g} l h = rw (h, ne-eqb g 0 (λ z. omega arith))
 
   -- where none suits, the strongest is
-  pub choice-strongest : {r : ℕ} → r ≡ strongest car here v (car .ng) → highest (suits-for car here v e) (car .ng) ≡ 0 → r ≡ choose car here v d
-  choice-strongest k f = k ∙ sym (choose-strongest car here v d (same-highest ∙ f))
+  for-none : {g : ℕ} → g ≡ strongest car here v (car .ng) → highest (suits-for car here v e) (car .ng) ≡ 0 → g ≡ choose-for car here v e
+  unfolding choose-for
+  for-none k h = k ∙ rw (eq-eqb _ _ h)
 
--- ---- the choice at a trip's first second
+  -- gear g suits, and none above it
+  pub for-suiting : {g : ℕ} → 0 < g → g ≤ car .ng → suits-for car here v e g ≡ true → ((h : ℕ) → g < h → h ≤ car .ng → suits-for car here v e h ≡ false) → g ≡ choose-for car here v e
+  for-suiting {g} l m t none = for-highest l (stops (drops start g m none) l t)
+
+  -- one that does not fit does not suit
+  unfit : (g : ℕ) → fits car here v g ≡ false → suits-for car here v e g ≡ false
+  unfolding suits-for _and_
+  unfit g f = rw f
+
+  pub none-suit : {g : ℕ} → ((h : ℕ) → g < h → h ≤ car .ng → fits car here v h ≡ false) → (h : ℕ) → g < h → h ≤ car .ng → suits-for car here v e h ≡ false
+  none-suit none h a b = unfit h (none h a b)
+
+  -- one that fits suits if its power is enough
+  pub suits-power : (g : ℕ) (a : code.Power) (t : Bool) → fits car here v g ≡ true → power-of a ≡ power car v g → enough-for (power-of a) e ≡ t → suits-for car here v e g ≡ t
+  unfolding suits-for _and_
+  suits-power g a t f q h = rw (f, ← q) h
+
+-- or if E is at most 0
+pub suits-none : {car : Vehicle} {k : Numbers} {ratio n p : List ℕ} → Lent car k ratio n p → (here : Role) (v g : ℕ) → InGear k g → (e : ℤ) → fits car here v g ≡ true → leZ e (pos 0) ≡ true → suits-for car here v e g ≡ true
+unfolding suits-for _and_
+suits-none L here v g d e f h = rw (f, turning-enough L v g (turning-of (L .has) here v g d f) e h)
+
+-- it is the rules' choice, where E is the required power
+pub choice-for : (car : Vehicle) (here : Role) (v : ℕ) (d : ℤ) {e : ℤ} → e ≡ required car v d → choose-for car here v e ≡ choose car here v d
+unfolding choose-for suits-for enough-for choose suits enough
+choice-for car here v d h = rw h
+
+-- ---- the gears tried from the highest down
+
+-- the first of them
+tried-first : (car : Vehicle) (here : Role) (v : ℕ) (e : ℤ) (g : ℕ) (a : code.Power) → g ≤ car .ng → fits car here v g ≡ true → power-of a ≡ power car v g
+    → enough-for (power-of a) e ≡ false → ((h : ℕ) → g < h → h ≤ car .ng → fits car here v h ≡ false) → Tried car here v e g (record { gear = g; power = a })
+tried-first car here v e g a to f q weak none = record {
+  above = le-refl g;
+  to = to;
+  fitting = f;
+  its-power = q;
+  none-suits = λ h l m. by-eq l (λ x. rw (← x) (suits-power car here v e g a false f q weak)) (λ o. none-suit car here v e none h o m);
+  none-stronger = λ h l m t. by-eq l (λ x. rw (← x) (more-irrefl (power car v g))) (λ o. clash t (none h o m));
+  none-higher = λ h l m t. clash t (none h l m);
+}
+
+-- the highest that fits: its power is within its bounds; with enough power it is the choice, else it has been tried
+module _ {car : Vehicle} {here : Role} {v : ℕ} {b : Best} (H : Highest car here v b) where
+  pub highest-sized : {k : Numbers} {ratio n p : List ℕ} → Lent car k ratio n p → PowerSized (b .power)
+  highest-sized {k} L =
+      sized-of L v (b .gear)
+      (turning-of (L .has) here v (b .gear) (record { from = fits-from car here v (b .gear) (H .fitting); to = omega (arith, H .to, ng-of (L .has .counts)) }) (H .fitting))
+      (b .power) (H .its-power)
+
+  pub highest-suits : (e : ℤ) → 0 < b .gear → enough-for (power-of (b .power)) e ≡ true → b .gear ≡ choose-for car here v e
+  highest-suits e l t =
+      for-suiting car here v e l (H .to) (suits-power car here v e (b .gear) (b .power) true (H .fitting) (H .its-power) t) (none-suit car here v e (H .none-above))
+
+  pub highest-tried : (e : ℤ) → enough-for (power-of (b .power)) e ≡ false → Tried car here v e (b .gear) b
+  highest-tried e weak = tried-first car here v e (b .gear) (b .power) (H .to) (H .fitting) (H .its-power) weak (H .none-above)
+
+module _ {car : Vehicle} {here : Role} {v : ℕ} {e : ℤ} {g : ℕ} {b : Best} (B : InBounds car) (T : Tried car here v e g b) where
+  -- the power of the best is within its bounds
+  pub best-sized : {k : Numbers} {ratio n p : List ℕ} → Lent car k ratio n p → PowerSized (b .power)
+  best-sized {k} L =
+      sized-of L v (b .gear)
+      (turning-of (L .has) here v (b .gear) (record { from = fits-from car here v (b .gear) (T .fitting); to = omega (arith, T .to, ng-of (L .has .counts)) }) (T .fitting))
+      (b .power) (T .its-power)
+
+  -- the next one down does not fit
+  pub tried-unfit : fits car here v (g - 1) ≡ false → Tried car here v e (g - 1) b
+  tried-unfit f = record {
+    above = omega (arith, T .above);
+    to = T .to;
+    fitting = T .fitting;
+    its-power = T .its-power;
+    none-suits = λ h l m. by-eq l (λ x. rw (← x) (unfit car here v e (g - 1) f)) (λ o. T .none-suits h (omega arith) m);
+    none-stronger = λ h l m t. by-eq l (λ x. clash (rw (← x) at t) f) (λ o. T .none-stronger h (omega arith) m t);
+    none-higher = T .none-higher;
+  }
+
+  -- or it has too little power: the stronger of the two is kept
+  module _ (a : code.Power) (f : fits car here v (g - 1) ≡ true) (q : power-of a ≡ power car v (g - 1)) (weak : enough-for (power-of a) e ≡ false) where
+    none-suits-down : (h : ℕ) → g - 1 ≤ h → h ≤ car .ng → suits-for car here v e h ≡ false
+    none-suits-down h l m = by-eq l (λ x. rw (← x) (suits-power car here v e (g - 1) a false f q weak)) (λ o. T .none-suits h (omega arith) m)
+
+    compared : more (power-of a) (power-of (b .power)) ≡ more (power car v (g - 1)) (power car v (b .gear))
+    compared = rw (q, T .its-power)
+
+    stronger-down : more (power car v (g - 1)) (power car v (b .gear)) ≡ true → Tried car here v e (g - 1) (record { gear = g - 1; power = a })
+    stronger-down t =
+        let wide = gear-wide car B here v in
+        let last = power car v (g - 1) in
+        let best = power car v (b .gear) in
+        record {
+          above = le-refl (g - 1);
+          to = omega (arith, T .above, T .to);
+          fitting = f;
+          its-power = q;
+          none-suits = none-suits-down;
+          none-stronger = λ h l m u.
+              by-eq l
+              (λ x. rw (← x) (more-irrefl last))
+              (λ o. no-more-trans (power car v h) best last (wide h u) (wide (b .gear) (T .fitting)) (wide (g - 1) f) (T .none-stronger h (omega arith) m u) (more-asym last best t));
+          none-higher = λ h l m u.
+              by-test (more last (power car v h))
+              (λ y. y)
+              (λ y. clash t (no-more-trans last (power car v h) best (wide (g - 1) f) (wide h u) (wide (b .gear) (T .fitting)) y (T .none-stronger h (omega arith) m u)));
+        }
+
+    weaker-down : more (power car v (g - 1)) (power car v (b .gear)) ≡ false → Tried car here v e (g - 1) b
+    weaker-down t = record {
+      above = omega (arith, T .above);
+      to = T .to;
+      fitting = T .fitting;
+      its-power = T .its-power;
+      none-suits = none-suits-down;
+      none-stronger = λ h l m u. by-eq l (λ x. rw (← x) t) (λ o. T .none-stronger h (omega arith) m u);
+      none-higher = T .none-higher;
+    }
+
+    pub tried-weak : Tried car here v e (g - 1) (the-stronger b (g - 1) a)
+    unfolding the-stronger
+    tried-weak =
+        if-ind (Tried car here v e (g - 1)) (more (power-of a) (power-of (b .power)))
+        (λ t. stronger-down (sym compared ∙ t))
+        (λ t. weaker-down (sym compared ∙ t))
+
+  -- it suits: it is the choice
+  pub tried-suits : 0 < g - 1 → suits-for car here v e (g - 1) ≡ true → g - 1 ≡ choose-for car here v e
+  tried-suits l t = for-suiting car here v e l (omega (arith, T .above, T .to)) t (λ h x y. T .none-suits h (omega arith) y)
+
+  -- all have been tried: the best of them is the strongest
+  is-strongest : g ≤ low car → b .gear ≡ strongest car here v (car .ng)
+  is-strongest l =
+      let s = strongest car here v (car .ng) in
+      let n : s ≢ 0 = λ z. clash (T .fitting) (strongest-none car here v (car .ng) z (b .gear) (T .to)) in
+      let r = strongest-fits car here v (car .ng) n in
+      let from : g ≤ s = by-order s (low car) (λ o. clash (r .0) (fits-below car here v s o)) (λ o. le-trans l o) in
+      by-order s (b .gear)
+      (λ o. clash (strongest-tie car here v (car .ng) (b .gear) o (T .to) (T .fitting)) (T .none-stronger s from (r .1) (r .0)))
+      (λ o. by-eq o (λ x. x) (λ m. clash (T .none-higher s m (r .1) (r .0)) (strongest-most car here v B (car .ng) (b .gear) (T .to) (T .fitting))))
+
+  pub tried-all : g ≤ low car → b .gear ≡ choose-for car here v e
+  tried-all l =
+      for-none car here v e (is-strongest l)
+      (highest-none (suits-for car here v e) (car .ng) (λ j x y. by-order j (low car) (λ o. unfit car here v e j (fits-below car here v j o)) (λ o. T .none-suits j (le-trans l o) y)))
+
+-- ---- the choice where one gear may fit, or none
 
 -- a choice that is not 0 fits
-choice-fits : (car : Vehicle) (here : Place) (v : ℕ) (d : ℤ) → choose car here v d ≢ 0 → fits car here v (choose car here v d) ≡ true
+choice-fits : (car : Vehicle) (here : Role) (v : ℕ) (d : ℤ) → choose car here v d ≢ 0 → fits car here v (choose car here v d) ≡ true
 unfolding suits
 choice-fits car here v d n =
     by-test (eqb (highest (suits car here v d) (car .ng)) 0)
     (λ t. let e = choose-strongest car here v d (eqb-true _ _ t) in rw e (strongest-fits car here v (car .ng) (λ z. n (e ∙ z)) .0))
     (λ t. let o = eqb-false _ _ t in rw (choose-highest car here v d o) (and-left _ _ (highest-holds (suits car here v d) (car .ng) o .0)))
 
-module _ (car : Vehicle) (b : InBounds car) (v : ℕ) where
-  -- a gear that fits there is the lowest
-  fits-first : (g : ℕ) → fits car First v g ≡ true → g ≡ low car
-  unfolding is-first
-  fits-first g t = by-test (eqb g (low car)) (λ e. eqb-true _ _ e) (λ e. clash t (sym (fits-not car First v g (eqb-false _ _ e) refl)))
+-- only the lowest may
+pub choice-only : (car : Vehicle) → InBounds car → (here : Role) (v : ℕ) → ((g : ℕ) → g ≤ car .ng → fits car here v g ≡ true → g ≡ low car) → (d : ℤ) → only-lowest car here v ≡ choose car here v d
+unfolding only-lowest
+choice-only car b here v only d =
+    let plain = first-choice-plainly car here v d b in
+    by-test (fits car here v (low car))
+    (λ t. let n : choose car here v d ≢ 0 = λ z. clash t (plain .none-fits z (low car) (omega (arith, b .low-ng))) in
+    rw t (sym (only (choose car here v d) (choose-to car here v d) (choice-fits car here v d n))))
+    (λ t. let no : NoGear car (fits car here v) = λ g l. by-test (fits car here v g) (λ u. clash (rw (only g l u) at u) t) (λ u. u) in
+    rw t (sym (plain .choice-none no)))
 
-  -- the choice is the lowest gear if it fits, otherwise 0
-  pub choice-first : (d : ℤ) → only-first car v ≡ choose car First v d
-  unfolding only-first
-  choice-first d =
-      let plain = first-choice-plainly car First v d b in
-      by-test (fits car First v (low car))
-      (λ t. let n : choose car First v d ≢ 0 = λ z. clash t (plain .none-fits z (low car) (omega (arith, b .low-ng))) in
-      rw t (sym (fits-first (choose car First v d) (choice-fits car First v d n))))
-      (λ t. let no : NoGear car (fits car First v) = λ g l. by-test (fits car First v g) (λ u. clash (rw (fits-first g u) at u) t) (λ u. u) in
-      rw t (sym (plain .choice-none no)))
+-- as at a trip's first second
+pub choice-first : (car : Vehicle) → InBounds car → (v : ℕ) (d : ℤ) → only-lowest car First v ≡ choose car First v d
+unfolding is-first
+choice-first car b v d = choice-only car b First v (λ g l t. by-test (eqb g (low car)) (λ e. eqb-true _ _ e) (λ e. clash t (sym (fits-not car First v g (eqb-false _ _ e) refl)))) d
+
+module _ {car : Vehicle} {k : Numbers} {ratio n p : List ℕ} (L : Lent car k ratio n p) (here : Role) (v g : ℕ) (d : ℤ) (none : (h : ℕ) → g < h → h ≤ car .ng → fits car here v h ≡ false) where
+  -- as where the gear above the lowest is the highest in reach, and below its minimum
+  pub choice-below : g ≡ low-in k + 1 → fits car here v g ≡ false → only-lowest car here v ≡ choose car here v d
+  choice-below e f =
+      let lo = low-of (L .has .counts) in
+      choice-only car (L .bounds) here v
+      (λ i l t. by-order i (low car)
+      (λ o. clash t (fits-below car here v i o))
+      (λ o. by-eq o sym (λ m. by-eq {i = g} {j = i} (omega arith) (λ x. clash (rw (← x) at t) f) (λ y. clash t (none i y l)))))
+      d
+
+  -- where the highest in reach turns past nmax, so do those below it
+  pub choice-past : g ≤ car .ng → 1000 * k .nmax < at ratio (g - 1) * v → 0 ≡ choose car here v d
+  choice-past l past =
+      sym (first-choice-plainly car here v d (L .bounds) .choice-none (λ i m. by-order i (low car)
+      (λ o. fits-below car here v i o)
+      (λ o. by-order g i
+      (λ a. none i a m)
+      (λ a. let z : i + (g - i) ≡ g = omega arith in
+      let x : engine car g v ≤ engine car i v = rw z at (higher car (L .bounds) v i (g - i) o (omega arith)) in
+      sym (fits-over (L .has) here v i (omega (arith, x, engine-of (L .has) g v, engine-of (L .has) i v)))))))

@@ -11,7 +11,7 @@ use lib.IntN.{pos}
 use Rattle.rules.specs.declared.Vehicle.{Vehicle}
 use Rattle.rules.specs.Words.{at, pass}
 use Rattle.rules.specs.Gears.{derated}
-use Rattle.rules.specs.Vocabulary.{InBounds}
+use Rattle.rules.specs.Inside.{InBounds}
 use Rattle.rules.proofs.Laws.Words.{length-pass, pass-at}
 use Rattle.rules.proofs.Laws.Sizes.{derated-is}
 use Rattle.gears.specs.Choosing.{available}

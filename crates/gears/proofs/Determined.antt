@@ -1,10 +1,11 @@
 -- Each public function's contract allows one outcome. `Reads` is the contract's own reading, which the check makes of the clauses.
 -- Assumes nothing.
+use Prim.Native.Nat.{ℕ}
 use mathlib.Core.Path.{refl, sym, _∙_}
 use mathlib.Core.List.{[]}
 use denote.Ref.{now}
 use Rattle.rules.proofs.Laws.Refusals.{said-once}
-use Rattle.once.specs.Determined.{Determined}
+use Rattle.once.specs.Determined.{Determined, DeterminedAs}
 use Rattle.gears.proofs.Parts.{built-has}
 use Rattle.gears.proofs.second.top.Kinds as top-kinds
 use Rattle.gears.proofs.second.top.Reads as top-reads
@@ -16,8 +17,6 @@ use Rattle.gears.proofs.second.engine.Kinds as engine-kinds
 use Rattle.gears.proofs.second.engine.Reads as engine-reads
 use Rattle.gears.proofs.second.minimum.Kinds as minimum-kinds
 use Rattle.gears.proofs.second.minimum.Reads as minimum-reads
-use Rattle.gears.proofs.second.fits.Kinds as fits-kinds
-use Rattle.gears.proofs.second.fits.Reads as fits-reads
 use Rattle.gears.proofs.second.floor.Kinds as floor-kinds
 use Rattle.gears.proofs.second.floor.Reads as floor-reads
 use Rattle.gears.proofs.second.step_of.Kinds as step-of-kinds
@@ -30,20 +29,18 @@ use Rattle.gears.proofs.numbers_of.Kinds as numbers-of-kinds
 use Rattle.gears.proofs.numbers_of.Reads as numbers-of-reads
 use Rattle.gears.proofs.curve.derate.Kinds as derate-kinds
 use Rattle.gears.proofs.curve.derate.Reads as derate-reads
-use Rattle.gears.proofs.curve.segment.Kinds as segment-kinds
-use Rattle.gears.proofs.curve.segment.Reads as segment-reads
+use Rattle.gears.proofs.curve.segment_near.Kinds as segment-near-kinds
+use Rattle.gears.proofs.curve.segment_near.Reads as segment-near-reads
+use Rattle.gears.proofs.curve.segment_at.Kinds as segment-at-kinds
+use Rattle.gears.proofs.curve.segment_at.Reads as segment-at-reads
 use Rattle.gears.proofs.curve.power_at.Kinds as power-at-kinds
 use Rattle.gears.proofs.curve.power_at.Reads as power-at-reads
 use Rattle.gears.proofs.choice.enough.Kinds as enough-kinds
 use Rattle.gears.proofs.choice.enough.Reads as enough-reads
 use Rattle.gears.proofs.choice.more.Kinds as more-kinds
 use Rattle.gears.proofs.choice.more.Reads as more-reads
-use Rattle.gears.proofs.choice.strongest.Kinds as strongest-kinds
-use Rattle.gears.proofs.choice.strongest.Reads as strongest-reads
 use Rattle.gears.proofs.choice.choose.Kinds as choose-kinds
 use Rattle.gears.proofs.choice.choose.Reads as choose-reads
-use Rattle.gears.proofs.choice.first_choice.Kinds as first-choice-kinds
-use Rattle.gears.proofs.choice.first_choice.Reads as first-choice-reads
 use Rattle.gears.proofs.choice.choice_after.Kinds as choice-after-kinds
 use Rattle.gears.proofs.choice.choice_after.Reads as choice-after-reads
 
@@ -61,9 +58,6 @@ engine κs a asked z z′ ws ws′ p q = (p ∙ sym q, refl)
 
 pub minimum : Determined minimum-kinds.ps minimum-kinds.r minimum-reads.Asked minimum-reads.Learnt
 minimum κs a asked z z′ ws ws′ p q = let C = built-has (a .0) [] .counts in (p .0 _ C ∙ sym (q .0 _ C), refl)
-
-pub fits : Determined fits-kinds.ps fits-kinds.r fits-reads.Asked fits-reads.Learnt
-fits κs a asked z z′ ws ws′ p q = let H = built-has (a .0) (now (a .1 .0)) in (p _ H ∙ sym (q _ H), refl)
 
 pub floor : Determined floor-kinds.ps floor-kinds.r floor-reads.Asked floor-reads.Learnt
 floor κs a asked z z′ ws ws′ p q = let H = built-has (a .0) (now (a .1 .0)) in (p _ H ∙ sym (q _ H), refl)
@@ -83,8 +77,11 @@ numbers-of κs a asked z z′ ws ws′ p q = (p ∙ sym q, refl)
 pub derate : Determined derate-kinds.ps derate-kinds.r derate-reads.Asked derate-reads.Learnt
 derate κs a asked z z′ ws ws′ p q = (p ∙ sym q, refl)
 
-pub segment : Determined segment-kinds.ps segment-kinds.r segment-reads.Asked segment-reads.Learnt
-segment κs a asked z z′ ws ws′ p q = (p ∙ sym q, refl)
+pub segment-near : Determined segment-near-kinds.ps segment-near-kinds.r segment-near-reads.Asked segment-near-reads.Learnt
+segment-near κs a asked z z′ ws ws′ p q = (p ∙ sym q, refl)
+
+pub segment-at : Determined segment-at-kinds.ps segment-at-kinds.r segment-at-reads.Asked segment-at-reads.Learnt
+segment-at κs a asked z z′ ws ws′ p q = (p ∙ sym q, refl)
 
 -- a power is known by its Q and w
 pub power-at : Determined power-at-kinds.ps power-at-kinds.r power-at-reads.Asked power-at-reads.Learnt
@@ -97,14 +94,9 @@ enough κs a asked z z′ ws ws′ p q = (p ∙ sym q, refl)
 pub more : Determined more-kinds.ps more-kinds.r more-reads.Asked more-reads.Learnt
 more κs a asked z z′ ws ws′ p q = (p ∙ sym q, refl)
 
-pub strongest : Determined strongest-kinds.ps strongest-kinds.r strongest-reads.Asked strongest-reads.Learnt
-strongest κs a asked z z′ ws ws′ p q = let car = asked .car in let L = asked .lent in (p car L ∙ sym (q car L), refl)
+-- the hints are only where a search starts, and may be any
+pub choose : DeterminedAs choose-kinds.ps choose-kinds.r ℕ (λ κs z. z .gear) choose-reads.Asked choose-reads.Learnt
+choose κs a asked z z′ ws ws′ p q = let car = asked .0 .car in let L = asked .0 .lent in (p .0 car L ∙ sym (q .0 car L), refl)
 
-pub choose : Determined choose-kinds.ps choose-kinds.r choose-reads.Asked choose-reads.Learnt
-choose κs a asked z z′ ws ws′ p q = let car = asked .0 .car in let L = asked .0 .lent in (p car L ∙ sym (q car L), refl)
-
-pub choice-after : Determined choice-after-kinds.ps choice-after-kinds.r choice-after-reads.Asked choice-after-reads.Learnt
-choice-after κs a asked z z′ ws ws′ p q = let car = asked .0 .car in let L = asked .0 .lent in (p car L ∙ sym (q car L), refl)
-
-pub first-choice : Determined first-choice-kinds.ps first-choice-kinds.r first-choice-reads.Asked first-choice-reads.Learnt
-first-choice κs a asked z z′ ws ws′ p q = let car = asked .0 .car in let L = asked .0 .lent in (p car L ∙ sym (q car L), refl)
+pub choice-after : DeterminedAs choice-after-kinds.ps choice-after-kinds.r ℕ (λ κs z. z .gear) choice-after-reads.Asked choice-after-reads.Learnt
+choice-after κs a asked z z′ ws ws′ p q = let car = asked .0 .car in let L = asked .0 .lent in (p .0 car L ∙ sym (q .0 car L), refl)

@@ -1,12 +1,12 @@
 -- `highest`, as a loop that counts down meets it: what is left, from here down, is what was asked.
 -- Assumes nothing.
-use Prim.Native.Nat.{ℕ, zero, suc, _-_, _≤_, _<_}
+use Prim.Native.Nat.{ℕ, zero, suc, _≤_, _<_}
 use native.Mathlib.Nat.{not-suc-le-zero, le-refl}
 use native.Mathlib.Omega.{arith}
 use mathlib.Core.Path.{_≡_, refl, _∙_}
 use mathlib.Core.Bool.{Bool, true, false}
 use Rattle.rules.specs.Words.{highest}
-use Rattle.rules.proofs.Laws.Words.{clash, by-test, by-eq}
+use Rattle.rules.proofs.Laws.Words.{by-eq}
 
 -- the places above g have been passed, and none of them holds
 pub record Down (p : ℕ → Bool) (top g : ℕ) : Type 0 where
@@ -23,13 +23,7 @@ unfolding highest
 highest-stops p zero h t = absurd (not-suc-le-zero h)
 highest-stops p (suc g) h t = rw t
 
--- one that does not leaves the search to those below
-highest-again : (p : ℕ → Bool) (g : ℕ) → 0 < g → p g ≡ false → highest p g ≡ highest p (g - 1)
-unfolding highest
-highest-again p zero h t = absurd (not-suc-le-zero h)
-highest-again p (suc g) h t = let e : suc g - 1 ≡ g = omega arith in rw (e, t)
-
--- nor do those down to h
+-- places that do not, down to h, leave the search to those below
 highest-drops : (p : ℕ → Bool) (g h : ℕ) → h ≤ g → ((i : ℕ) → h < i → i ≤ g → p i ≡ false) → highest p g ≡ highest p h
 unfolding highest
 highest-drops p zero h a n = let z : h ≡ 0 = omega arith in rw z
@@ -43,15 +37,6 @@ module _ {p : ℕ → Bool} {top g : ℕ} (inv : Down p top g) where
   pub stops : 0 < g → p g ≡ true → highest p top ≡ g
   stops h t = inv .same ∙ highest-stops p g h t
 
-  -- it does not: the next one down
-  pub again : 0 < g → p g ≡ false → Down p top (g - 1)
-  again h t = record { under = omega (arith, inv .under); same = inv .same ∙ highest-again p g h t }
-
   -- none of the places down to another holds
   pub drops : (h : ℕ) → h ≤ g → ((i : ℕ) → h < i → i ≤ g → p i ≡ false) → Down p top h
   drops h a n = record { under = omega (arith, inv .under); same = inv .same ∙ highest-drops p g h a n }
-
-  -- no place is left
-  pub ends : g ≡ 0 → highest p top ≡ 0
-  unfolding highest
-  ends e = inv .same ∙ rw e

@@ -19,17 +19,16 @@ use Rattle.rules.specs.declared.Vehicle.{Vehicle}
 use Rattle.rules.specs.declared.Refusal.the-variants.{VehicleField}
 use Rattle.rules.specs.declared.Answer.the-variants.{Done, Refused}
 use Rattle.rules.specs.Words.{if_then_else_, _and_, within}
-use Rattle.rules.specs.Units.{bounds, first-failed, bad-field}
-use Rattle.rules.specs.Refusals.{said, refuse-at, vehicle-fault}
+use Rattle.rules.specs.Units.{bounds, first-failed}
+use Rattle.rules.specs.Refusals.{said, refuse-at}
 use Rattle.rules.proofs.Laws.Words.{by-test}
 
 -- ---- the chain
 
-pub record Passed (car : Vehicle) (k : ℕ) : Type 0 where
-  pub same : bad-field car ≡ first-failed (suc k) (drop k (bounds car))
+pub record Passed (v : ℕ) (car : Vehicle) (k : ℕ) : Type 0 where
+  pub same : first-failed 1 (bounds v car) ≡ first-failed (suc k) (drop k (bounds v car))
 
-pub passed-none : {car : Vehicle} → Passed car 0
-unfolding bad-field
+pub passed-none : {v : ℕ} {car : Vehicle} → Passed v car 0
 passed-none = record { same = refl }
 
 -- the next test
@@ -38,18 +37,24 @@ unfolding first-failed
 next-test ts k h = rw (drop-cons ts k true)
 
 -- holds
-pub passed-more : {car : Vehicle} {k : ℕ} → Passed car k → k < length (bounds car) → getD (bounds car) k true ≡ true → Passed car (suc k)
-passed-more {car} {k} inv h t = record { same = inv .same ∙ next-test (bounds car) k h ∙ rw t }
+pub passed-more : {v : ℕ} {car : Vehicle} {k : ℕ} → Passed v car k → k < length (bounds v car) → getD (bounds v car) k true ≡ true → Passed v car (suc k)
+passed-more {v} {car} {k} inv h t = record { same = inv .same ∙ next-test (bounds v car) k h ∙ rw t }
 
 -- fails
-pub refused-here : {car : Vehicle} {k : ℕ} → Passed car k → k < length (bounds car) → getD (bounds car) k true ≡ false → said (Refused (VehicleField (suc k))) ≡ vehicle-fault car
-unfolding said vehicle-fault refuse-at
-refused-here {car} {k} inv h t = let e : bad-field car ≡ some (suc k) = inv .same ∙ next-test (bounds car) k h ∙ rw t in rw e
+pub refused-here : {v : ℕ} {car : Vehicle} {k : ℕ} → Passed v car k → k < length (bounds v car) → getD (bounds v car) k true ≡ false
+    → said (Refused (VehicleField (suc k))) ≡ refuse-at 3 (first-failed 1 (bounds v car))
+unfolding said refuse-at
+refused-here {v} {car} {k} inv h t = let e : first-failed 1 (bounds v car) ≡ some (suc k) = inv .same ∙ next-test (bounds v car) k h ∙ rw t in rw e
+
+-- there are thirteen
+none-after : (v : ℕ) (car : Vehicle) → first-failed 14 (drop 13 (bounds v car)) ≡ none
+unfolding bounds first-failed
+none-after v car = refl
 
 -- all hold
-pub passed-all : {car : Vehicle} → Passed car 13 → said Done ≡ vehicle-fault car
-unfolding said vehicle-fault refuse-at first-failed bounds
-passed-all {car} inv = let e : bad-field car ≡ none = inv .same in rw e
+pub passed-all : {v : ℕ} {car : Vehicle} → Passed v car 13 → said Done ≡ refuse-at 3 (first-failed 1 (bounds v car))
+unfolding said refuse-at
+passed-all {v} {car} inv = let e : first-failed 1 (bounds v car) ≡ none = inv .same ∙ none-after v car in rw e
 
 -- ---- a rise by 1 to 1,000
 

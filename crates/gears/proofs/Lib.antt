@@ -3,7 +3,7 @@ pub mod Parts
 pub mod Speeds
 pub mod Fields
 pub mod Determined
-pub mod Halving
+pub mod Near
 pub mod Powers
 pub mod Derating
 pub mod Choices

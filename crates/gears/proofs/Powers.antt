@@ -3,14 +3,14 @@
 use Prim.Native.Nat.{ℕ, suc, _+_, _-_, _*_, _≤_, _<_, max}
 use native.Mathlib.Nat.{le-trans, mul-assoc, mul-left-comm, mul-le-mul-left, max-le, le-max-right}
 use native.Mathlib.Omega.{arith}
-use mathlib.Core.Path.{_≡_, sym, ap, _∙_, subst}
+use mathlib.Core.Path.{_≡_, refl, sym, ap, _∙_, subst}
 use mathlib.Core.Bool.{true}
 use mathlib.Core.List.{List}
 use lib.IntN.{ℤ, pos, negℤ, natAbs, _+ℤ_, _-ℤ_, _*ℤ_, +ℤ-assoc}
 use lib.Signed.{leZ}
 use borrow.Author.Tests.{leb-true, le-leb}
 use Rattle.rules.specs.declared.Vehicle.{Vehicle}
-use Rattle.rules.specs.declared.Place.{Place}
+use Rattle.rules.specs.declared.Role.{Role}
 use Rattle.rules.specs.Words.{at}
 use Rattle.rules.specs.Gears.{Power, engine, under-nmax, fits, between, on-segment, segment, power-speed, power}
 use Rattle.rules.specs.Vocabulary.{OnSegment}
@@ -18,7 +18,7 @@ use Rattle.rules.proofs.Laws.Words.{and-right}
 use Rattle.rules.proofs.Laws.Integers.{+ℤ-*ℤ, neg-*ℤ, pos-sub, leZ-trans, leZ-scale}
 use Rattle.rules.proofs.Laws.Power.{segment-holds}
 use Rattle.rules.proofs.Laws.Sizes.{Q-size, w-size}
-use Rattle.gears.specs.Choosing.{segment-in, segment-parts, Curve, Segment, power-of, Turning, PowerSized, enough-for, InGear}
+use Rattle.gears.specs.Choosing.{segment-in, segment-parts, Curve, Segment, power-of, turned, Turning, PowerSized, enough-for, InGear}
 use Rattle.gears.specs.Parts.{Has, Lent}
 use Rattle.gears.specs.declared.Numbers.{Numbers}
 use Rattle.gears.specs.declared.Power as code
@@ -45,6 +45,11 @@ module _ {car : Vehicle} {k : Numbers} {ratio n p : List ℕ} (L : Lent car k ra
   pub speed-is : {x y : ℕ} → x ≡ max y (1000 * k .idle) → y ≡ at ratio (g - 1) * v → x ≡ power-speed car v g
   unfolding power-speed
   speed-is e f = e ∙ rw (f, engine-of (L .has) g v, idle-of (L .has .counts))
+
+  -- .. from the numbers and the ratios
+  pub turned-is : turned k ratio v g ≡ power-speed car v g
+  unfolding turned
+  turned-is = speed-is refl refl
 
   segment-of : (x : ℕ) → segment car x ≡ segment-in n (k .points) x
   segment-of x = segment-parts car x ∙ rw (L .speeds, points-of (L .has .counts))
@@ -84,6 +89,16 @@ module _ {car : Vehicle} {k : Numbers} {ratio n p : List ℕ} (L : Lent car k ra
         let on = turning-on in
         rw (f, ← segment-of, e) (record { next = omega (arith, on .next-point, L .bounds .points-to); small = omega (arith, speed-to, L .bounds .nmax-to) })
 
+    -- the same, said of the numbers and the ratios
+    pub turned-curve : Curve n (k .points) (turned k ratio v g)
+    turned-curve = turning-curve turned-is
+
+    pub turned-next : {s : ℕ} → s ≡ segment-in n (k .points) (turned k ratio v g) → s + 1 < k .points
+    turned-next e =
+        let on = turning-on in
+        let z = points-of (L .has .counts) in
+        rw (e, turned-is, ← segment-of (power-speed car v g)) (omega (arith, on .next-point, z))
+
     -- a power that is the gear's is within its bounds
     pub sized-of : (a : code.Power) → power-of a ≡ power car v g → PowerSized a
     unfolding power
@@ -111,7 +126,7 @@ module _ {car : Vehicle} {k : Numbers} {ratio n p : List ℕ} (L : Lent car k ra
         ) (enough-none e h _ _ (omega arith))
 
 -- a gear that fits turns the engine no faster than nmax
-pub turning-of : {car : Vehicle} {k : Numbers} {ratio : List ℕ} → Has car k ratio → (here : Place) (v g : ℕ) → InGear k g → fits car here v g ≡ true → Turning k ratio v g
+pub turning-of : {car : Vehicle} {k : Numbers} {ratio : List ℕ} → Has car k ratio → (here : Role) (v g : ℕ) → InGear k g → fits car here v g ≡ true → Turning k ratio v g
 unfolding fits under-nmax
 turning-of {car} H here v g b t = record {
   from = b .from;

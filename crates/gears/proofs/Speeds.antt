@@ -9,8 +9,7 @@ use mathlib.Core.List.{List}
 use lib.Dec.{leb, eqb}
 use borrow.Author.Tests.{le-leb, lt-leb, ne-eqb, eq-eqb}
 use Rattle.rules.specs.declared.Vehicle.{Vehicle}
-use Rattle.rules.specs.declared.Place.{Place}
-use Rattle.rules.specs.declared.Place.the-variants.{First, Closing, AfterLow, Inner}
+use Rattle.rules.specs.declared.Role.{Role}
 use Rattle.rules.specs.Words.{_and_, _or_, at, first}
 use Rattle.rules.specs.Units.{low, ratio-of}
 use Rattle.rules.specs.Gears.{is-first, next-minimum, minimum, minimum-of, engine, under-nmax, over-minimum, allowed, fits}
@@ -24,7 +23,7 @@ use Rattle.gears.proofs.Parts.{low-of, ng-of, nmax-of, engine-of}
 -- ---- minimum speed
 
 -- of the lowest gear, of the next, and of those above
-module _ (car : Vehicle) (here : Place) (g : ℕ) where
+module _ (car : Vehicle) (here : Role) (g : ℕ) where
   pub minimum-one : g - low car ≡ 0 → minimum car here g ≡ car .idle
   unfolding minimum minimum-of
   minimum-one e = rw e
@@ -38,20 +37,12 @@ module _ (car : Vehicle) (here : Place) (g : ℕ) where
   minimum-above a b = let e : g - low car ≡ suc (suc (g - low car - 2)) = omega arith in rw e
 
 -- from two above the lowest on the gears share one minimum
-pub same-minimum : (car : Vehicle) (here : Place) (g : ℕ) → low car + 1 < g → minimum car here (low car + 2) ≡ minimum car here g
+pub same-minimum : (car : Vehicle) (here : Role) (g : ℕ) → low car + 1 < g → minimum car here (low car + 2) ≡ minimum car here g
 same-minimum car here g h =
     minimum-above car here (low car + 2) (λ z. omega arith) (λ z. omega arith)
     ∙ sym (minimum-above car here g (λ z. omega arith) (λ z. omega arith))
 
 -- ---- fitting
-
--- a trip's first second is the only one that is
-pub only-first-is : (here : Place) → is-first here ≡ true → here ≡ First
-unfolding is-first
-only-first-is First e = refl
-only-first-is Closing e = let z : _≡_ {A = ℕ} 0 1 = cc in absurd (omega arith)
-only-first-is AfterLow e = let z : _≡_ {A = ℕ} 0 1 = cc in absurd (omega arith)
-only-first-is Inner e = let z : _≡_ {A = ℕ} 0 1 = cc in absurd (omega arith)
 
 no-and : (a b : Bool) → a ≡ false → a and b ≡ false
 unfolding _and_
@@ -64,16 +55,16 @@ and-yes true = refl
 and-yes false = refl
 
 -- at a trip's first second another gear than the lowest does not fit
-pub fits-not : (car : Vehicle) (here : Place) (v g : ℕ) → (g ≡ low car → ⊥) → is-first here ≡ true → false ≡ fits car here v g
+pub fits-not : (car : Vehicle) (here : Role) (v g : ℕ) → (g ≡ low car → ⊥) → is-first here ≡ true → false ≡ fits car here v g
 unfolding fits allowed _or_
 fits-not car here v g n t = sym (no-and _ _ (and-no _ _ (rw (ne-eqb g (low car) n, t))))
 
 -- nor does one below the lowest, at any second
-pub fits-below : (car : Vehicle) (here : Place) (v g : ℕ) → g < low car → fits car here v g ≡ false
+pub fits-below : (car : Vehicle) (here : Role) (v g : ℕ) → g < low car → fits car here v g ≡ false
 unfolding fits allowed
 fits-below car here v g l = no-and _ _ (no-and _ _ (lt-leb (low car) g l))
 
-module _ {car : Vehicle} {k : Numbers} {ratio : List ℕ} (H : Has car k ratio) (here : Place) (v g : ℕ) where
+module _ {car : Vehicle} {k : Numbers} {ratio : List ℕ} (H : Has car k ratio) (here : Role) (v g : ℕ) where
   -- X is over 1000 x nmax
   pub fits-over : 1000 * k .nmax < at ratio (g - 1) * v → false ≡ fits car here v g
   unfolding fits under-nmax engine ratio-of
@@ -93,7 +84,7 @@ module _ {car : Vehicle} {k : Numbers} {ratio : List ℕ} (H : Has car k ratio) 
   unfolding fits allowed over-minimum under-nmax engine ratio-of _and_ _or_
   fits-later a t h = rw (low-of (H .counts), nmax-of (H .counts), H .ratios, ne-eqb g (low-in k) (omega arith), t, le-leb (low-in k) g (omega arith), le-leb _ _ h) (sym (and-yes _))
 
-  -- a later second and a gear from two above the lowest on, by their shared minimum: below it ..
+  -- a later second and a gear from two above the lowest on, below their shared minimum
   module _ {least : ℕ} (e : least ≡ 1000 * minimum car here (low-in k + 2)) (a : low-in k + 1 < g) (t : is-first here ≡ false) where
     shared : least ≡ 1000 * minimum car here g
     shared = e ∙ ap (λ x. 1000 * x) (rw (low-of (H .counts)) at (same-minimum car here g (omega (arith, low-of (H .counts)))))
@@ -103,13 +94,6 @@ module _ {car : Vehicle} {k : Numbers} {ratio : List ℕ} (H : Has car k ratio) 
     fits-under h =
         let l : at ratio (g - 1) * v < 1000 * minimum car here g = omega (arith, shared) in
         sym (and-no _ _ (no-and _ _ (rw (low-of (H .counts), engine-of H g v, ne-eqb g (low-in k) (λ z. omega arith)) (lt-leb _ _ l))))
-
-    -- .. or not: then nmax decides
-    pub fits-upper : least ≤ at ratio (g - 1) * v → leb (at ratio (g - 1) * v) (1000 * k .nmax) ≡ fits car here v g
-    unfolding fits allowed over-minimum under-nmax _and_ _or_
-    fits-upper h =
-        let l : 1000 * minimum car here g ≤ at ratio (g - 1) * v = omega (arith, shared) in
-        rw (low-of (H .counts), engine-of H g v, ne-eqb g (low-in k) (λ z. omega arith), t, le-leb (low-in k) g (omega arith), le-leb _ _ l, nmax-of (H .counts))
 
 -- ---- the floor
 

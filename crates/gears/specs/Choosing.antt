@@ -1,9 +1,8 @@
 -- The rules of a choice over the parts that the functions are lent, and what those functions ask of them.
 -- Assumes nothing.
-use Prim.Native.Nat.{ℕ, suc, _+_, _-_, _*_, _≤_, _<_}
+use Prim.Native.Nat.{ℕ, suc, _+_, _-_, _*_, _≤_, _<_, max}
 use mathlib.Core.Path.{_≡_, refl}
-use mathlib.Core.Logic.{_≢_}
-use mathlib.Core.Bool.{Bool, true}
+use mathlib.Core.Bool.{Bool, true, false}
 use mathlib.Core.List.{List}
 use mathlib.Core.Option.{Option·getD}
 use lib.Dec.{leb, eqb}
@@ -11,13 +10,14 @@ use lib.ListN.{replicate}
 use lib.IntN.{ℤ, pos, natAbs, _*ℤ_}
 use lib.Signed.{leZ}
 use Rattle.rules.specs.declared.Vehicle.{Vehicle}
-use Rattle.rules.specs.declared.Place.{Place}
-use Rattle.rules.specs.declared.Place.the-variants.{First}
-use Rattle.rules.specs.Words.{if_then_else_, _and_, _or_, at, first, pass}
-use Rattle.rules.specs.Gears.{Power, fits, power, strongest, choose, reaches, segment}
+use Rattle.rules.specs.declared.Role.{Role}
+use Rattle.rules.specs.declared.Role.the-variants.{Inner}
+use Rattle.rules.specs.Words.{if_then_else_, _and_, at, first, highest, pass}
+use Rattle.rules.specs.Gears.{Power, engine, minimum, fits, power, more, strongest, choose, reaches, segment}
 use Rattle.rules.specs.Units.{low, fastest, steepest, rise}
 use Rattle.rules.specs.Corrections.{here, first-choice}
 use Rattle.gears.specs.declared.Numbers.{Numbers}
+use Rattle.gears.specs.Parts.{low-in}
 use Rattle.gears.specs.declared.Power as code
 use Rattle.gears.specs.declared.Best.{Best}
 
@@ -57,6 +57,10 @@ pub record Segment (x s : ℕ) : Type 0 where
 abbrev pub power-of : code.Power → Power
 power-of r = record { Q = r .q; w = r .w }
 
+-- the engine speed at which power is read at a gear
+unfoldable pub turned : Numbers → List ℕ → ℕ → ℕ → ℕ
+turned k ratio v g = max (at ratio (g - 1) * v) (1000 * k .idle)
+
 -- a gear that turns the engine no faster than nmax
 pub record Turning (k : Numbers) (ratio : List ℕ) (v g : ℕ) : Type 0 where
   pub from : 1 ≤ g
@@ -84,41 +88,86 @@ unfoldable pub enough-for : Power → ℤ → Bool
 enough-for a e = leZ (e *ℤ a .w) (a .Q *ℤ pos 3240000)
 
 -- a gear fits and has enough power for E
-unfoldable pub suits-for : Vehicle → Place → ℕ → ℤ → ℕ → Bool
+unfoldable pub suits-for : Vehicle → Role → ℕ → ℤ → ℕ → Bool
 suits-for car here v e g = fits car here v g and enough-for (power car v g) e
+
+-- the rules' choice, for an E
+unfoldable pub choose-for : Vehicle → Role → ℕ → ℤ → ℕ
+choose-for car here v e =
+    let g = highest (suits-for car here v e) (car .ng) in
+    if eqb g 0 then strongest car here v (car .ng) else g
 
 -- one of the gears
 pub record InGear (k : Numbers) (g : ℕ) : Type 0 where
   pub from : 1 ≤ g
   pub to : g ≤ k .ng
 
--- of the gears up to j the strongest, with its power where there is one
-pub record Strongest (car : Vehicle) (here : Place) (v j : ℕ) (b : Best) : Type 0 where
-  pub is : b .gear ≡ strongest car here v j
-  pub its-power : b .gear ≢ 0 → power-of (b .power) ≡ power car v (b .gear)
-
 -- a speed and a step in bounds
 pub record Pace (v : ℕ) (d : ℤ) : Type 0 where
   pub v-to : v ≤ fastest
   pub d-in : natAbs d ≤ steepest
 
--- the choice at a trip's first second: the lowest gear if it fits, otherwise 0
-unfoldable pub only-first : Vehicle → ℕ → ℕ
-only-first car v = if fits car First v (low car) then low car else 0
+-- ---- the gears in reach
 
--- the gear to look at after gear g: the one above the lowest, where no gear above that is in reach, else the one below g
-unfoldable pub next-down : ℕ → Bool → ℕ → ℕ
-next-down lowest reached g = if reached or leb g (lowest + 2) then g - 1 else lowest + 1
+-- gears that all have a place, the lowest not the last of them, and ratios that do not rise
+pub record Falling (k : Numbers) (ratio : List ℕ) : Type 0 where
+  pub ng-to : k .ng ≤ 10
+  pub low-ng : low-in k < k .ng
+  pub falls : (g : ℕ) → 1 ≤ g → g < k .ng → at ratio g ≤ at ratio (g - 1)
 
--- a lowest gear of either profile, and a gear from it on
-pub record FromLowest (lowest g : ℕ) : Type 0 where
-  pub one-or-two : lowest ≤ 2
-  pub from : 1 ≤ lowest
-  pub above : lowest ≤ g
-  pub to : g ≤ 10
+-- a gear above the lowest
+pub record Higher (k : Numbers) (g : ℕ) : Type 0 where
+  pub from : low-in k + 1 ≤ g
+  pub to : g ≤ k .ng
+
+-- the highest gear to look at, where the gears from two above the lowest on share a minimum of engine speed `least`
+pub record Reached (k : Numbers) (ratio : List ℕ) (v least g : ℕ) : Type 0 where
+  pub from : low-in k + 1 ≤ g
+  pub to : g ≤ k .ng
+  pub above : (i : ℕ) → g < i → i ≤ k .ng → at ratio (i - 1) * v < least
+  pub over : low-in k + 1 < g → least ≤ at ratio (g - 1) * v
+
+-- gear g and those below it are in reach: from two above the lowest on they are over their minimum
+pub record InReach (car : Vehicle) (v g : ℕ) : Type 0 where
+  pub over : (i : ℕ) → low car + 1 < i → i ≤ g → 1000 * minimum car Inner i ≤ engine car i v
+
+-- where a search may start: a gear above the lowest, and a segment of the curve
+pub record Hints (k : Numbers) (reached segment : ℕ) : Type 0 where
+  pub from : low-in k + 1 ≤ reached
+  pub to : reached ≤ k .ng
+  pub near : segment + 1 < k .points
+
+-- ---- the fallback
+
+-- the choice where only the lowest gear may fit: that gear if it fits, otherwise 0
+unfoldable pub only-lowest : Vehicle → Role → ℕ → ℕ
+only-lowest car here v = if fits car here v (low car) then low car else 0
+
+-- gear g with power a where it has more than the best so far, otherwise that one
+unfoldable pub the-stronger : Best → ℕ → code.Power → Best
+the-stronger b g a = if more (power-of a) (power-of (b .power)) then record { gear = g; power = a } else b
+
+-- b is the highest gear that fits, with its power
+pub record Highest (car : Vehicle) (here : Role) (v : ℕ) (b : Best) : Type 0 where
+  pub to : b .gear ≤ car .ng
+  pub fitting : fits car here v (b .gear) ≡ true
+  pub its-power : power-of (b .power) ≡ power car v (b .gear)
+  pub none-above : (h : ℕ) → b .gear < h → h ≤ car .ng → fits car here v h ≡ false
+
+-- the gears from g on have been tried: none suits for E, and b is the one of them that fits with most power, the higher gear on a tie
+pub record Tried (car : Vehicle) (here : Role) (v : ℕ) (e : ℤ) (g : ℕ) (b : Best) : Type 0 where
+  pub above : g ≤ b .gear
+  pub to : b .gear ≤ car .ng
+  pub fitting : fits car here v (b .gear) ≡ true
+  pub its-power : power-of (b .power) ≡ power car v (b .gear)
+  pub none-suits : (h : ℕ) → g ≤ h → h ≤ car .ng → suits-for car here v e h ≡ false
+  pub none-stronger : (h : ℕ) → g ≤ h → h ≤ car .ng → fits car here v h ≡ true → more (power car v h) (power car v (b .gear)) ≡ false
+  pub none-higher : (h : ℕ) → b .gear < h → h ≤ car .ng → fits car here v h ≡ true → more (power car v (b .gear)) (power car v h) ≡ true
+
+-- ---- the first choice
 
 -- the first choice: the held gear if there is one, otherwise the rules' choice; 0 where no gear fits
-unfoldable pub first-of : Vehicle → Place → ℕ → ℤ → ℕ → ℕ
+unfoldable pub first-of : Vehicle → Role → ℕ → ℤ → ℕ → ℕ
 first-of car here v d hold = if eqb hold 0 then choose car here v d else hold
 
 -- it is the first choice of second j of a trip

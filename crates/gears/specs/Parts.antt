@@ -8,7 +8,7 @@ use lib.IntN.{pos}
 use Rattle.rules.specs.declared.Vehicle.{Vehicle}
 use Rattle.rules.specs.Words.{at}
 use Rattle.rules.specs.Gears.{derated}
-use Rattle.rules.specs.Vocabulary.{InBounds}
+use Rattle.rules.specs.Inside.{InBounds}
 use Rattle.gears.specs.declared.Numbers.{Numbers}
 
 -- a vehicle's numbers

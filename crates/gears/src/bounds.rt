@@ -1,12 +1,12 @@
-// The vehicle's bounds: the first field out of bounds is refused.
+// The vehicle's bounds in a version of the job: the first field out of bounds is refused.
 ghost use mathlib.Core.Path.{_≡_};
 ghost use Prim.Native.Nat.{_+_, _-_, _≤_, _<_};
 ghost use lib.IntN.{pos, negℤ};
 ghost use lib.Signed.{leZ};
 ghost use lib.Dec.{leb, ltb, eqb};
 ghost use Rattle.rules.specs.Words.{_and_, _or_, within, at, every};
-ghost use Rattle.rules.specs.Units.{ratio-good, point-good};
-ghost use Rattle.rules.specs.Refusals.{said, vehicle-fault};
+ghost use Rattle.rules.specs.Units.{ratio-good, point-good, bounds, first-failed};
+ghost use Rattle.rules.specs.Refusals.{said, refuse-at};
 ghost use Rattle.rules.specs.declared.Vehicle.{Vehicle};
 ghost use Rattle.gears.specs.Second.{Gear, Points, CurveOf};
 use rules::Answer;
@@ -21,6 +21,16 @@ fn within(lo: u16, hi: u16, x: u16) -> bool
         return false;
     }
     x <= hi
+}
+
+// The versions from the first on have a place for the value; the others have none, and it is 0.
+fn placed(first: u16, version: u16, x: u16) -> bool
+    ensures { λ r. ⌜ r ≡ (leb first version or eqb x 0) ⌝ }
+{
+    if first <= version {
+        return true;
+    }
+    x == 0
 }
 
 // A gear's ratio is 1 to 50,000, and below that of the gear before.
@@ -70,15 +80,18 @@ fn point_rises(n: &[u16; 64], k: usize) -> bool
     x - lower <= 1000
 }
 
-// A point's margin is at most 50, and at most 90 with M.
-fn margin_good(margin: u16, m: u16) -> bool
+// A point's margin is at most 50, and at most 90 with M; version 1 has no place for one above 0.
+fn margin_good(version: u16, margin: u16, m: u16) -> bool
     requires { ⌜ margin ≤ 50 ⌝ }
-    ensures { λ r. ⌜ r ≡ (leb m 50 and leb (margin + m) 90) ⌝ }
+    ensures { λ r. ⌜ r ≡ (leb m 50 and leb (margin + m) 90 and (leb 2 version or eqb m 0)) ⌝ }
 {
     if m > 50 {
         return false;
     }
-    margin + m <= 90
+    if margin + m > 90 {
+        return false;
+    }
+    placed(2, version, m)
 }
 
 // A point's n is 1 to 16,000 and rises, its p is at most 5,000, and its margin is good.
@@ -88,9 +101,10 @@ fn point_good<'a>(
     m: &'a [u16; 64],
     margin: u16,
     k: usize,
+    version: u16,
 ) -> bool
     requires { ⌜ (k < 64) × (margin ≤ 50) ⌝ }
-    ensures { λ r. ⌜ ((car : Vehicle) → CurveOf car (now (n .entry)) (now (p .entry)) (now (m .entry)) margin → r ≡ point-good car k) ⌝ }
+    ensures { λ r. ⌜ ((car : Vehicle) → CurveOf car (now (n .entry)) (now (p .entry)) (now (m .entry)) margin → r ≡ point-good version car k) ⌝ }
 {
     if !within(1, 16000, n[k]) {
         return false;
@@ -101,7 +115,7 @@ fn point_good<'a>(
     if p[k] > 5000 {
         return false;
     }
-    margin_good(margin, m[k])
+    margin_good(version, margin, m[k])
 }
 
 // So are the points 0 to points - 1.
@@ -111,14 +125,15 @@ fn points_good<'a>(
     m: &'a [u16; 64],
     margin: u16,
     points: u16,
+    version: u16,
 ) -> bool
     requires { ⌜ (points ≤ 64) × (margin ≤ 50) ⌝ }
-    ensures { λ r. ⌜ ((car : Vehicle) → CurveOf car (now (n .entry)) (now (p .entry)) (now (m .entry)) margin → r ≡ every (point-good car) 0 points) ⌝ }
+    ensures { λ r. ⌜ ((car : Vehicle) → CurveOf car (now (n .entry)) (now (p .entry)) (now (m .entry)) margin → r ≡ every (point-good version car) 0 points) ⌝ }
 {
     let end = points as usize;
     let mut k: usize = 0;
     while k < end {
-        if !point_good(n, p, m, margin, k) {
+        if !point_good(n, p, m, margin, k, version) {
             return false;
         }
         k += 1;
@@ -158,21 +173,24 @@ fn ends_good(n: &[u16; 64], points: u16, idle: u16, nmax: u16) -> bool
     nmax <= n[last]
 }
 
-// The profile is 0 or 1, and above a crawler there are two gears at least.
-fn gears_good(profile: u16, ng: u16) -> bool
-    ensures { λ r. ⌜ r ≡ (leb profile 1 and within (1 + profile + 1) 10 ng) ⌝ }
+// The profile is 0 or 1, and 0 in versions 1 and 2; above a crawler there are two gears at least.
+fn gears_good(version: u16, profile: u16, ng: u16) -> bool
+    ensures { λ r. ⌜ r ≡ (leb profile 1 and (leb 3 version or eqb profile 0) and within (2 + profile) 10 ng) ⌝ }
 {
     if 1 < profile {
+        return false;
+    }
+    if !placed(3, version, profile) {
         return false;
     }
     within(profile + 2, 10, ng)
 }
 
-// The first field out of bounds is refused.
-pub fn check_vehicle(car: Vehicle) -> Answer
-    ensures { λ r. ⌜ said r ≡ vehicle-fault car ⌝ }
+// The first field that is out of bounds, or has no place in the version, is refused.
+pub fn check_vehicle(car: Vehicle, version: u16) -> Answer
+    ensures { λ r. ⌜ said r ≡ refuse-at 3 (first-failed 1 (bounds version car)) ⌝ }
 {
-    if !gears_good(car.profile, car.ng) {
+    if !gears_good(version, car.profile, car.ng) {
         return Answer::Refused(Refusal::VehicleField(1));
     }
     if !ratios_good(&car.ratio, car.ng) {
@@ -205,7 +223,7 @@ pub fn check_vehicle(car: Vehicle) -> Answer
     if !within(2, 64, car.points) {
         return Answer::Refused(Refusal::VehicleField(11));
     }
-    if !points_good(&car.n, &car.p, &car.m, car.margin, car.points) {
+    if !points_good(&car.n, &car.p, &car.m, car.margin, car.points, version) {
         return Answer::Refused(Refusal::VehicleField(12));
     }
     if !ends_good(&car.n, car.points, car.idle, car.nmax) {

@@ -1,29 +1,30 @@
 // The first choice of one second.
 ghost use mathlib.Core.Path.{_≡_};
 ghost use mathlib.Core.Bool.{false};
-ghost use Prim.Native.Nat.{_+_, _-_, _*_, _≤_};
-ghost use lib.Dec.{leb};
+ghost use Prim.Native.Nat.{_+_, _-_, _*_, _≤_, _<_, min};
+ghost use lib.Dec.{leb, ltb, eqb};
 ghost use lib.IntN.{pos, natAbs, _-ℤ_};
-ghost use Rattle.rules.specs.Words.{at};
+ghost use Rattle.rules.specs.Words.{_and_, at};
+ghost use Rattle.rules.specs.declared.Role.{Role};
 ghost use Rattle.rules.specs.declared.Vehicle.{Vehicle};
-ghost use Rattle.rules.specs.Gears.{is-first, minimum, fits, more, strongest, choose};
-ghost use Rattle.rules.specs.Corrections.{place-of};
+ghost use Rattle.rules.specs.Gears.{minimum, fits, more, choose};
+ghost use Rattle.rules.specs.Corrections.{role-of};
 ghost use Rattle.gears.specs.Parts.{low-in, Counts, Has, Lent, Parts};
-ghost use Rattle.gears.specs.Second.{GearOf};
-ghost use Rattle.gears.specs.Choosing.{power-of, PowerSized, most-E, Weighed, enough-for, suits-for, InGear, Strongest, Pace, FromLowest, only-first, next-down, first-of};
+ghost use Rattle.gears.specs.Second.{GearOf, Driven};
+ghost use Rattle.gears.specs.Choosing.{power-of, PowerSized, most-E, Weighed, enough-for, Pace, Falling, Higher, Reached, InReach, only-lowest, the-stronger, Highest, Tried, choose-for, Hints, first-of};
 use crate::Best;
+use crate::Chosen;
 use crate::Numbers;
 use crate::Power;
 use crate::curve::power_at;
+use crate::curve::segment_at;
 use crate::second::engine;
-use crate::second::fits;
-use crate::second::is_first;
 use crate::second::lowest;
 use crate::second::minimum;
 use crate::second::required;
 use crate::second::step_of;
 use crate::second::top;
-use rules::Place;
+use rules::Role;
 
 // Whether a power is enough for E. E keeps its sign: negative while braking.
 pub fn enough(a: Power, e: i64) -> bool
@@ -41,210 +42,265 @@ pub fn more(a: Power, b: Power) -> bool
     b.q * a.w < a.q * b.w
 }
 
-// Whether a gear fits at a later second of a trip. The gears from two above the lowest on share one minimum, of engine speed `least`.
-fn fits_later(k: Numbers, ratio: &[u16; 10], here: Place, v: u16, least: u64, g: usize) -> bool
-    requires { ⌜ GearOf k g × (is-first here ≡ false) × ((car : Vehicle) → Counts car k → least ≡ 1000 * minimum car here (low-in k + 2)) ⌝ }
-    ensures { λ r. ⌜ ((car : Vehicle) → Has car k (now (ratio .entry)) → r ≡ fits car here v g) ⌝ }
+// What a second that is not its trip's first is in its trip: the first of these that it is. `before` is the first choice of the second before.
+fn role_of(k: Numbers, closes: bool, before: u8) -> Role
+    ensures { λ r. ⌜ ((car : Vehicle) → Counts car k → r ≡ role-of car false closes before) ⌝ }
 {
-    if g <= lowest(k) + 1 {
-        return fits(k, ratio, here, v, g);
+    if closes {
+        return Role::Closing;
     }
+    if before as usize == lowest(k) {
+        return Role::AfterLow;
+    }
+    Role::Inner
+}
+
+// Whether there is a gear g and its X reaches `least`.
+fn reaches(ratio: &[u16; 10], ng: usize, v: u16, least: u64, g: usize) -> bool
+    requires { ⌜ (1 ≤ g) × (ng ≤ 10) ⌝ }
+    ensures { λ r. ⌜ r ≡ (leb g ng and leb least (at (now (ratio .entry)) (g - 1) * v)) ⌝ }
+{
+    if ng < g {
+        return false;
+    }
+    least <= engine(ratio, g, v)
+}
+
+// The highest gear to look at: of those from two above the lowest on the highest whose X reaches the minimum that they share, `least`; where none does, the
+// gear above the lowest. It is found from any of these gears.
+fn reached(k: Numbers, ratio: &[u16; 10], v: u16, least: u64, from: usize) -> usize
+    requires { ⌜ Falling k (now ratio) × Higher k from ⌝ }
+    ensures { λ r. ⌜ Reached k (now (ratio .entry)) v least r ⌝ }
+{
+    let ng = k.ng as usize;
+    let second = lowest(k) + 1;
+    let mut g = from;
+    while reaches(ratio, ng, v, least, g + 1) {
+        g += 1;
+    }
+    while second < g {
+        if least <= engine(ratio, g, v) {
+            return g;
+        }
+        g -= 1;
+    }
+    g
+}
+
+// Whether a gear in reach is below its minimum, X = x: only the gear above the lowest may be.
+fn below_minimum(k: Numbers, closes: bool, before: u8, g: usize, x: u64) -> bool
+    requires { ⌜ k .idle ≤ k .rated ⌝ }
+    ensures { λ r. ⌜ ((car : Vehicle) → Counts car k → r ≡ (eqb g (low-in k + 1) and ltb x (1000 * minimum car (role-of car false closes before) g))) ⌝ }
+{
+    if g == lowest(k) + 1 {
+        return x < 1000 * minimum(k, role_of(k, closes, before), g);
+    }
+    false
+}
+
+// Whether a gear in reach fits at a second that is not its trip's first.
+fn fits_in_reach(k: Numbers, ratio: &[u16; 10], closes: bool, before: u8, v: u16, g: usize) -> bool
+    requires { ⌜ GearOf k g × (low-in k ≤ g) ⌝ }
+    ensures { λ r. ⌜ ((car : Vehicle) → Has car k (now (ratio .entry)) → InReach car v g → r ≡ fits car (role-of car false closes before) v g) ⌝ }
+{
     let x = engine(ratio, g, v);
-    if x < least {
+    if below_minimum(k, closes, before, g, x) {
         return false;
     }
     x <= top(k)
 }
 
-// Whether a gear fits at a later second and has enough power for E.
-fn suits<'a>(
-    k: Numbers,
-    ratio: &'a [u16; 10],
-    n: &'a [u16; 64],
-    p: &'a [u32; 64],
-    here: Place,
-    v: u16,
-    e: i64,
-    least: u64,
-    g: usize,
-) -> bool
-    requires { ⌜ Parts k (now ratio) (now n) (now p) × InGear k g × (natAbs e ≤ most-E) × (is-first here ≡ false) × ((car : Vehicle) → Counts car k → least ≡ 1000 * minimum car here (low-in k + 2)) ⌝ }
-    ensures { λ r. ⌜ ((car : Vehicle) → Lent car k (now (ratio .entry)) (now (n .entry)) (now (p .entry)) → r ≡ suits-for car here v e g) ⌝ }
+// The lowest gear where it fits; else 0.
+fn only_lowest(k: Numbers, ratio: &[u16; 10], v: u16) -> usize
+    requires { ⌜ Driven k ⌝ }
+    ensures { λ r. ⌜ ((car : Vehicle) → Has car k (now (ratio .entry)) → (here : Role) → r ≡ only-lowest car here v) ⌝ }
 {
-    if fits_later(k, ratio, here, v, least, g) {
-        // every power is enough while coasting or braking
-        if e <= 0 {
-            return true;
-        }
-        let a = power_at(k, ratio, n, p, v, g);
-        return enough(a, e);
+    let low = lowest(k);
+    if top(k) < engine(ratio, low, v) {
+        return 0;
     }
-    false
+    low
 }
 
-// The strongest of the gears up to g, given that of the gears below.
-fn stronger<'a>(
-    best: Best,
-    k: Numbers,
-    ratio: &'a [u16; 10],
-    n: &'a [u16; 64],
-    p: &'a [u32; 64],
-    here: Place,
-    v: u16,
-    g: usize,
-) -> Best
-    requires { ⌜ Parts k (now ratio) (now n) (now p) × InGear k g × ((car : Vehicle) → Lent car k (now ratio) (now n) (now p) → Strongest car here v (g - 1) best) ⌝ }
-    ensures { λ r. ⌜ ((car : Vehicle) → Lent car k (now (ratio .entry)) (now (n .entry)) (now (p .entry)) → Strongest car here v g r) ⌝ }
+// The stronger of the best gear so far and gear g below it, whose power is a; the best so far on a tie.
+fn stronger(best: Best, g: usize, a: Power) -> Best
+    requires { ⌜ PowerSized (best .power) × PowerSized a ⌝ }
+    ensures { λ r. ⌜ r ≡ the-stronger best g a ⌝ }
 {
-    if fits(k, ratio, here, v, g) {
-        let a = power_at(k, ratio, n, p, v, g);
-        if best.gear == 0 {
-            return Best { gear: g, power: a };
-        }
-        let most = best.power;
-        if more(most, a) {
-            return best;
-        }
+    let most = best.power;
+    if more(a, most) {
         return Best { gear: g, power: a };
     }
     best
 }
 
-// The fallback: the fitting gear with most power, the higher gear on a tie; 0 where none fits.
-pub fn strongest<'a>(
-    k: Numbers,
-    ratio: &'a [u16; 10],
-    n: &'a [u16; 64],
-    p: &'a [u32; 64],
-    here: Place,
-    v: u16,
-) -> usize
-    requires { ⌜ Parts k (now ratio) (now n) (now p) ⌝ }
-    ensures { λ r. ⌜ ((car : Vehicle) → Lent car k (now (ratio .entry)) (now (n .entry)) (now (p .entry)) → r ≡ strongest car here v (k .ng)) ⌝ }
+// The next gear to look at below g: the step from the top gear passes over those out of reach, and over the highest in reach, which was tried with it.
+fn below(g: usize, highest: usize) -> usize
+    requires { ⌜ (1 ≤ g) × (1 ≤ highest) ⌝ }
+    ensures { λ r. ⌜ r ≡ min g highest - 1 ⌝ }
 {
-    let mut best = Best {
-        gear: 0,
-        power: Power { q: 0, w: 1 },
-    };
-    let mut g = lowest(k) - 1;
-    while g < k.ng as usize {
-        g += 1;
-        best = stronger(best, k, ratio, n, p, here, v, g);
-    }
-    best.gear
-}
-
-// The choice at a trip's first second: the lowest gear, the only one that may fit; 0 where it does not.
-fn only_first(k: Numbers, ratio: &[u16; 10], v: u16) -> usize
-    requires { ⌜ (k .idle ≤ k .rated) × (low-in k ≤ 10) ⌝ }
-    ensures { λ r. ⌜ ((car : Vehicle) → Has car k (now (ratio .entry)) → r ≡ only-first car v) ⌝ }
-{
-    let low = lowest(k);
-    if fits(k, ratio, Place::First, v, low) {
-        return low;
-    }
-    0
-}
-
-// The next gear to look at below g. Where the gear two above the lowest does not reach the minimum that it shares with those above, none of them does.
-fn below(low: usize, ratio: &[u16; 10], v: u16, least: u64, g: usize) -> usize
-    requires { ⌜ FromLowest low g ⌝ }
-    ensures { λ r. ⌜ r ≡ next-down low (leb least (at (now (ratio .entry)) (low + 1) * v)) g ⌝ }
-{
-    if low + 2 < g {
-        if engine(ratio, low + 2, v) < least {
-            return low + 1;
-        }
-        return g - 1;
+    if highest < g {
+        return highest - 1;
     }
     g - 1
 }
 
-// The rules' choice: from the top gear down the first that fits and has enough power, or the fallback.
+// Whether the search stands at the highest gear that fits, or above it, and that gear has enough power for E.
+fn suffices(g: usize, highest: Best, e: i64) -> bool
+    requires { ⌜ Weighed (highest .power) e ⌝ }
+    ensures { λ r. ⌜ r ≡ (leb (highest .gear) g and enough-for (power-of (highest .power)) e) ⌝ }
+{
+    if g < highest.gear {
+        return false;
+    }
+    let a = highest.power;
+    enough(a, e)
+}
+
+// From the top gear down the first that fits and has enough power for E, or the fallback: the fitting gear with most power, the higher gear on a tie. `first` is
+// the highest that fits, with its power.
+fn choose_from<'a>(
+    k: Numbers,
+    ratio: &'a [u16; 10],
+    n: &'a [u16; 64],
+    p: &'a [u32; 64],
+    closes: bool,
+    before: u8,
+    v: u16,
+    e: i64,
+    first: Best,
+    near: usize,
+) -> usize
+    requires { ⌜ Parts k (now ratio) (now n) (now p) × (natAbs e ≤ most-E) × (near + 1 < k .points) × Higher k (first .gear) × ((car : Vehicle) → Lent car k (now ratio) (now n) (now p) → Highest car (role-of car false closes before) v first × InReach car v (first .gear)) ⌝ }
+    ensures { λ r. ⌜ ((car : Vehicle) → Lent car k (now (ratio .entry)) (now (n .entry)) (now (p .entry)) → r ≡ choose-for car (role-of car false closes before) v e) ⌝ }
+{
+    let low = lowest(k);
+    let highest = first.gear;
+    let mut best = first;
+    let mut s = near;
+    let mut g = k.ng as usize;
+    loop {
+        if suffices(g, first, e) {
+            break highest;
+        }
+        if g <= low {
+            break best.gear;
+        }
+        g = below(g, highest);
+        if fits_in_reach(k, ratio, closes, before, v, g) {
+            s = segment_at(k, ratio, n, v, g, s);
+            let a = power_at(k, ratio, n, p, v, g, s);
+            if enough(a, e) {
+                break g;
+            }
+            best = stronger(best, g, a);
+        }
+    }
+}
+
+// The rules' choice at a second that is not its trip's first. The search starts from a gear and a segment that may be any: those of the second before are near.
 pub fn choose<'a>(
     k: Numbers,
     ratio: &'a [u16; 10],
     n: &'a [u16; 64],
     p: &'a [u32; 64],
-    here: Place,
+    closes: bool,
+    before: u8,
     v: u16,
     d: i64,
-) -> usize
-    requires { ⌜ Parts k (now ratio) (now n) (now p) × Pace v d ⌝ }
-    ensures { λ r. ⌜ ((car : Vehicle) → Lent car k (now (ratio .entry)) (now (n .entry)) (now (p .entry)) → r ≡ choose car here v d) ⌝ }
+    from: usize,
+    near: usize,
+) -> Chosen
+    requires { ⌜ Parts k (now ratio) (now n) (now p) × Pace v d × Hints k from near ⌝ }
+    ensures gear { λ r. ⌜ ((car : Vehicle) → Lent car k (now (ratio .entry)) (now (n .entry)) (now (p .entry)) → r .gear ≡ choose car (role-of car false closes before) v d) ⌝ }
+    ensures hints { λ r. ⌜ Hints k (r .reached) (r .segment) ⌝ }
 {
-    // a trip begins in the lowest gear, whatever power it has
-    if is_first(here) {
-        return only_first(k, ratio, v);
+    let least = 1000 * minimum(k, Role::Inner, lowest(k) + 2);
+    let highest = reached(k, ratio, v, least, from);
+    let x = engine(ratio, highest, v);
+    // then the gear above the lowest is the highest in reach
+    if below_minimum(k, closes, before, highest, x) {
+        return Chosen {
+            gear: only_lowest(k, ratio, v) as u8,
+            reached: highest,
+            segment: near,
+        };
+    }
+    // those below turn faster still
+    if top(k) < x {
+        return Chosen {
+            gear: 0,
+            reached: highest,
+            segment: near,
+        };
     }
     let e = required(k, v, d);
-    let low = lowest(k);
-    let least = 1000 * minimum(k, here, low + 2);
-    let mut g = k.ng as usize;
-    loop {
-        if g < low {
-            break strongest(k, ratio, n, p, here, v);
-        }
-        if suits(k, ratio, n, p, here, v, e, least, g) {
-            break g;
-        }
-        g = below(low, ratio, v, least, g);
+    // every power is enough while coasting or braking
+    if e <= 0 {
+        return Chosen {
+            gear: highest as u8,
+            reached: highest,
+            segment: near,
+        };
+    }
+    let s = segment_at(k, ratio, n, v, highest, near);
+    let a = power_at(k, ratio, n, p, v, highest, s);
+    let g = choose_from(
+        k,
+        ratio,
+        n,
+        p,
+        closes,
+        before,
+        v,
+        e,
+        Best {
+            gear: highest,
+            power: a,
+        },
+        s,
+    );
+    Chosen {
+        gear: g as u8,
+        reached: highest,
+        segment: s,
     }
 }
 
-// The first choice: the held gear, or the rules' choice; 0 where no gear fits.
-pub fn first_choice<'a>(
-    k: Numbers,
-    ratio: &'a [u16; 10],
-    n: &'a [u16; 64],
-    p: &'a [u32; 64],
-    here: Place,
-    v: u16,
-    d: i64,
-    hold: u8,
-) -> u8
-    requires { ⌜ Parts k (now ratio) (now n) (now p) × Pace v d ⌝ }
-    ensures { λ r. ⌜ ((car : Vehicle) → Lent car k (now (ratio .entry)) (now (n .entry)) (now (p .entry)) → r ≡ first-of car here v d hold) ⌝ }
-{
-    if hold == 0 {
-        return choose(k, ratio, n, p, here, v, d) as u8;
-    }
-    hold
-}
-
-// What a second is in its trip: the first of these that it is. `before` is the first choice of the second before.
-fn place_of(k: Numbers, begins: bool, closes: bool, before: u8) -> Place
-    ensures { λ r. ⌜ ((car : Vehicle) → Counts car k → r ≡ place-of car begins closes before) ⌝ }
-{
-    if begins {
-        return Place::First;
-    }
-    if closes {
-        return Place::Closing;
-    }
-    if before as usize == lowest(k) {
-        return Place::AfterLow;
-    }
-    Place::Inner
-}
-
-// The first choice of a second on the way through its trip, from whether the trip begins there, whether its closing run has begun, and the first
-// choice before: the one step that the working and the check for want of a gear share.
+// The first choice of a second on the way through its trip that is not the trip's first, from whether its closing run has begun and the first choice before:
+// the held gear, or the rules' choice; 0 where no gear fits. It is the one step that the working and the check for want of a gear share.
 pub fn choice_after<'a>(
     k: Numbers,
     ratio: &'a [u16; 10],
     n: &'a [u16; 64],
     p: &'a [u32; 64],
-    begins: bool,
     closes: bool,
-    before: u8,
+    before: Chosen,
     v: u16,
     next: u16,
     hold: u8,
-) -> u8
-    requires { ⌜ Parts k (now ratio) (now n) (now p) × Pace v (pos next -ℤ pos v) ⌝ }
-    ensures { λ r. ⌜ ((car : Vehicle) → Lent car k (now (ratio .entry)) (now (n .entry)) (now (p .entry)) → r ≡ first-of car (place-of car begins closes before) v (pos next -ℤ pos v) hold) ⌝ }
+) -> Chosen
+    requires { ⌜ Parts k (now ratio) (now n) (now p) × Pace v (pos next -ℤ pos v) × Hints k (before .reached) (before .segment) ⌝ }
+    ensures gear { λ r. ⌜ ((car : Vehicle) → Lent car k (now (ratio .entry)) (now (n .entry)) (now (p .entry)) → r .gear ≡ first-of car (role-of car false closes (before .gear)) v (pos next -ℤ pos v) hold) ⌝ }
+    ensures hints { λ r. ⌜ Hints k (r .reached) (r .segment) ⌝ }
 {
-    let here = place_of(k, begins, closes, before);
-    first_choice(k, ratio, n, p, here, v, step_of(v, next), hold)
+    if hold != 0 {
+        return Chosen {
+            gear: hold,
+            reached: before.reached,
+            segment: before.segment,
+        };
+    }
+    choose(
+        k,
+        ratio,
+        n,
+        p,
+        closes,
+        before.gear,
+        v,
+        step_of(v, next),
+        before.reached,
+        before.segment,
+    )
 }

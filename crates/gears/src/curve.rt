@@ -1,13 +1,13 @@
 // The power curve: the available power of its points, the segment of an engine speed, and the power there.
 ghost use mathlib.Core.Path.{_≡_};
-ghost use Prim.Native.Nat.{suc, _+_, _-_, _*_, _≤_, max};
+ghost use Prim.Native.Nat.{suc, _+_, _-_, _*_, _≤_, _<_, max};
 ghost use Rattle.rules.specs.Words.{at};
 ghost use Rattle.rules.specs.Gears.{between, power};
 ghost use lib.IntN.{pos};
 ghost use Rattle.rules.specs.declared.Vehicle.{Vehicle};
 ghost use Rattle.gears.specs.Parts.{Lent, Parts};
-ghost use Rattle.gears.specs.Second.{Derates};
-ghost use Rattle.gears.specs.Choosing.{available, Signed, segment-in, Curve, Segment, power-of, Turning};
+ghost use Rattle.gears.specs.Second.{Gear, Derates};
+ghost use Rattle.gears.specs.Choosing.{available, Signed, segment-in, Curve, Segment, power-of, turned, Turning};
 use crate::Numbers;
 use crate::Power;
 use crate::second::engine;
@@ -56,22 +56,22 @@ pub fn derate<'a>(margin: u16, p: &'a [u16; 64], m: &'a [u16; 64], points: u16) 
     powers
 }
 
-// The segment of x, found by halving: the segment is from lo up to hi.
-pub fn segment(n: &[u16; 64], points: u16, x: u64) -> usize
-    requires { ⌜ Curve (now n) points x ⌝ }
+// The segment of x, found from a segment near it. The last point's speed is x or more, so the first loop ends before it.
+pub fn segment_near(n: &[u16; 64], points: u16, x: u64, near: usize) -> usize
+    requires { ⌜ Curve (now n) points x × (near + 1 < points) ⌝ }
     ensures { λ r. ⌜ r ≡ segment-in (now (n .entry)) points x ⌝ }
 {
-    let mut lo: usize = 0;
-    let mut hi: usize = points as usize - 2;
-    while lo < hi {
-        let mid = (lo + hi) / 2;
-        if x <= thousandths(n[mid + 1]) {
-            hi = mid;
-        } else {
-            lo = mid + 1;
-        }
+    let mut s = near;
+    while thousandths(n[s + 1]) < x {
+        s += 1;
     }
-    lo
+    while 0 < s {
+        if thousandths(n[s]) < x {
+            return s;
+        }
+        s -= 1;
+    }
+    s
 }
 
 // The power at x on a segment.
@@ -94,7 +94,22 @@ fn power_speed(idle: u16, x: u64) -> u64
     if x < least { least } else { x }
 }
 
-// The power at a gear.
+// The segment at which power is read at a gear, found from a segment near it.
+pub fn segment_at<'a>(
+    k: Numbers,
+    ratio: &'a [u16; 10],
+    n: &'a [u16; 64],
+    v: u16,
+    g: usize,
+    near: usize,
+) -> usize
+    requires { ⌜ Gear g × Curve (now n) (k .points) (turned k (now ratio) v g) × (near + 1 < k .points) ⌝ }
+    ensures { λ r. ⌜ r ≡ segment-in (now (n .entry)) (k .points) (turned k (now (ratio .entry)) v g) ⌝ }
+{
+    segment_near(n, k.points, power_speed(k.idle, engine(ratio, g, v)), near)
+}
+
+// The power at a gear, s the segment at which it is read.
 pub fn power_at<'a>(
     k: Numbers,
     ratio: &'a [u16; 10],
@@ -102,11 +117,10 @@ pub fn power_at<'a>(
     p: &'a [u32; 64],
     v: u16,
     g: usize,
+    s: usize,
 ) -> Power
-    requires { ⌜ Parts k (now ratio) (now n) (now p) × Turning k (now ratio) v g ⌝ }
+    requires { ⌜ Parts k (now ratio) (now n) (now p) × Turning k (now ratio) v g × (s ≡ segment-in (now n) (k .points) (turned k (now ratio) v g)) ⌝ }
     ensures { λ r. ⌜ ((car : Vehicle) → Lent car k (now (ratio .entry)) (now (n .entry)) (now (p .entry)) → power-of r ≡ power car v g) ⌝ }
 {
-    let x = power_speed(k.idle, engine(ratio, g, v));
-    let s = segment(n, k.points, x);
-    on_segment(n, p, x, s)
+    on_segment(n, p, power_speed(k.idle, engine(ratio, g, v)), s)
 }

@@ -20,6 +20,9 @@ pub use second::not_driven;
 pub use second::step_of;
 pub use second::top;
 
+// The newest version of a job, which has a place for every field of a vehicle.
+pub const NEWEST: u16 = 3;
+
 // The vehicle's numbers, without its arrays.
 pub struct Numbers {
     pub ng: u16,
@@ -44,6 +47,13 @@ pub struct Power {
 pub struct Best {
     pub gear: usize,
     pub power: Power,
+}
+
+// The first choice of a second, and where the search for the next one's starts: the highest gear in reach, and a segment of the curve.
+pub struct Chosen {
+    pub gear: u8,
+    pub reached: usize,
+    pub segment: usize,
 }
 
 // The numbers of a vehicle.

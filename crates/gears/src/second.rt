@@ -1,17 +1,17 @@
-// One second of a trip: engine speed, minimum speed, which gears fit, the floor, the step D and the required power E.
+// One second of a trip: engine speed, minimum speed, the floor, the step D and the required power E.
 ghost use mathlib.Core.Path.{_≡_};
 ghost use mathlib.Core.Bool.{false};
 ghost use Prim.Native.Nat.{_+_, _-_, _*_, _≤_};
 ghost use lib.IntN.{pos, _-ℤ_};
 ghost use Rattle.rules.specs.Words.{at};
-ghost use Rattle.rules.specs.Gears.{is-first, next-minimum, minimum, fits, required};
+ghost use Rattle.rules.specs.Gears.{next-minimum, minimum, required};
 ghost use Rattle.rules.specs.Corrections.{floor};
 ghost use Rattle.rules.specs.Refusals.{not-driven};
 ghost use Rattle.rules.specs.declared.Vehicle.{Vehicle};
 ghost use Rattle.gears.specs.Parts.{low-in, Counts, Has};
-ghost use Rattle.gears.specs.Second.{Gear, Lowest, GearOf, Driven, Load};
+ghost use Rattle.gears.specs.Second.{Gear, Lowest, Driven, Load};
 use crate::Numbers;
-use rules::Place;
+use rules::Role;
 
 // A number of the record, wide enough for a product with another.
 fn wide(x: u16) -> u64
@@ -49,34 +49,22 @@ pub fn engine(ratio: &[u16; 10], g: usize, v: u16) -> u64
     wide(ratio[g - 1]) * wide(v)
 }
 
-// Whether a second is its trip's first.
-pub fn is_first(here: Place) -> bool
-    ensures { λ r. ⌜ r ≡ is-first here ⌝ }
-{
-    match here {
-        Place::First => true,
-        Place::Closing => false,
-        Place::AfterLow => false,
-        Place::Inner => false,
-    }
-}
-
 // The minimum speed of the gear above the lowest, by what the second is in its trip, rounded to the nearest whole, halves up.
-fn next_minimum(k: Numbers, here: Place) -> u64
+fn next_minimum(k: Numbers, here: Role) -> u64
     ensures speed { λ r. ⌜ ((car : Vehicle) → Counts car k → r ≡ next-minimum car here) ⌝ }
     ensures small { λ r. ⌜ r ≤ 131070 ⌝ }
 {
     let idle = wide(k.idle);
     match here {
-        Place::First => (9 * idle + 5) / 10,
-        Place::Closing => idle,
-        Place::AfterLow => (115 * idle + 50) / 100,
-        Place::Inner => (9 * idle + 5) / 10,
+        Role::First => (9 * idle + 5) / 10,
+        Role::Closing => idle,
+        Role::AfterLow => (115 * idle + 50) / 100,
+        Role::Inner => (9 * idle + 5) / 10,
     }
 }
 
 // The minimum speed of a gear.
-pub fn minimum(k: Numbers, here: Place, g: usize) -> u64
+pub fn minimum(k: Numbers, here: Role, g: usize) -> u64
     requires { ⌜ Lowest k g ⌝ }
     ensures speed { λ r. ⌜ ((car : Vehicle) → Counts car k → r ≡ minimum car here g) ⌝ }
     ensures small { λ r. ⌜ r ≤ 131070 ⌝ }
@@ -95,25 +83,6 @@ pub fn top(k: Numbers) -> u64
     ensures { λ r. ⌜ r ≡ 1000 * k .nmax ⌝ }
 {
     1000 * wide(k.nmax)
-}
-
-// Whether a gear fits.
-pub fn fits(k: Numbers, ratio: &[u16; 10], here: Place, v: u16, g: usize) -> bool
-    requires { ⌜ GearOf k g ⌝ }
-    ensures { λ r. ⌜ ((car : Vehicle) → Has car k (now (ratio .entry)) → r ≡ fits car here v g) ⌝ }
-{
-    let x = engine(ratio, g, v);
-    if top(k) < x {
-        return false;
-    }
-    let low = lowest(k);
-    if g <= low {
-        return g == low;
-    }
-    if is_first(here) {
-        return false;
-    }
-    1000 * minimum(k, here, g) <= x
 }
 
 // The floor: the lowest gear whose X is at most 1000 x nmax; ng + 1 where there is none.

@@ -12,8 +12,9 @@ use Rattle.rules.specs.declared.Answer.the-variants.{Done}
 use Rattle.rules.specs.Refusals.{said}
 use Rattle.rules.specs.Groups.{Read, got, refused}
 use Rattle.rules.specs.Job.{Job, job-read, read-fault, job-of, filled}
-use Rattle.rules.specs.Vocabulary.{Bytes}
-use Rattle.rules.specs.Write.{job-from, job-fault, written, write-room, cleared}
+use Rattle.rules.specs.Vocabulary.{Bytes, job-from, job-fault, cleared}
+use Rattle.rules.specs.Write.{job-bytes, write-fault, write-room}
+use Rattle.rules.proofs.Laws.Checks.{left-none}
 use Rattle.rules.proofs.Laws.Refusals.{said-once}
 use Rattle.rules.proofs.Theorems.{written-reads-back, read-writes-back}
 use Rattle.jobs.specs.declared.Reading.{Reading}
@@ -27,6 +28,16 @@ use Rattle.jobs.proofs.Ends.{none-refused}
 said-done : (a : Answer) → said a ≡ none → a ≡ Done
 unfolding said
 said-done a e = said-once a Done e
+
+-- where nothing is refused, the bytes stand at the start of the room, and so many
+record PutWhole (bytes room : List ℕ) (w : Written) (room′ : List ℕ) : Type 0 where
+  count : w .length ≡ length bytes
+  start : room′ ≡ filled room bytes
+
+put-whole : {v : ℕ} {car : Vehicle} {vs hs room : List ℕ} {w : Written} {room′ : List ℕ} → WriteAs v car vs hs room w room′ → write-fault v car vs hs room ≡ none
+    → PutWhole (job-bytes v car vs hs) room w room′
+unfolding write-room
+put-whole a e = record { count = a .the-length ∙ left-none _ _ e; start = a .room-left ∙ left-none _ _ e }
 
 -- ---- what is written reads back as the same job
 
@@ -42,10 +53,12 @@ pub record SameJob (v : ℕ) (car : Vehicle) (vs hs s₀ h₀ : List ℕ) (r : R
 pub written-then-read : {v : ℕ} {car : Vehicle} {vs hs room : List ℕ} {w : Written} {room′ : List ℕ} → WriteAs v car vs hs room w room′ → w .answer ≡ Done
     → {s₀ h₀ s h : List ℕ} {r : Reading} → length vs ≤ length s₀ → length vs ≤ length h₀ → ReadAs (take (w .length) room′) s₀ h₀ r s h
     → SameJob v car vs hs s₀ h₀ r s h
-unfolding reading write-room job-from read-fault job-of
+unfolding reading job-from read-fault job-of
 written-then-read {v} {car} {vs} {hs} {room} {w} {room′} a d {s₀} {h₀} x y b =
-    let start : take (w .length) room′ ≡ written v car vs hs room = rw (a .room-left) (filled-start room (written v car vs hs room) (w .length) (a .the-length) .1) in
-    let e = ap (λ (l : List ℕ). job-read l (length s₀) (length h₀)) start ∙ written-reads-back v car vs hs room (none-refused (a .answered) d) (length s₀) (length h₀) x y in
+    let ok = none-refused (a .answered) d in
+    let t = put-whole a ok in
+    let start : take (w .length) room′ ≡ job-bytes v car vs hs = rw (t .start) (filled-start room (job-bytes v car vs hs) (w .length) (t .count) .1) in
+    let e = ap (λ (l : List ℕ). job-read l (length s₀) (length h₀)) start ∙ written-reads-back v car vs hs room ok (length s₀) (length h₀) x y .1 in
     record {
       done = said-done _ (b .answered ∙ rw e);
       version = b .the-version ∙ rw e;
@@ -73,15 +86,16 @@ pub read-then-written : {bytes s₀ h₀ s h : List ℕ} {r : Reading} → Bytes
     → job-fault (r .vehicle) (take (r .count) s) (take (r .count) h) ≡ none
     → {room : List ℕ} {w : Written} {room′ : List ℕ} → length bytes ≤ length room → WriteAs (r .version) (r .vehicle) (take (r .count) s) (take (r .count) h) room w room′
     → SameBytes bytes room w room′
-unfolding reading write-room
+unfolding reading
 read-then-written {bytes} {s₀} {h₀} {s} {h} {r} all-bytes a d ok {room} {w} {room′} l b =
     let m = was-read (reading bytes s₀ h₀) (none-refused (a .answered) d) in
     let q = rooms a in
     let ok′ = rw (q .speeds-are, q .holds-are, a .the-vehicle) at ok in
     let b′ = rw (q .speeds-are, q .holds-are, a .the-vehicle, a .the-version) at b in
     let t = read-writes-back bytes all-bytes (length s₀) (length h₀) (m .1) ok′ room l in
+    let p = put-whole b′ (t .0) in
     record {
       done = said-done _ (b′ .answered ∙ t .0);
-      count = b′ .the-length ∙ ap length (t .1);
-      start = b′ .room-left ∙ ap (filled room) (t .1);
+      count = p .count ∙ ap length (t .1);
+      start = p .start ∙ ap (filled room) (t .1);
     }

@@ -11,14 +11,15 @@ use Rattle.rules.specs.declared.Vehicle.{Vehicle}
 use Rattle.rules.specs.Words.{at, table}
 use Rattle.rules.specs.Groups.{form}
 use Rattle.rules.specs.Forms.{value, only-if, checked, bounded, _then_, seen, row-write, row, many, counted}
-use Rattle.rules.specs.Job.{version, profile, gearbox, numbers, point, curve, seconds, trace, hold, rising, points-of, parts-of, vehicle, gather, holds, fields, stages, job}
-use Rattle.rules.specs.Write.{job-from, job-bytes}
-use Rattle.rules.specs.Vocabulary.{InBounds}
+use Rattle.rules.specs.Job.{version, profile, gearbox, numbers, point, curve, seconds, trace, hold, points-of, parts-of, vehicle, gather, holds, fields, stages, job}
+use Rattle.rules.specs.Write.{job-bytes}
+use Rattle.rules.specs.Vocabulary.{job-from}
+use Rattle.rules.specs.Inside.{InBounds}
 use Rattle.rules.proofs.Laws.Words.{by-test, length-table, table-at}
 use Rattle.rules.proofs.Laws.Groups.{form-one, form-size}
 use Rattle.rules.proofs.Laws.Writes.{points-many}
 use Rattle.jobs.specs.Writing.{values-bytes, pair, pairs-bytes, since, margin, margins-bytes, points-bytes}
-use Rattle.jobs.proofs.Pieces.{values-left, values-more, values-none, values-all, points-left, points-more, points-none, margins-left, margins-more, margins-none, margins-all, margins-late, margins-early, since-late, since-early, pair-more, pair-none}
+use Rattle.jobs.proofs.BytesLeft.{values-left, values-more, values-none, values-all, points-left, points-more, points-none, margins-left, margins-more, margins-none, margins-all, margins-late, margins-early, since-late, since-early, pair-more, pair-none}
 
 -- the profile is written as a value
 profile-bytes : (v x : ℕ) → profile v .write x ≡ since 3 v .write x
@@ -50,7 +51,7 @@ rising-pairs count s (h ∷ l) = ap (λ (m : List ℕ). (form (h .0) ++ form (h 
 -- version; vehicle; sample count and speeds; hold count, second and gear
 pub job-pieces : (v : ℕ) (car : Vehicle) (vs hs : List ℕ) → job-bytes v car vs hs
     ≡ form v ++ (vehicle v .write car ++ ((form (length vs) ++ values-bytes vs (length vs)) ++ (form (length (gather 0 hs)) ++ pairs-bytes (gather 0 hs))))
-unfolding job-bytes job-from job seen fields stages _then_ version bounded checked value trace counted seconds holds rising many row
+unfolding job-bytes job-from job seen fields stages _then_ version bounded checked value trace counted seconds holds many row
 job-pieces v car vs hs = rw (all-values vs, rising-pairs (length vs) 0 (gather 0 hs))
 
 -- ---- how long they are

@@ -11,8 +11,9 @@ use Rattle.rules.specs.declared.Answer.the-variants.{Done}
 use Rattle.rules.specs.Refusals.{Fault, said, left}
 use Rattle.rules.specs.Groups.{Read, got, refused}
 use Rattle.rules.specs.Job.{Job, read-fault, job-of, filled}
-use Rattle.rules.specs.Write.{job-fault, write-fault, written, write-room}
-use Rattle.rules.specs.Vocabulary.{Bytes}
+use Rattle.rules.specs.Write.{write-fault, write-room}
+use Rattle.rules.specs.Vocabulary.{Bytes, job-fault}
+use Rattle.rules.proofs.Laws.Checks.{left-some}
 use native.Mathlib.Omega.{arith}
 use Rattle.jobs.specs.declared.Reading.{Reading}
 use Rattle.jobs.specs.declared.Written.{Written}
@@ -41,11 +42,6 @@ module _ {job speeds holds : List ℕ} {r : Reading} {speeds′ holds′ : List 
       let n = nothing-read (reading job speeds holds) q (sym (R .answered) ∙ e) in
       (R .speeds-left ∙ fills-none speeds (n .0), R .holds-left ∙ fills-none holds (n .1))
 
--- where writing is refused there are no bytes to put
-nothing-written : (v : ℕ) (car : Vehicle) (vs hs room : List ℕ) (q : Fault) → write-fault v car vs hs room ≡ some q → written v car vs hs room ≡ []
-unfolding written left
-nothing-written v car vs hs room q e = rw e
-
 module _ {v : ℕ} {car : Vehicle} {vs hs room : List ℕ} {w : Written} {room′ : List ℕ} (W : WriteAs v car vs hs room w room′) where
   -- ---- Demand 1, of the writer: 14, 1 to 9 as in the working, then 17, and a refusal writes nothing
 
@@ -55,8 +51,8 @@ module _ {v : ℕ} {car : Vehicle} {vs hs room : List ℕ} {w : Written} {room�
   pub demand-1-untouched-write : (q : Fault) → said (w .answer) ≡ some q → (room′ ≡ room) × (w .length ≡ 0)
   unfolding write-room
   demand-1-untouched-write q e =
-      let n = nothing-written v car vs hs room q (sym (W .answered) ∙ e) in
-      (W .room-left ∙ fills-none room n, W .the-length ∙ ap length n)
+      let n = sym (W .answered) ∙ e in
+      (W .room-left ∙ left-some _ _ n, W .the-length ∙ left-some _ _ n)
 
 -- ---- Demand 2. From request One on it speaks of both directions: what is written reads back as the same job, and a job that is read and passes the working's
 -- checks is written as the same bytes; from request Six on of each version

@@ -5,10 +5,10 @@ use native.Mathlib.Omega.{arith}
 use mathlib.Core.Path.{_≡_, refl, sym, _∙_, ap}
 use Rattle.once.specs.Determined.{Determined}
 use Rattle.rules.proofs.Laws.Refusals.{refusal-once, said-once}
-use Rattle.rules.specs.Refusals.{Fault}
+use Rattle.rules.specs.Refusals.{Fault, fault}
 use Rattle.jobs.specs.declared.Group.{Group}
 use Rattle.jobs.specs.declared.Group.the-variants as group-is
-use Rattle.jobs.specs.Reader.{fault, told}
+use Rattle.jobs.specs.Reader.{group-as}
 use Rattle.jobs.proofs.groups.group_at.Kinds as group-at-kinds
 use Rattle.jobs.proofs.groups.group_at.Reads as group-at-reads
 use Rattle.jobs.proofs.read.Kinds as read-kinds
@@ -16,7 +16,7 @@ use Rattle.jobs.proofs.read.Reads as read-reads
 use Rattle.jobs.proofs.writer.write.Kinds as write-kinds
 use Rattle.jobs.proofs.writer.write.Reads as write-reads
 
-one-group : (x y : Group) → told x ≡ told y → x ≡ y
+one-group : (x y : Group) → group-as x ≡ group-as y → x ≡ y
 one-group (group-is.Value v i) (group-is.Value w j) e = cc
 one-group (group-is.Value v i) (group-is.Fault g) e = let z : _≡_ {A = ℕ} 0 1 = cc in absurd (omega arith)
 one-group (group-is.Fault f) (group-is.Value w j) e = let z : _≡_ {A = ℕ} 0 1 = cc in absurd (omega arith)

@@ -1,6 +1,6 @@
 -- The writer's ends: what is answered, and how the room is left.
 -- Assumes nothing.
-use Prim.Native.Nat.{ℕ, _<_}
+use Prim.Native.Nat.{ℕ, _≤_, _<_}
 use native.Mathlib.Nat.{zero-add}
 use native.Mathlib.Omega.{arith}
 use mathlib.Core.Path.{_≡_, sym, _∙_}
@@ -8,25 +8,30 @@ use mathlib.Core.Option.{Option, none, some}
 use mathlib.Core.List.{List}
 use lib.ListN.{length}
 use lib.Seq.{sets-eq}
-use borrow.Author.Tests.{lt-ltb}
+use borrow.Author.Tests.{lt-ltb, le-ltb}
 use Rattle.rules.specs.declared.Vehicle.{Vehicle}
 use Rattle.rules.specs.declared.Refusal.{Refusal}
 use Rattle.rules.specs.declared.Refusal.the-variants.{RoomShort}
 use Rattle.rules.specs.declared.Answer.{Answer}
 use Rattle.rules.specs.declared.Answer.the-variants.{Done, Refused}
-use Rattle.rules.specs.Refusals.{Fault, number, place, said, refuse-at, _orelse_, when, left}
+use Rattle.rules.specs.Refusals.{Fault, fault, said, refuse-at, _orelse_, when, left}
 use Rattle.rules.specs.Job.{filled}
-use Rattle.rules.specs.Write.{job-bytes, checks-fault, short-fault, write-fault, written, write-room}
-use Rattle.rules.proofs.Laws.Writes.{enough-room}
+use Rattle.rules.specs.Write.{job-bytes, checks-fault, write-fault, write-room}
+use Rattle.rules.proofs.Laws.Checks.{none-when}
 use Rattle.jobs.specs.declared.Written.{Written}
-use Rattle.jobs.specs.Writing.{Put, BytesAs, WriteAs}
+use Rattle.jobs.specs.Writing.{Put, short-fault, BytesAs, WriteAs}
 
 -- the room is too short
 pub short-as : (bytes room : List ℕ) (need : ℕ) → need ≡ length bytes → length room < need → BytesAs bytes room (record { answer = Refused (RoomShort need); length = 0 }) room
-unfolding short-fault said refuse-at when left filled
+unfolding short-fault said refuse-at when left
 short-as bytes room need e h =
     let t = lt-ltb (length room) (length bytes) (omega arith) in
     record { answered = rw (t, e); the-length = rw t; room-left = rw t }
+
+-- the room is long enough
+enough-room : (bytes room : List ℕ) → length bytes ≤ length room → short-fault bytes room ≡ none
+unfolding short-fault
+enough-room bytes room h = none-when 17 _ (length bytes) (le-ltb (length room) (length bytes) h)
 
 -- the bytes are put
 pub bytes-as : (bytes room : List ℕ) {room′ : List ℕ} {r : ℕ} → Put bytes room 0 r room′ → BytesAs bytes room (record { answer = Done; length = r }) room′
@@ -44,14 +49,14 @@ bytes-as bytes room p =
 module _ (v : ℕ) (car : Vehicle) (vs hs room : List ℕ) where
   -- 14 and checks 1 to 9 passed, so only the room is left to be refused
   pub write-as : {r : Written} {room′ : List ℕ} → checks-fault v car vs hs ≡ none → BytesAs (job-bytes v car vs hs) room r room′ → WriteAs v car vs hs room r room′
-  unfolding write-fault written write-room _orelse_
+  unfolding write-fault write-room short-fault _orelse_
   write-as e b = record { answered = rw e (b .answered); the-length = rw e (b .the-length); room-left = rw e (b .room-left) }
 
   -- they refuse: nothing is written
   pub refused-as : {a : Answer} {q : Refusal} → said a ≡ checks-fault v car vs hs → a ≡ Refused q → WriteAs v car vs hs room (record { answer = a; length = 0 }) room
-  unfolding said write-fault written write-room _orelse_ left filled
+  unfolding said write-fault write-room _orelse_ left
   refused-as {a} {q} s d =
-      let e : checks-fault v car vs hs ≡ some (record { no = number q; spot = place q }) = sym s ∙ rw d in
+      let e : checks-fault v car vs hs ≡ some (fault q) = sym s ∙ rw d in
       record { answered = rw e (s ∙ e); the-length = rw e; room-left = rw e }
 
 -- they are done: nothing is refused

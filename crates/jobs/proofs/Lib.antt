@@ -1,10 +1,11 @@
 -- What belongs to no one function.
 pub mod Steps
-pub mod Ways
+pub mod StageAnswers
 pub mod Loops
-pub mod Whole
+pub mod WholeJob
 pub mod Rooms
-pub mod Pieces
+pub mod PutInTurn
+pub mod BytesLeft
 pub mod Bytes
 pub mod Ends
 pub mod Checked

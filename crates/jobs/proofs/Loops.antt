@@ -14,12 +14,12 @@ use Rattle.rules.specs.Refusals.{Fault}
 use Rattle.rules.specs.Words.{_and_, within}
 use Rattle.rules.specs.Groups.{Read, got, refused, hand-on, _>>=_, _>>_, give, demand, group}
 use Rattle.rules.specs.Forms.{Form, value, checked, _then_, row-read, row, many}
-use Rattle.rules.specs.Job.{hold, rising, put}
+use Rattle.rules.specs.Job.{hold, put}
 use Rattle.rules.proofs.Laws.Forms.{says-now, value-sound}
 use Rattle.rules.proofs.Laws.Gathers.{HoldFits, takes-hold, hold-sound}
-use Rattle.jobs.specs.Stages.{Comes, used}
+use Rattle.jobs.specs.Progress.{hold-row, Comes, used}
 use Rattle.jobs.proofs.Steps.{joined, went, passed, use-as-is, many-length}
-use Rattle.jobs.proofs.Ways.{all-filled}
+use Rattle.jobs.proofs.StageAnswers.{all-filled}
 
 -- ---- k parts in a row, of which i are read: `keep` is what becomes of the others
 
@@ -94,8 +94,7 @@ filled-all job room i e = e ∙ use-as-is (many value (length room)) job i (λ l
 abbrev pub Holds : {B : Type 0} → ℕ → List ℕ → ℕ → ℕ → ℕ → ℕ → (List (ℕ × ℕ) → B) → Read B → Type 0
 Holds count job k i next place keep R = Row (hold count) (λ next h. suc (h .0)) job k i next place keep R
 
-pub holds-begin : {B : Type 0} (count : ℕ) (job : List ℕ) (k place : ℕ) (keep : List (ℕ × ℕ) → B) → Holds count job k 0 0 place keep (used keep (rising count k) job place)
-unfolding rising
+pub holds-begin : {B : Type 0} (count : ℕ) (job : List ℕ) (k place : ℕ) (keep : List (ℕ × ℕ) → B) → Holds count job k 0 0 place keep (used keep (hold-row count k) job place)
 holds-begin count job k place keep = row-begins (hold count) (λ next h. suc (h .0)) job k 0 place keep
 
 -- a hold that comes: its second and its gear do, one after the other, and are in their bounds
@@ -136,7 +135,7 @@ pub record Putting (count : ℕ) (job : List ℕ) (k i place : ℕ) (room : List
   pub next : ℕ
   pub left : Holds count job k i next place (λ hs. put hs room) R
 
-pub put-begins : (count : ℕ) (job : List ℕ) (k place : ℕ) (room : List ℕ) → Putting count job k 0 place room (used (λ hs. put hs room) (rising count k) job place)
+pub put-begins : (count : ℕ) (job : List ℕ) (k place : ℕ) (room : List ℕ) → Putting count job k 0 place room (used (λ hs. put hs room) (hold-row count k) job place)
 put-begins count job k place room = record { next = 0; left = holds-begin count job k place (λ hs. put hs room) }
 
 module _ {count : ℕ} {job : List ℕ} {k i place : ℕ} {room : List ℕ} {R : Read (List ℕ)} (p : Putting count job k i place room R) where

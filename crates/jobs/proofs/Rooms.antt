@@ -10,16 +10,16 @@ use mathlib.Core.Bool.{true}
 use Rattle.rules.specs.declared.Vehicle.{Vehicle}
 use Rattle.rules.specs.declared.Refusal.{Refusal}
 use Rattle.rules.specs.declared.Answer.the-variants.{Done, Refused}
-use Rattle.rules.specs.Refusals.{said}
+use Rattle.rules.specs.Refusals.{fault, said}
 use Rattle.rules.specs.Groups.{got, refused, hand-on}
 use Rattle.rules.specs.Forms.{value, many}
-use Rattle.rules.specs.Job.{rising, put, Job, job-read, read-fault, job-of, filled}
+use Rattle.rules.specs.Job.{put, Job, job-read, read-fault, job-of, filled}
 use Rattle.rules.proofs.Laws.Forms.{value-sound}
 use Rattle.rules.proofs.Laws.Gathers.{length-put}
 use Rattle.rules.proofs.Laws.Jobs.{Even, job-even, job-room}
 use Rattle.jobs.specs.declared.Reading.{Reading}
-use Rattle.jobs.specs.Reader.{fault, reading, ReadAs}
-use Rattle.jobs.specs.Stages.{nothing, used}
+use Rattle.jobs.specs.Reader.{reading, ReadAs}
+use Rattle.jobs.specs.Progress.{hold-row, nothing, used}
 use Rattle.jobs.proofs.Steps.{same-value, many-length, values, judged-comes}
 
 -- ---- what fills the start of a room is what was judged
@@ -36,12 +36,12 @@ module _ (job room : List ℕ) (count : ℕ) (fits : count ≤ length room) {z :
       let same : got z r ≡ many value count .read job i = rw (length-take-le count room fits) at e in
       front room z _ count (same-value (same ∙ sym come)) (many-length value-sound job count i (sym come))
 
-  pub holds-stand : (k i : ℕ) → got z r ≡ used (λ hs. put hs (replicate (length (take count room)) 0)) (rising (length (take count room)) k) job i
-      → got true j ≡ used (λ hs. true) (rising count k) job i
-      → z ++ drop count room ≡ filled room (put (values (rising count k .read job i)) (replicate count 0))
+  pub holds-stand : (k i : ℕ) → got z r ≡ used (λ hs. put hs (replicate (length (take count room)) 0)) (hold-row (length (take count room)) k) job i
+      → got true j ≡ used (λ hs. true) (hold-row count k) job i
+      → z ++ drop count room ≡ filled room (put (values (hold-row count k .read job i)) (replicate count 0))
   unfolding used hand-on
   holds-stand k i e s =
-      let come = judged-comes (rising count k) job i s in
+      let come = judged-comes (hold-row count k) job i s in
       let same = rw (length-take-le count room fits, ← come) at e in
       front room z _ count (same-value same) (length-put _ (replicate count 0) ∙ length-replicate count 0)
 

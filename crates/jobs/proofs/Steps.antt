@@ -10,7 +10,7 @@ use Rattle.rules.specs.Refusals.{Fault}
 use Rattle.rules.specs.Groups.{Read, got, refused, Reader, hand-on, give, demand}
 use Rattle.rules.specs.Forms.{Form, row, many}
 use Rattle.rules.proofs.Laws.Forms.{says-now, Sound, many-sound}
-use Rattle.jobs.specs.Stages.{Comes, used}
+use Rattle.jobs.specs.Progress.{Comes, used}
 
 -- two readings one after the other, and a third
 pub joined : {A B C : Type 0} (m : Read A) (f : A → Reader B) (g : B → Reader C) → hand-on (hand-on m f) g ≡ hand-on m (λ a j. hand-on (f a j) g)
@@ -49,12 +49,6 @@ pub never : {A : Type 0} {m : Read A} {f : Fault} → m ≡ refused f → Comes 
 never e c = let d = c .comes in let z : _≡_ {A = ℕ} 0 1 = cc in absurd (omega arith)
 
 -- ---- what was read, put to use
-
--- it may be put to use otherwise, where that gives the same of what was read
-pub use-as : {A B : Type 0} {f g : A → B} (part : Form A) (job : List ℕ) (i : ℕ) → ((a : A) (j : ℕ) → part .read job i ≡ got a j → f a ≡ g a)
-    → used f part job i ≡ used g part job i
-unfolding used
-use-as part job i h = ext (part .read job i) (λ a j e. rw (h a j e))
 
 give-on : {A : Type 0} (m : Read A) → hand-on m (λ a. give a) ≡ m
 unfolding hand-on

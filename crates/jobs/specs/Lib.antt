@@ -1,4 +1,4 @@
--- What the reader and the writer promise, and the stages of their code.
+-- What the reader and the writer promise, and what the functions inside them answer.
 pub mod Reader
-pub mod Stages
+pub mod Progress
 pub mod Writing

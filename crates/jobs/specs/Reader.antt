@@ -4,22 +4,17 @@ use Prim.Native.Nat.{ℕ}
 use mathlib.Core.Path.{_≡_}
 use mathlib.Core.List.{List}
 use lib.ListN.{length}
-use Rattle.rules.specs.declared.Refusal.{Refusal}
-use Rattle.rules.specs.Refusals.{Fault, number, place, said}
+use Rattle.rules.specs.Refusals.{fault, said}
 use Rattle.rules.specs.Groups.{Read, got, refused}
 use Rattle.rules.specs.Job.{Job, job-read, read-fault, job-of, filled}
 use Rattle.jobs.specs.declared.Group.{Group}
 use Rattle.jobs.specs.declared.Group.the-variants as group-is
 use Rattle.jobs.specs.declared.Reading.{Reading}
 
--- a refusal as the paper's number and place
-abbrev pub fault : Refusal → Fault
-fault r = record { no = number r; spot = place r }
-
 -- what a group's answer says
-abbrev pub told : Group → Read ℕ
-told (group-is.Value v j) = got v j
-told (group-is.Fault f) = refused (fault f)
+abbrev pub group-as : Group → Read ℕ
+group-as (group-is.Value v j) = got v j
+group-as (group-is.Fault f) = refused (fault f)
 
 -- what is read of a job into these rooms
 unfoldable pub reading : List ℕ → List ℕ → List ℕ → Read Job

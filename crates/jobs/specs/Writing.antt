@@ -2,18 +2,20 @@
 -- Assumes nothing.
 use Prim.Native.Nat.{ℕ, _+_, _≤_, _<_}
 use mathlib.Core.Path.{_≡_}
-use mathlib.Core.Option.{Option, none, some}
+use mathlib.Core.Bool.{not}
+use mathlib.Core.Option.{Option}
 use mathlib.Core.List.{List, [], _++_}
 use lib.ListN.{length}
 use lib.Dec.{leb, ltb, eqb}
 use lib.Seq.{sets}
 use Rattle.rules.specs.declared.Vehicle.{Vehicle}
-use Rattle.rules.specs.Words.{if_then_else_, at, table}
-use Rattle.rules.specs.Refusals.{Fault, said, _orelse_, trace-fault, left}
+use Rattle.rules.specs.Words.{if_then_else_, within, at, table}
+use Rattle.rules.specs.Units.{newest, bounds, first-failed}
+use Rattle.rules.specs.Refusals.{Fault, said, refuse-at, _orelse_, when, trace-fault, room-fault, left}
 use Rattle.rules.specs.Groups.{form}
 use Rattle.rules.specs.Forms.{Form, value, only-if, _then_, many}
 use Rattle.rules.specs.Job.{point, filled}
-use Rattle.rules.specs.Write.{version-fault, holds-fault, fields-fault, short-fault, write-fault, written, write-room}
+use Rattle.rules.specs.Write.{job-bytes, write-fault, write-room}
 use Rattle.jobs.specs.declared.Written.{Written}
 
 -- the first k values, and pairs of values in a row, as bytes
@@ -59,21 +61,21 @@ pub record Put (bytes room : List ℕ) (at r : ℕ) (room′ : List ℕ) : Type 
 
 -- 14, and 1 to 3 in a version: the checks before those of the seconds
 unfoldable pub told-fault : ℕ → Vehicle → List ℕ → List ℕ → Option Fault
-told-fault v car vs hs = version-fault v orelse trace-fault vs orelse holds-fault vs hs orelse fields-fault v car
+told-fault v car vs hs =
+    refuse-at 14 (when (not (within 1 newest v)) 0) orelse trace-fault vs orelse room-fault vs hs hs orelse refuse-at 3 (first-failed 1 (bounds v car))
 
--- what is refused where a field has no place: that field, or what comes before it
-unfoldable pub before-field : ℕ → Option Fault → Option Fault
-before-field field none = some (record { no = 3; spot = field })
-before-field field (some f) = if ltb field (f .spot) then some (record { no = 3; spot = field }) else some f
+-- 17 alone: the room is too short for these bytes, by the length needed
+unfoldable pub short-fault : List ℕ → List ℕ → Option Fault
+short-fault bytes room = refuse-at 17 (when (ltb (length room) (length bytes)) (length bytes))
 
 -- these bytes, which passed the checks before, are written, or the room is too short for them
 pub record BytesAs (bytes room : List ℕ) (r : Written) (room′ : List ℕ) : Type 0 where
   pub answered : said (r .answer) ≡ short-fault bytes room
-  pub the-length : r .length ≡ length (left (short-fault bytes room) [] bytes)
-  pub room-left : room′ ≡ filled room (left (short-fault bytes room) [] bytes)
+  pub the-length : r .length ≡ left (short-fault bytes room) 0 (length bytes)
+  pub room-left : room′ ≡ left (short-fault bytes room) room (filled room bytes)
 
 -- the answer r, and the room as it is left, are what is written: in a refusal no bytes, and the room as it was
 pub record WriteAs (v : ℕ) (car : Vehicle) (vs hs room : List ℕ) (r : Written) (room′ : List ℕ) : Type 0 where
   pub answered : said (r .answer) ≡ write-fault v car vs hs room
-  pub the-length : r .length ≡ length (written v car vs hs room)
+  pub the-length : r .length ≡ left (write-fault v car vs hs room) 0 (length (job-bytes v car vs hs))
   pub room-left : room′ ≡ write-room v car vs hs room

@@ -3,12 +3,12 @@ ghost use mathlib.Core.Path.{_≡_};
 ghost use mathlib.Core.Bool.{true};
 ghost use Prim.Native.Nat.{_≤_};
 ghost use lib.ListN.{length};
-ghost use Rattle.rules.specs.Refusals.{number, place};
+ghost use Rattle.rules.specs.Refusals.{fault};
 ghost use Rattle.rules.specs.Groups.{got, group};
 ghost use Rattle.rules.specs.Forms.{value, bounded, many};
-ghost use Rattle.jobs.specs.Reader.{told};
+ghost use Rattle.jobs.specs.Reader.{group-as};
 ghost use lib.Seq.{sets};
-ghost use Rattle.jobs.specs.Stages.{reached, Comes, used};
+ghost use Rattle.jobs.specs.Progress.{reached, Comes, used};
 use crate::Came;
 use crate::Group;
 use crate::Judged;
@@ -16,7 +16,7 @@ use rules::Refusal;
 
 // A group: seven bits a byte, least significant first, the top bit set when more follow; one to three bytes, shortest form only.
 pub fn group_at(job: &[u8], at: usize) -> Group
-    ensures { λ r. ⌜ told r ≡ group (now (job .entry)) at ⌝ }
+    ensures { λ r. ⌜ group-as r ≡ group (now (job .entry)) at ⌝ }
 {
     let end = job.len();
     if end <= at {
@@ -55,7 +55,7 @@ pub fn group_at(job: &[u8], at: usize) -> Group
 
 // A group from lo to hi; another is refused as the caller says.
 pub fn bounded(job: &[u8], at: usize, lo: u16, hi: u16, refusal: Refusal) -> Group
-    ensures { λ r. ⌜ told r ≡ bounded lo hi (number refusal) (place refusal) .read (now (job .entry)) at ⌝ }
+    ensures { λ r. ⌜ group-as r ≡ bounded lo hi (fault refusal .no) (fault refusal .spot) .read (now (job .entry)) at ⌝ }
 {
     let g = group_at(job, at);
     let Group::Value(v, next) = g else {
@@ -107,7 +107,7 @@ pub fn skip(job: &[u8], at: usize, count: usize) -> Came
 }
 
 // A group that was judged, so nothing is left to test but how long it is.
-pub fn judged_at(job: &[u8], at: usize) -> Judged
+pub fn value_at(job: &[u8], at: usize) -> Judged
     requires { ⌜ Comes (group (now job) at) ⌝ }
     ensures { λ r. ⌜ got (r .value) (r .next) ≡ group (now (job .entry)) at ⌝ }
 {
@@ -143,7 +143,7 @@ pub fn put_speeds(job: &[u8], at: usize, room: &mut [u16]) -> usize
     let mut next = at;
     let mut i = 0;
     while i < room.len() {
-        let speed = judged_at(job, next);
+        let speed = value_at(job, next);
         room[i] = speed.value;
         next = speed.next;
         i += 1;

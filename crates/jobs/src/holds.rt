@@ -4,18 +4,18 @@ ghost use mathlib.Core.Bool.{true};
 ghost use Prim.Native.Nat.{_≤_};
 ghost use lib.ListN.{length, replicate};
 ghost use Rattle.rules.specs.Groups.{got};
-ghost use Rattle.rules.specs.Job.{rising, put};
-ghost use Rattle.jobs.specs.Stages.{reached, Comes, used};
+ghost use Rattle.rules.specs.Job.{put};
+ghost use Rattle.jobs.specs.Progress.{hold-row, reached, Comes, used};
 use crate::Came;
 use crate::Group;
 use crate::groups::bounded;
-use crate::groups::judged_at;
+use crate::groups::value_at;
 use rules::Refusal;
 
 // So many holds, judged and not kept: each second from `next` on and before `count`, judged before its gear is read.
 pub fn judge_holds(job: &[u8], at: usize, holds: usize, count: u16) -> Came
     requires { ⌜ 1 ≤ count ⌝ }
-    ensures { λ r. ⌜ reached r true ≡ used (λ hs. true) (rising count holds) (now (job .entry)) at ⌝ }
+    ensures { λ r. ⌜ reached r true ≡ used (λ hs. true) (hold-row count holds) (now (job .entry)) at ⌝ }
 {
     let last = count - 1;
     let mut place = at;
@@ -50,15 +50,15 @@ fn clear(room: &mut [u8])
 
 // A room is filled with holds that were judged, and 0 where there is none; answers the place after them.
 pub fn put_holds(job: &[u8], at: usize, holds: usize, room: &mut [u8]) -> usize
-    requires { ⌜ Comes (rising (length (now room)) holds .read (now job) at) ⌝ }
-    ensures { λ r. ⌜ got (now (room .exit)) r ≡ used (λ hs. put hs (replicate (length (now (room .entry))) 0)) (rising (length (now (room .entry))) holds) (now (job .entry)) at ⌝ }
+    requires { ⌜ Comes (hold-row (length (now room)) holds .read (now job) at) ⌝ }
+    ensures { λ r. ⌜ got (now (room .exit)) r ≡ used (λ hs. put hs (replicate (length (now (room .entry))) 0)) (hold-row (length (now (room .entry))) holds) (now (job .entry)) at ⌝ }
 {
     clear(room);
     let mut place = at;
     let mut i = 0;
     while i < holds {
-        let second = judged_at(job, place);
-        let gear = judged_at(job, second.next);
+        let second = value_at(job, place);
+        let gear = value_at(job, second.next);
         room[second.value as usize] = gear.value as u8;
         place = gear.next;
         i += 1;

@@ -1,12 +1,12 @@
 // The job reader of document 01: the first fault from left to right, and nothing written where there is one. And the job writer of document 02.
 ghost use mathlib.Core.Path.{_≡_};
 ghost use Rattle.jobs.specs.Reader.{ReadAs};
-ghost use Rattle.jobs.specs.Stages.{group-came, came-answer, nothing};
+ghost use Rattle.jobs.specs.Progress.{group-came, came-answer, nothing};
 
 mod groups;
 mod holds;
 mod numbers;
-mod puts;
+mod put_groups;
 mod sizes;
 mod vehicle;
 mod writer;
@@ -38,7 +38,7 @@ enum Came {
 }
 
 // How many holds a trace has, and the bytes of their seconds and gears.
-struct Tally {
+struct HoldSizes {
     count: u16,
     bytes: usize,
 }

@@ -14,7 +14,7 @@ fn unsigned(f1: i32) -> u16
 }
 
 // Idle, rated, nmax, F0, F1 plus 5,000, F2, TM and M.
-pub fn numbers_of(car: Vehicle) -> [u16; 8]
+pub fn numbers_between(car: Vehicle) -> [u16; 8]
     requires { ⌜ natAbs (car .f1) ≤ 5000 ⌝ }
     ensures { λ r. ⌜ r ≡ parts-of car .1 .1 .0 ⌝ }
 {

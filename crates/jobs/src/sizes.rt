@@ -4,10 +4,10 @@ ghost use Prim.Native.Nat.{_+_, _≤_};
 ghost use lib.ListN.{length};
 ghost use Rattle.rules.specs.Groups.{form};
 ghost use Rattle.rules.specs.Job.{gather, vehicle};
-ghost use Rattle.rules.specs.Vocabulary.{InBounds};
+ghost use Rattle.rules.specs.Inside.{InBounds};
 ghost use Rattle.jobs.specs.Writing.{values-bytes, pairs-bytes, since, margins-bytes, hold-bytes, held-one};
-use crate::Tally;
-use crate::numbers::numbers_of;
+use crate::HoldSizes;
+use crate::numbers::numbers_between;
 use rules::Vehicle;
 
 // The bytes of a value's group after its first.
@@ -96,13 +96,13 @@ fn held_size(holds: &[u8], count: u16) -> usize
 }
 
 // How many holds there are, and the bytes of their seconds and gears.
-pub fn tally(holds: &[u8]) -> Tally
+pub fn hold_sizes(holds: &[u8]) -> HoldSizes
     requires { ⌜ length (now holds) ≤ 65535 ⌝ }
     ensures { λ r. ⌜ (r .count ≡ length (gather 0 (now (holds .entry)))) × (r .bytes ≡ length (pairs-bytes (gather 0 (now (holds .entry))))) ⌝ }
 {
     let count = held_count(holds);
     let bytes = held_size(holds, count);
-    Tally { count, bytes }
+    HoldSizes { count, bytes }
 }
 
 // The bytes of the first so many margins, from version 2 on; none before.
@@ -131,7 +131,7 @@ pub fn vehicle_size(version: u16, car: Vehicle) -> usize
     requires { ⌜ InBounds car ⌝ }
     ensures { λ r. ⌜ r ≡ length (vehicle version .write car) ⌝ }
 {
-    let numbers = numbers_of(car);
+    let numbers = numbers_between(car);
     let gears = car.ng as usize;
     let points = car.points as usize;
     let gearbox = group_size(car.ng) + values_size(&car.ratio, gears);

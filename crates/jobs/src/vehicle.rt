@@ -5,9 +5,9 @@ ghost use lib.ListN.{length};
 ghost use lib.IntN.{pos, _-ℤ_};
 ghost use lib.Dec.{leb};
 ghost use Rattle.rules.specs.Forms.{_then_, value, only-if, many};
-ghost use Rattle.rules.specs.Job.{version, profile, gearbox, point, curve, vehicle, blank};
-ghost use Rattle.jobs.specs.Reader.{told};
-ghost use Rattle.jobs.specs.Stages.{reached, used, into, gears, columns, car-of};
+ghost use Rattle.rules.specs.Job.{version, profile, gearbox, point, curve, vehicle};
+ghost use Rattle.jobs.specs.Reader.{group-as};
+ghost use Rattle.jobs.specs.Progress.{reached, blank, used, into, gears, columns, car-of};
 use crate::Came;
 use crate::Car;
 use crate::Curve;
@@ -55,7 +55,7 @@ pub fn blank() -> Vehicle
 
 // The profile, 0 or 1, from version 3 on; before, it is 0 and no group.
 fn profile_at(job: &[u8], at: usize, version: u16) -> Group
-    ensures { λ r. ⌜ told r ≡ profile version .read (now (job .entry)) at ⌝ }
+    ensures { λ r. ⌜ group-as r ≡ profile version .read (now (job .entry)) at ⌝ }
 {
     if version < 3 {
         return Group::Value(0, at);
@@ -84,7 +84,7 @@ fn gearbox_at(job: &[u8], at: usize, profile: u16) -> Gearbox
 
 // A point's margin, from version 2 on; before, it is 0 and no group.
 fn margin_at(job: &[u8], at: usize, version: u16) -> Group
-    ensures { λ r. ⌜ told r ≡ only-if (leb 2 version) 0 value .read (now (job .entry)) at ⌝ }
+    ensures { λ r. ⌜ group-as r ≡ only-if (leb 2 version) 0 value .read (now (job .entry)) at ⌝ }
 {
     if version < 2 {
         return Group::Value(0, at);

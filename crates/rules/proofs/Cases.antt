@@ -7,23 +7,24 @@ use mathlib.Core.Option.{Option, none, some}
 use mathlib.Core.List.{List, [], _∷_, _++_}
 use lib.IntN.{ℤ, pos, negℤ, _*ℤ_}
 use lib.ListN.{replicate, drop, set, take}
+use Rattle.rules.specs.Vocabulary.{role-at, job-from, none-held}
 use Rattle.rules.specs.declared.Vehicle.{Vehicle}
-use Rattle.rules.specs.declared.Place.{Place}
+use Rattle.rules.specs.declared.Role.{Role}
 use Rattle.rules.specs.declared.Summary.{Summary}
-use Rattle.rules.specs.declared.Place.the-variants.{First, Closing, AfterLow, Inner}
+use Rattle.rules.specs.declared.Role.the-variants.{First, Closing, AfterLow, Inner}
 use Rattle.rules.specs.Words.{if_then_else_, _and_, _or_, within, every, first, highest, pass, table, patch, part}
 use Rattle.rules.specs.Units.{ratio-of, ratio-good, point-good, bounds, first-failed, bad-field, low, longest, moving, rise, start, run, stop, margin-good}
 use Rattle.rules.specs.Gears.{engine, minimum-of, minimum, under-nmax, over-minimum, allowed, fits, required, between, on-segment, reaches, segment, power-speed, power, enough, more, suits, beats, strongest, choose, is-first, next-minimum, derated}
-use Rattle.rules.specs.Corrections.{floor, closing, ceiling, here, first-choice, free, is-peak, peak, too-high, rising, too-low, slowing, firsts, after-A, after-B, gears, trip-speeds, trip-holds, first-at, gear-at, clutch, byte, card-at, card, place-at, place-of}
-use Rattle.rules.specs.Refusals.{Fault, refuse-at, _orelse_, when, trace-fault, room-fault, vehicle-fault, not-driven, check-number, checks, last-check, bad, fault-of, seconds-fault, gear-fault, span-fault, work-fault, left, second-fault, edit-fault}
-use Rattle.rules.specs.Quick.{span-lo, span-hi, standing-fault, own-fault, quick-fault, reworked, quick-holds, quick-card}
-use Rattle.rules.specs.Holds.{asked, hold-fault, hold-holds, hold-card, release-holds, release-card}
+use Rattle.rules.specs.Corrections.{floor, closing, ceiling, here, first-choice, free, is-peak, peak, too-high, rising, too-low, slowing, firsts, gears, trip-speeds, trip-holds, first-at, gear-at, clutch, byte, card-at, card, role-of, shown}
+use Rattle.rules.specs.Refusals.{Fault, refuse-at, _orelse_, when, trace-fault, room-fault, vehicle-fault, not-driven, check-number, checks, all-checks, bad, fault-of, seconds-fault, span-fault, work-fault, left}
 use Rattle.rules.specs.Groups.{Read, got, refused, hand-on, demand, early, group-if, group, form}
 use Rattle.rules.specs.Forms.{value, checked, bounded, _then_, seen, row-read, row as in-a-row, many, counted, whole, row-write, known, only-if}
-use Rattle.rules.specs.Job.{version, profile, gearbox, numbers as eight-numbers, point, curve, seconds, trace as speeds, hold, rising as rising-holds, padded, vehicle-of, vehicle, put, holds, packed, stages, job, job-read, points-of, parts-of, gather, fields, read-fault, job-of}
-use Rattle.rules.specs.Write.{job-from, job-bytes, job-fault, holds-fault, version-fault, profile-field, margin-field, lower-field, fields-fault, checks-fault}
-use Rattle.rules.specs.Mend.{mend-lo, mend-hi, mend-end, mended-fault, mended-card, mend-fault, mend-speeds, mend-card}
-use Rattle.rules.specs.Summary.{tally, shown, rests, drives, changes, counts, summary, summary-fault, no-counts, asked-summary, stopped, settled, updated, quick-summary, hold-summary, release-summary, mend-summary}
+use Rattle.rules.specs.Job.{version, profile, gearbox, numbers as eight-numbers, point, curve, seconds, trace as speeds, hold, padded, vehicle-of, vehicle, put, holds, packed, stages, job, job-read, points-of, parts-of, gather, fields, read-fault, job-of}
+use Rattle.rules.specs.Write.{job-bytes, checks-fault}
+use Rattle.rules.specs.declared.Edit.{Edit}
+use Rattle.rules.specs.declared.Edit.the-variants.{Hold, Release, Mend}
+use Rattle.rules.specs.Edit.{showing, second, asked-speeds, asked-holds, Span, around, hold-span, span, fails, asked-fault, edit-fault, asked-screen, edited}
+use Rattle.rules.specs.Summary.{tally, rests, drives, changes, summary, summary-fault, counted-summary, settled, updated}
 use Rattle.rules.specs.Text.{digits, decimal, heading, pedal, line, lines, card-text, refusal-text, worked-text, read-text, printed, program-room, printed-fault}
 
 -- car Z, with its profile, gears and ratios, its margins, its idle and rated speeds and its F0
@@ -91,7 +92,7 @@ margins-Z : ℕ → List ℕ → Vehicle
 margins-Z margin margins = vehicle-with 0 5 (five-gears 12000) margin margins 800 5600 1000
 
 -- a second that is not its trip's first, not in the closing run and not after gear 1
-inside : Place
+inside : Role
 inside = Inner
 
 -- no holds
@@ -254,11 +255,11 @@ rows =
     ∷ row (firsts-of Z (0 ∷ 50 ∷ 150 ∷ 130 ∷ 130 ∷ 0 ∷ []) (0 ∷ 0 ∷ 1 ∷ 0 ∷ 0 ∷ 0 ∷ []) 4) (numbers (1 ∷ 1 ∷ 1 ∷ 2 ∷ []))
     -- a hold leaves the next second without a gear, but not in the closing run; so does a release
     ∷ row (refusal (work-fault gap dip (replicate 7 0) dip)) (refusal none)
-    ∷ row (refusal (quick-fault gap dip (replicate 7 0) dip 3 1)) (no-gear-at 4)
+    ∷ row (refusal (edit-fault gap (Hold 3 1) (showing dip (replicate 7 0) dip (all-at 0)))) (no-gear-at 4)
     ∷ row (refusal (work-fault gap dip (set (replicate 7 0) 3 1) dip)) (no-gear-at 4)
-    ∷ row (refusal (quick-fault gap dip-closing (replicate 6 0) dip-closing 3 1)) (refusal none)
+    ∷ row (refusal (edit-fault gap (Hold 3 1) (showing dip-closing (replicate 6 0) dip-closing (all-at 0)))) (refusal none)
     ∷ row (refusal (work-fault gap slow-start (0 ∷ 0 ∷ 2 ∷ 0 ∷ 0 ∷ 0 ∷ []) slow-start)) (refusal none)
-    ∷ row (refusal (quick-fault gap slow-start (0 ∷ 0 ∷ 2 ∷ 0 ∷ 0 ∷ 0 ∷ []) slow-start 2 0)) (no-gear-at 3)
+    ∷ row (refusal (edit-fault gap (Release 2) (showing slow-start (0 ∷ 0 ∷ 2 ∷ 0 ∷ 0 ∷ 0 ∷ []) slow-start (all-at 0)))) (no-gear-at 3)
     -- request Thirteen: a van's gears are car Z's, each one higher: minima, choices, floors, cards
     ∷ row (numbers (minimum van Inner 2 ∷ minimum van Inner 3 ∷ minimum van Closing 3 ∷ minimum van AfterLow 3 ∷ minimum van Inner 4 ∷ [])) (numbers (800 ∷ 720 ∷ 800 ∷ 920 ∷ 1400 ∷ []))
     ∷ row (numbers (choose van inside 500 (pos 0) ∷ choose van inside 500 (pos 36) ∷ choose van First 50 (pos 0) ∷ [])) (numbers (6 ∷ 5 ∷ 2 ∷ []))
@@ -267,12 +268,12 @@ rows =
     ∷ row (numbers (card van trace (0 ∷ 0 ∷ 4 ∷ 0 ∷ 0 ∷ []))) (numbers (18 ∷ 2 ∷ 20 ∷ 19 ∷ 0 ∷ []))
     ∷ row (numbers (card van (0 ∷ 50 ∷ 120 ∷ 120 ∷ 0 ∷ []) (replicate 5 0))) (numbers (18 ∷ 2 ∷ 2 ∷ 3 ∷ 0 ∷ []))
     ∷ row (numbers (card van two-trips (replicate 11 0))) (numbers (18 ∷ 18 ∷ 18 ∷ 2 ∷ 2 ∷ 2 ∷ 3 ∷ 5 ∷ 3 ∷ 3 ∷ 0 ∷ []))
-    ∷ row (refusal (quick-fault gap-van dip (replicate 7 0) dip 3 2)) (no-gear-at 4)
+    ∷ row (refusal (edit-fault gap-van (Hold 3 2) (showing dip (replicate 7 0) dip (all-at 0)))) (no-gear-at 4)
     -- the crawler is not held, at a standing second either, where another gear is refused by 8
     ∷ row (refusal (work-fault van trace (0 ∷ 0 ∷ 1 ∷ 0 ∷ 0 ∷ []) trace)) (refused-by 7 2)
-    ∷ row (refusal (hold-fault van trace (replicate 5 0) trace 2 1)) (refused-by 7 2)
-    ∷ row (refusal (hold-fault van trace (replicate 5 0) trace 0 1)) (refused-by 7 0)
-    ∷ row (refusal (hold-fault van trace (replicate 5 0) trace 0 2)) (refused-by 8 0)
+    ∷ row (refusal (edit-fault van (Hold 2 1) (showing trace (replicate 5 0) trace (all-at 0)))) (refused-by 7 2)
+    ∷ row (refusal (edit-fault van (Hold 0 1) (showing trace (replicate 5 0) trace (all-at 0)))) (refused-by 7 0)
+    ∷ row (refusal (edit-fault van (Hold 0 2) (showing trace (replicate 5 0) trace (all-at 0)))) (refused-by 8 0)
     -- the profile is 0 or 1, and a van has three gears at least
     ∷ row (refusal (work-fault (van-with 2 6 20000 12000) trace (replicate 5 0) trace)) (refused-by 3 1)
     ∷ row (refusal (work-fault (van-with 1 2 20000 12000) trace (replicate 5 0) trace)) (refused-by 3 1)
@@ -285,19 +286,19 @@ rows =
     ∷ row (numbers (first-at Z two-trips (replicate 11 0) 6 ∷ [])) (numbers (5 ∷ []))
     ∷ row (numbers (card Z two-trips (replicate 11 0))) (numbers (17 ∷ 17 ∷ 17 ∷ 1 ∷ 1 ∷ 1 ∷ 2 ∷ 4 ∷ 2 ∷ 2 ∷ 0 ∷ []))
     -- the two buttons: gear 3 held at second 2, and released again; a free second released
-    ∷ row (numbers (hold-card Z trace (replicate 5 0) (17 ∷ 1 ∷ 2 ∷ 18 ∷ 0 ∷ []) 2 3)) (numbers (17 ∷ 1 ∷ 19 ∷ 18 ∷ 0 ∷ []))
-    ∷ row (numbers (release-card Z trace (0 ∷ 0 ∷ 3 ∷ 0 ∷ 0 ∷ []) (17 ∷ 1 ∷ 19 ∷ 18 ∷ 0 ∷ []) 2)) (numbers (17 ∷ 1 ∷ 2 ∷ 18 ∷ 0 ∷ []))
-    ∷ row (numbers (release-holds Z trace (0 ∷ 0 ∷ 3 ∷ 0 ∷ 0 ∷ []) (17 ∷ 1 ∷ 19 ∷ 18 ∷ 0 ∷ []) 2)) (numbers (0 ∷ 0 ∷ 0 ∷ 0 ∷ 0 ∷ []))
-    ∷ row (numbers (release-card Z trace (replicate 5 0) (17 ∷ 1 ∷ 2 ∷ 18 ∷ 0 ∷ []) 2)) (numbers (17 ∷ 1 ∷ 2 ∷ 18 ∷ 0 ∷ []))
+    ∷ row (numbers (edited Z (Hold 2 3) (showing trace (replicate 5 0) (17 ∷ 1 ∷ 2 ∷ 18 ∷ 0 ∷ []) (all-at 0)) .card)) (numbers (17 ∷ 1 ∷ 19 ∷ 18 ∷ 0 ∷ []))
+    ∷ row (numbers (edited Z (Release 2) (showing trace (0 ∷ 0 ∷ 3 ∷ 0 ∷ 0 ∷ []) (17 ∷ 1 ∷ 19 ∷ 18 ∷ 0 ∷ []) (all-at 0)) .card)) (numbers (17 ∷ 1 ∷ 2 ∷ 18 ∷ 0 ∷ []))
+    ∷ row (numbers (edited Z (Release 2) (showing trace (0 ∷ 0 ∷ 3 ∷ 0 ∷ 0 ∷ []) (17 ∷ 1 ∷ 19 ∷ 18 ∷ 0 ∷ []) (all-at 0)) .holds)) (numbers (0 ∷ 0 ∷ 0 ∷ 0 ∷ 0 ∷ []))
+    ∷ row (numbers (edited Z (Release 2) (showing trace (replicate 5 0) (17 ∷ 1 ∷ 2 ∷ 18 ∷ 0 ∷ []) (all-at 0)) .card)) (numbers (17 ∷ 1 ∷ 2 ∷ 18 ∷ 0 ∷ []))
     -- holding gear 0 is refused by 7: at a moving second, a hold byte as it was; at a standing one; where an earlier second of the span is above ng, there
-    ∷ row (refusal (hold-fault Z trace (0 ∷ 0 ∷ 3 ∷ 0 ∷ 0 ∷ []) (17 ∷ 1 ∷ 19 ∷ 18 ∷ 0 ∷ []) 2 0)) (refusal (some (record { no = 7; spot = 2 })))
-    ∷ row (numbers (hold-holds Z trace (0 ∷ 0 ∷ 3 ∷ 0 ∷ 0 ∷ []) (17 ∷ 1 ∷ 19 ∷ 18 ∷ 0 ∷ []) 2 0)) (numbers (0 ∷ 0 ∷ 3 ∷ 0 ∷ 0 ∷ []))
-    ∷ row (refusal (hold-fault Z trace (replicate 5 0) (replicate 5 0) 4 0)) (refusal (some (record { no = 7; spot = 4 })))
-    ∷ row (refusal (hold-fault Z trace (0 ∷ 6 ∷ 0 ∷ 0 ∷ 0 ∷ []) (replicate 5 0) 2 0)) (refusal (some (record { no = 7; spot = 1 })))
+    ∷ row (refusal (edit-fault Z (Hold 2 0) (showing trace (0 ∷ 0 ∷ 3 ∷ 0 ∷ 0 ∷ []) (17 ∷ 1 ∷ 19 ∷ 18 ∷ 0 ∷ []) (all-at 0)))) (refusal (some (record { no = 7; spot = 2 })))
+    ∷ row (numbers (edited Z (Hold 2 0) (showing trace (0 ∷ 0 ∷ 3 ∷ 0 ∷ 0 ∷ []) (17 ∷ 1 ∷ 19 ∷ 18 ∷ 0 ∷ []) (all-at 0)) .holds)) (numbers (0 ∷ 0 ∷ 3 ∷ 0 ∷ 0 ∷ []))
+    ∷ row (refusal (edit-fault Z (Hold 4 0) (showing trace (replicate 5 0) (replicate 5 0) (all-at 0)))) (refusal (some (record { no = 7; spot = 4 })))
+    ∷ row (refusal (edit-fault Z (Hold 2 0) (showing trace (0 ∷ 6 ∷ 0 ∷ 0 ∷ 0 ∷ []) (replicate 5 0) (all-at 0)))) (refusal (some (record { no = 7; spot = 1 })))
     -- after 4, 5 and 6 of the span
-    ∷ row (refusal (hold-fault Z (0 ∷ 50 ∷ 2001 ∷ 50 ∷ 0 ∷ []) (replicate 5 0) (replicate 5 0) 1 0)) (refusal (some (record { no = 4; spot = 2 })))
-    ∷ row (refusal (hold-fault Z (0 ∷ 50 ∷ 201 ∷ 100 ∷ 0 ∷ []) (replicate 5 0) (replicate 5 0) 1 0)) (refusal (some (record { no = 5; spot = 2 })))
-    ∷ row (refusal (hold-fault Z (50 ∷ 50 ∷ 50 ∷ 0 ∷ 0 ∷ []) (replicate 5 0) (replicate 5 0) 2 0)) (refusal (some (record { no = 6; spot = 0 })))
+    ∷ row (refusal (edit-fault Z (Hold 1 0) (showing (0 ∷ 50 ∷ 2001 ∷ 50 ∷ 0 ∷ []) (replicate 5 0) (replicate 5 0) (all-at 0)))) (refusal (some (record { no = 4; spot = 2 })))
+    ∷ row (refusal (edit-fault Z (Hold 1 0) (showing (0 ∷ 50 ∷ 201 ∷ 100 ∷ 0 ∷ []) (replicate 5 0) (replicate 5 0) (all-at 0)))) (refusal (some (record { no = 5; spot = 2 })))
+    ∷ row (refusal (edit-fault Z (Hold 2 0) (showing (50 ∷ 50 ∷ 50 ∷ 0 ∷ 0 ∷ []) (replicate 5 0) (replicate 5 0) (all-at 0)))) (refusal (some (record { no = 6; spot = 0 })))
     -- request Six: derated at the points first, interpolated after that
     ∷ row (scaled (power (margins-Z 10 (0 ∷ 50 ∷ 0 ∷ 0 ∷ 0 ∷ 0 ∷ 0 ∷ [])) 500 5 .Q)) (scaled (pos 10800000000))
     -- enough power, and most power, are judged on it: 4 and 1 without a margin
@@ -312,22 +313,22 @@ rows =
     -- with gear 3 held at second 2: one hold, of second 2 and gear 3, at the end
     ∷ row (numbers (drop 62 (job-bytes 1 Z trace (0 ∷ 0 ∷ 3 ∷ 0 ∷ 0 ∷ [])))) (numbers (1 ∷ 2 ∷ 3 ∷ []))
     -- a sample mended, and the speeds that are left
-    ∷ row (numbers (mend-card Z trace (replicate 5 0) (17 ∷ 1 ∷ 2 ∷ 18 ∷ 0 ∷ []) 2 110)) (numbers (17 ∷ 1 ∷ 18 ∷ 18 ∷ 0 ∷ []))
-    ∷ row (numbers (mend-speeds Z trace (replicate 5 0) (17 ∷ 1 ∷ 2 ∷ 18 ∷ 0 ∷ []) 2 110)) (numbers (0 ∷ 50 ∷ 110 ∷ 100 ∷ 0 ∷ []))
+    ∷ row (numbers (edited Z (Mend 2 110) (showing trace (replicate 5 0) (17 ∷ 1 ∷ 2 ∷ 18 ∷ 0 ∷ []) (all-at 0)) .card)) (numbers (17 ∷ 1 ∷ 18 ∷ 18 ∷ 0 ∷ []))
+    ∷ row (numbers (edited Z (Mend 2 110) (showing trace (replicate 5 0) (17 ∷ 1 ∷ 2 ∷ 18 ∷ 0 ∷ []) (all-at 0)) .speeds)) (numbers (0 ∷ 50 ∷ 110 ∷ 100 ∷ 0 ∷ []))
     -- a trip split, and two trips joined; a trip begun, and one ended
-    ∷ row (numbers (mend-card Z trace (replicate 5 0) (17 ∷ 1 ∷ 2 ∷ 18 ∷ 0 ∷ []) 2 0)) (numbers (17 ∷ 17 ∷ 17 ∷ 1 ∷ 0 ∷ []))
-    ∷ row (numbers (mend-card Z split (replicate 5 0) (17 ∷ 17 ∷ 17 ∷ 1 ∷ 0 ∷ []) 2 150)) (numbers (17 ∷ 1 ∷ 2 ∷ 18 ∷ 0 ∷ []))
-    ∷ row (numbers (mend-card Z (replicate 4 0) (replicate 4 0) (replicate 4 0) 2 50)) (numbers (0 ∷ 17 ∷ 17 ∷ 0 ∷ []))
-    ∷ row (numbers (mend-card Z (0 ∷ 0 ∷ 50 ∷ 0 ∷ []) (replicate 4 0) (0 ∷ 17 ∷ 17 ∷ 0 ∷ []) 2 0)) (numbers (replicate 4 0))
+    ∷ row (numbers (edited Z (Mend 2 0) (showing trace (replicate 5 0) (17 ∷ 1 ∷ 2 ∷ 18 ∷ 0 ∷ []) (all-at 0)) .card)) (numbers (17 ∷ 17 ∷ 17 ∷ 1 ∷ 0 ∷ []))
+    ∷ row (numbers (edited Z (Mend 2 150) (showing split (replicate 5 0) (17 ∷ 17 ∷ 17 ∷ 1 ∷ 0 ∷ []) (all-at 0)) .card)) (numbers (17 ∷ 1 ∷ 2 ∷ 18 ∷ 0 ∷ []))
+    ∷ row (numbers (edited Z (Mend 2 50) (showing (replicate 4 0) (replicate 4 0) (replicate 4 0) (all-at 0)) .card)) (numbers (0 ∷ 17 ∷ 17 ∷ 0 ∷ []))
+    ∷ row (numbers (edited Z (Mend 2 0) (showing (0 ∷ 0 ∷ 50 ∷ 0 ∷ []) (replicate 4 0) (0 ∷ 17 ∷ 17 ∷ 0 ∷ []) (all-at 0)) .card)) (numbers (replicate 4 0))
     -- a hold that would stand at rest is refused by 8; a step too large is found at the neighbour, an end that would move, a second outside the trace
-    ∷ row (refusal (mend-fault Z trace (0 ∷ 0 ∷ 3 ∷ 0 ∷ 0 ∷ []) (17 ∷ 1 ∷ 19 ∷ 18 ∷ 0 ∷ []) 2 9)) (refusal (some (record { no = 8; spot = 2 })))
-    ∷ row (refusal (mend-fault Z trace (replicate 5 0) (17 ∷ 1 ∷ 2 ∷ 18 ∷ 0 ∷ []) 3 151)) (refusal (some (record { no = 5; spot = 4 })))
-    ∷ row (refusal (mend-fault Z trace (replicate 5 0) (17 ∷ 1 ∷ 2 ∷ 18 ∷ 0 ∷ []) 4 10)) (refusal (some (record { no = 6; spot = 4 })))
-    ∷ row (refusal (mend-fault Z trace (replicate 5 0) (17 ∷ 1 ∷ 2 ∷ 18 ∷ 0 ∷ []) 5 10)) (refusal (some (record { no = 11; spot = 5 })))
-    ∷ row (numbers (mend-speeds Z trace (replicate 5 0) (17 ∷ 1 ∷ 2 ∷ 18 ∷ 0 ∷ []) 4 10)) (numbers trace)
+    ∷ row (refusal (edit-fault Z (Mend 2 9) (showing trace (0 ∷ 0 ∷ 3 ∷ 0 ∷ 0 ∷ []) (17 ∷ 1 ∷ 19 ∷ 18 ∷ 0 ∷ []) (all-at 0)))) (refusal (some (record { no = 8; spot = 2 })))
+    ∷ row (refusal (edit-fault Z (Mend 3 151) (showing trace (replicate 5 0) (17 ∷ 1 ∷ 2 ∷ 18 ∷ 0 ∷ []) (all-at 0)))) (refusal (some (record { no = 5; spot = 4 })))
+    ∷ row (refusal (edit-fault Z (Mend 4 10) (showing trace (replicate 5 0) (17 ∷ 1 ∷ 2 ∷ 18 ∷ 0 ∷ []) (all-at 0)))) (refusal (some (record { no = 6; spot = 4 })))
+    ∷ row (refusal (edit-fault Z (Mend 5 10) (showing trace (replicate 5 0) (17 ∷ 1 ∷ 2 ∷ 18 ∷ 0 ∷ []) (all-at 0)))) (refusal (some (record { no = 11; spot = 5 })))
+    ∷ row (numbers (edited Z (Mend 4 10) (showing trace (replicate 5 0) (17 ∷ 1 ∷ 2 ∷ 18 ∷ 0 ∷ []) (all-at 0)) .speeds)) (numbers trace)
     -- the step into the span is not looked at, and no byte before it is written
-    ∷ row (refusal (mend-fault Z (0 ∷ 100 ∷ 200 ∷ 0 ∷ 50 ∷ 0 ∷ []) (replicate 6 0) (replicate 6 0) 4 60)) (refusal none)
-    ∷ row (numbers (mend-card Z (0 ∷ 100 ∷ 200 ∷ 0 ∷ 50 ∷ 0 ∷ []) (replicate 6 0) (replicate 6 0) 4 60)) (numbers (0 ∷ 0 ∷ 0 ∷ 17 ∷ 17 ∷ 0 ∷ []))
+    ∷ row (refusal (edit-fault Z (Mend 4 60) (showing (0 ∷ 100 ∷ 200 ∷ 0 ∷ 50 ∷ 0 ∷ []) (replicate 6 0) (replicate 6 0) (all-at 0)))) (refusal none)
+    ∷ row (numbers (edited Z (Mend 4 60) (showing (0 ∷ 100 ∷ 200 ∷ 0 ∷ 50 ∷ 0 ∷ []) (replicate 6 0) (replicate 6 0) (all-at 0)) .card)) (numbers (0 ∷ 0 ∷ 0 ∷ 17 ∷ 17 ∷ 0 ∷ []))
     -- request Nine: car Z's card has two standing seconds, one in gear 1, two in gear 2, of which one with the clutch down, and one gear change
     ∷ row (counted-as of-Z) (numbers (2 ∷ 1 ∷ 2 ∷ 0 ∷ 0 ∷ 0 ∷ 0 ∷ 0 ∷ 0 ∷ 0 ∷ 0 ∷ 1 ∷ []))
     ∷ row (counted-as of-held) (numbers (2 ∷ 1 ∷ 1 ∷ 1 ∷ 0 ∷ 0 ∷ 0 ∷ 0 ∷ 0 ∷ 0 ∷ 0 ∷ 2 ∷ []))
@@ -337,20 +338,20 @@ rows =
     ∷ row (counted-as (summary trace (17 ∷ 1 ∷ 27 ∷ 1 ∷ 0 ∷ []))) (numbers (2 ∷ 2 ∷ 0 ∷ 0 ∷ 0 ∷ 0 ∷ 0 ∷ 0 ∷ 0 ∷ 0 ∷ 0 ∷ 2 ∷ []))
     ∷ row (counted-as (summary trace (17 ∷ 10 ∷ 16 ∷ 0 ∷ 0 ∷ []))) (numbers (2 ∷ 0 ∷ 0 ∷ 0 ∷ 0 ∷ 0 ∷ 0 ∷ 0 ∷ 0 ∷ 0 ∷ 1 ∷ 1 ∷ []))
     -- held and released
-    ∷ row (counted-as (hold-summary Z trace (replicate 5 0) (17 ∷ 1 ∷ 2 ∷ 18 ∷ 0 ∷ []) 2 3 of-Z)) (counted-as of-held)
-    ∷ row (counted-as (release-summary Z trace (0 ∷ 0 ∷ 3 ∷ 0 ∷ 0 ∷ []) (17 ∷ 1 ∷ 19 ∷ 18 ∷ 0 ∷ []) 2 of-held)) (counted-as of-Z)
+    ∷ row (counted-as (edited Z (Hold 2 3) (showing trace (replicate 5 0) (17 ∷ 1 ∷ 2 ∷ 18 ∷ 0 ∷ []) of-Z) .summary)) (counted-as of-held)
+    ∷ row (counted-as (edited Z (Release 2) (showing trace (0 ∷ 0 ∷ 3 ∷ 0 ∷ 0 ∷ []) (17 ∷ 1 ∷ 19 ∷ 18 ∷ 0 ∷ []) of-held) .summary)) (counted-as of-Z)
     -- mended: the trip is split, and a standing second is one more
-    ∷ row (counted-as (mend-summary Z trace (replicate 5 0) (17 ∷ 1 ∷ 2 ∷ 18 ∷ 0 ∷ []) 2 0 of-Z)) (numbers (3 ∷ 2 ∷ 0 ∷ 0 ∷ 0 ∷ 0 ∷ 0 ∷ 0 ∷ 0 ∷ 0 ∷ 0 ∷ 0 ∷ []))
+    ∷ row (counted-as (edited Z (Mend 2 0) (showing trace (replicate 5 0) (17 ∷ 1 ∷ 2 ∷ 18 ∷ 0 ∷ []) of-Z) .summary)) (numbers (3 ∷ 2 ∷ 0 ∷ 0 ∷ 0 ∷ 0 ∷ 0 ∷ 0 ∷ 0 ∷ 0 ∷ 0 ∷ 0 ∷ []))
     -- a wrong summary: each count stops at 0 and at 65,535, judged once, on the result
-    ∷ row (counted-as (mend-summary Z trace (replicate 5 0) (17 ∷ 1 ∷ 2 ∷ 18 ∷ 0 ∷ []) 2 0 (all-at 0))) (numbers (1 ∷ 1 ∷ 0 ∷ 0 ∷ 0 ∷ 0 ∷ 0 ∷ 0 ∷ 0 ∷ 0 ∷ 0 ∷ 0 ∷ []))
-    ∷ row (counted-as (mend-summary Z trace (replicate 5 0) (17 ∷ 1 ∷ 2 ∷ 18 ∷ 0 ∷ []) 2 0 (all-at 65535)))
+    ∷ row (counted-as (edited Z (Mend 2 0) (showing trace (replicate 5 0) (17 ∷ 1 ∷ 2 ∷ 18 ∷ 0 ∷ []) (all-at 0)) .summary)) (numbers (1 ∷ 1 ∷ 0 ∷ 0 ∷ 0 ∷ 0 ∷ 0 ∷ 0 ∷ 0 ∷ 0 ∷ 0 ∷ 0 ∷ []))
+    ∷ row (counted-as (edited Z (Mend 2 0) (showing trace (replicate 5 0) (17 ∷ 1 ∷ 2 ∷ 18 ∷ 0 ∷ []) (all-at 65535)) .summary))
     (numbers (65535 ∷ 65535 ∷ 65533 ∷ 65535 ∷ 65535 ∷ 65535 ∷ 65535 ∷ 65535 ∷ 65535 ∷ 65535 ∷ 65535 ∷ 65534 ∷ []))
     -- a refused edit changes no count
-    ∷ row (counted-as (hold-summary Z trace (replicate 5 0) (17 ∷ 1 ∷ 2 ∷ 18 ∷ 0 ∷ []) 2 0 (all-at 7))) (counted-as (all-at 7))
+    ∷ row (counted-as (edited Z (Hold 2 0) (showing trace (replicate 5 0) (17 ∷ 1 ∷ 2 ∷ 18 ∷ 0 ∷ []) (all-at 7)) .summary)) (counted-as (all-at 7))
     -- asking for the summary of a card is refused by 1, then by 2
     ∷ row (refusal (summary-fault [] (0 ∷ []))) (refusal (some (record { no = 1; spot = 0 })))
     ∷ row (refusal (summary-fault trace (0 ∷ []))) (refusal (some (record { no = 2; spot = 0 })))
-    ∷ row (counted-as (asked-summary trace (0 ∷ []))) (counted-as (all-at 0))
+    ∷ row (counted-as (counted-summary trace (0 ∷ []))) (counted-as (all-at 0))
     -- request Ten: 16383 takes two bytes, 16384 three
     ∷ row (numbers (form 16383)) (numbers (0xFF ∷ 0x7F ∷ []))
     ∷ row (numbers (form 16384)) (numbers (0x80 ∷ 0x80 ∷ 0x01 ∷ []))
@@ -405,5 +406,5 @@ papers [] = []
 papers (r ∷ rs) = r .paper ∷ papers rs
 
 sums-done-on-paper : sums rows ≡ papers rows
-unfolding sums papers rows row choice vehicle-with five-gears van-with van gap-van refused-by car-of car-Z Z halves inside free-trip steady up trace two-trips job-Z _and_ _or_ within every first highest pass table patch ratio-of ratio-good point-good bounds first-failed bad-field low longest moving rise start run stop engine minimum-of minimum under-nmax over-minimum allowed fits required between on-segment reaches segment power-speed power enough more suits beats strongest choose floor closing ceiling here first-choice free is-peak peak too-high rising too-low slowing firsts after-A after-B gears trip-speeds trip-holds first-at gear-at clutch byte card-at card refuse-at _orelse_ when trace-fault room-fault vehicle-fault not-driven check-number checks last-check bad fault-of seconds-fault gear-fault span-fault work-fault left second-fault edit-fault span-lo span-hi standing-fault own-fault quick-fault reworked quick-holds quick-card asked hold-fault hold-holds hold-card release-holds release-card hand-on demand early group-if group value checked bounded _then_ seen row-read in-a-row many counted whole version profile gearbox eight-numbers point curve seconds speeds hold rising-holds padded vehicle-of vehicle put holds packed stages job job-read digits decimal heading pedal line lines card-text refusal-text worked-text read-text printed next-minimums firsts-of no-gear-at car-with halves-after gap dip dip-closing slow-start is-first next-minimum place-at place-of form row-write points-of parts-of gather fields job-from job-bytes split mend-lo mend-hi mend-end mended-fault mended-card mend-fault mend-speeds mend-card counting too-long read-fault program-room printed-fault margins-read job-of margins-Z margin-good derated known only-if job-fault holds-fault version-fault profile-field margin-field lower-field fields-fault checks-fault counted-as of-Z of-held all-at tally shown rests drives changes counts summary summary-fault no-counts asked-summary stopped settled updated quick-summary hold-summary release-summary mend-summary
+unfolding sums papers rows row choice vehicle-with five-gears van-with van gap-van refused-by car-of car-Z Z halves inside free-trip steady up trace two-trips job-Z _and_ _or_ within every first highest pass table patch ratio-of ratio-good point-good bounds first-failed bad-field low longest moving rise start run stop engine minimum-of minimum under-nmax over-minimum allowed fits required between on-segment reaches segment power-speed power enough more suits beats strongest choose floor closing ceiling here first-choice free is-peak peak too-high rising too-low slowing firsts gears trip-speeds trip-holds first-at gear-at clutch byte card-at card refuse-at _orelse_ when trace-fault room-fault vehicle-fault not-driven check-number checks bad fault-of seconds-fault span-fault work-fault left edit-fault hand-on demand early group-if group value checked bounded _then_ seen row-read in-a-row many counted whole version profile gearbox eight-numbers point curve seconds speeds hold padded vehicle-of vehicle put holds packed stages job job-read digits decimal heading pedal line lines card-text refusal-text worked-text read-text printed next-minimums firsts-of no-gear-at car-with halves-after gap dip dip-closing slow-start is-first next-minimum role-at role-of form row-write points-of parts-of gather fields job-from job-bytes split counting too-long read-fault program-room printed-fault margins-read job-of margins-Z margin-good derated known only-if checks-fault counted-as of-Z of-held all-at tally rests drives changes summary summary-fault counted-summary settled updated all-checks second asked-speeds asked-holds around hold-span span none-held fails asked-fault asked-screen edited
 sums-done-on-paper = refl

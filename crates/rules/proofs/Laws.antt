@@ -17,14 +17,12 @@ pub mod Held
 pub mod Limits
 pub mod Checks
 pub mod Cards
-pub mod Rising
+pub mod Geared
 pub mod Want
-pub mod Edits
-pub mod Quick
+pub mod Reaches
 pub mod Span
-pub mod Holds
-pub mod Mend
-pub mod Runs
+pub mod Edits
+pub mod Rising
 pub mod Summary
 pub mod Reading
 pub mod Groups
@@ -34,6 +32,7 @@ pub mod Gathers
 pub mod Jobs
 pub mod Lines
 pub mod Writes
+pub mod Vans
 pub mod Reach
 pub mod Long
 pub mod Refusals

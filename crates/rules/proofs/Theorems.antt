@@ -2,54 +2,55 @@
 -- Assumes nothing.
 use Prim.Native.Nat.{ℕ, suc, _+_, _-_, _*_, _≤_, _<_, _%_, min}
 use native.Mathlib.Omega.{arith}
-use mathlib.Core.Path.{_≡_, refl, _∙_}
+use mathlib.Core.Path.{_≡_, refl, sym, ap, _∙_}
 use mathlib.Core.Logic.{_≢_, _↔_, _⊎_, inl, inr}
 use mathlib.Core.Bool.{true, false}
 use mathlib.Core.Option.{none, some}
-use mathlib.Core.List.{List, [], _∷_}
+use mathlib.Core.List.{List, [], _∷_, _++_, map}
 use lib.Dec.{ltb, eqb}
-use lib.ListN.{length, set, take}
+use lib.ListN.{length, set, take, drop}
+use lib.Seq.{set-getD}
+use borrow.Author.Tests.{eqb-true}
 use lib.IntN.{ℤ, pos, natAbs, _-ℤ_, _*ℤ_}
 use Rattle.rules.specs.declared.Vehicle.{Vehicle}
 use Rattle.rules.specs.declared.Answer.{Answer}
 use Rattle.rules.specs.declared.Summary.{Summary}
-use Rattle.rules.specs.declared.Place.{Place}
-use Rattle.rules.specs.declared.Place.the-variants.{AfterLow}
-use Rattle.rules.specs.Words.{if_then_else_, _or_, at, part, first, pass, patch}
+use Rattle.rules.specs.declared.Role.{Role}
+use Rattle.rules.specs.declared.Role.the-variants.{AfterLow}
+use Rattle.rules.specs.Words.{if_then_else_, _or_, at, part, pass}
 use Rattle.rules.specs.Units.{bad-field, low, longest, fastest, steepest, moving, start, stop, rise}
 use Rattle.rules.specs.Gears.{engine, under-nmax, fits, required, Power, on-segment, segment, power-speed, choose, is-first, minimum, power, enough, more}
-use Rattle.rules.specs.Corrections.{peak, rising, slowing, gear-at, card-at, card, first-at, place-at}
-use Rattle.rules.specs.Refusals.{said, refuse-at, _orelse_, not-driven, speed, step, ends, fault-of, span-fault, work-fault, left, work-card, edit-fault, Fault}
-use Rattle.rules.specs.Job.{most-groups, longest-job, Job, job-read, version, vehicle}
+use Rattle.rules.specs.Corrections.{closing, peak, rising, slowing, gear-at, card-at, card, first-at}
+use Rattle.rules.specs.Refusals.{said, refuse-at, vehicle-fault, not-driven, span-fault, work-fault, work-card, Fault}
+use Rattle.rules.specs.Job.{Job, filled, job-read, version, vehicle}
 use Rattle.rules.specs.Text.{printed, refusal-text, program-room}
 use Rattle.rules.specs.Groups.{got, form, group}
-use Rattle.rules.specs.Quick.{span-lo, span-hi, own-fault, quick-fault, reworked, quick-holds, quick-card}
-use Rattle.rules.specs.Holds.{asked, hold-fault, hold-holds, hold-card, release-fault, release-holds, release-card}
-use Rattle.rules.specs.Vocabulary.{IsTrip, FirstChoice, OnSegment, Wanting, PassesOthers, Out, Edit, SameSpan, OneForm, _times_, In64, nested, nested-sum, engine-sum, idle-sum, required-sum, w-sum, Q-sum, Bytes, MayChange, Right, Run, carried, Spares, Turns, Allowed, NoMargins, full-load, enough-before, choose-before, card-by, available-sum}
+use Rattle.rules.specs.Vocabulary.{IsTrip, FirstChoice, OnSegment, Wanting, PassesOthers, Out, SameSpan, OneForm, _times_, In64, nested, nested-sum, engine-sum, idle-sum, required-sum, w-sum, Q-sum, Bytes, MayChange, Right, Counted, Spares, Turns, Allowed, NoMargins, full-load, enough-before, available-sum, role-at, most-groups, longest-job, seconds-in, job-fault, job-from, cleared, without-crawler, up, none-held}
 use Rattle.rules.specs.Groups.{got}
-use Rattle.rules.specs.Write.{job-from, job-fault, write-fault, written, cleared}
-use Rattle.rules.specs.Mend.{mend-lo, mend-hi, mend-end, mended-fault, mended-card, mend-fault, mend-speeds, mend-card}
-use Rattle.rules.specs.Summary.{summary, seconds-in, updated, hold-summary, release-summary, mend-summary}
-use Rattle.rules.proofs.Laws.Words.{by-order, pass-keeps}
-use Rattle.rules.proofs.Laws.Trips.{trip-of, trip-le, trip-start, trip-stop, start-before, stop-after, stop-in, moving-in}
+use Rattle.rules.specs.Write.{job-bytes, write-fault, write-room}
+use Rattle.rules.specs.declared.Edit.{Edit}
+use Rattle.rules.specs.declared.Edit.the-variants.{Hold, Release, Mend}
+use Rattle.rules.specs.Edit.{Screen, second, asked-speeds, asked-holds, Span, around, hold-span, span, asked-fault, edit-fault, asked-screen, edited, after}
+use Rattle.rules.specs.Summary.{summary, updated}
+use Rattle.rules.proofs.Laws.Words.{by-test, by-order, pass-keeps}
+use Rattle.rules.proofs.Laws.Trips.{own-trip, trip-of, trip-le, trip-start, trip-stop, start-before, stop-after, stop-in, moving-in}
 use Rattle.rules.proofs.Laws.Vehicle.{in-bounds}
 use Rattle.rules.proofs.Laws.Power.{gear-segment, same-power as shared-point}
-use Rattle.rules.proofs.Laws.Margins.{enough-none, more-none, choose-none, card-same}
+use Rattle.rules.proofs.Laws.Margins.{enough-none, more-none}
 use Rattle.rules.proofs.Laws.Sizes.{comparison-in-64-bits, more-in-64-bits, speed-in-64-bits}
 use Rattle.rules.proofs.Laws.Nested.{required-nested, nested-inside}
+use Rattle.rules.proofs.Laws.Closing.{closing-plainly}
 use Rattle.rules.proofs.Laws.Choice.{first-choice-plainly}
 use Rattle.rules.proofs.Laws.Held.{not-free, peak-fixed, rising-fixed, slowing-fixed}
-use Rattle.rules.proofs.Laws.Checks.{vehicle-in, rooms-in, Accepted, accepted}
+use Rattle.rules.proofs.Laws.Checks.{left-none, vehicle-in, rooms-in, Accepted, accepted}
 use Rattle.rules.proofs.Laws.Cards.{fit-of, held-shows, byte-gear, no-over-rev, first-at-is}
-use Rattle.rules.proofs.Laws.Rising.{right-spares, reworked-spares}
+use Rattle.rules.proofs.Laws.Rising.{right-spares, edit-spares as reworked-spares}
 use Rattle.rules.proofs.Laws.Want.{refused-for-want, lowest-wanting, never-wanting}
-use Rattle.rules.proofs.Laws.Edits.{reaches, edit-as-whole}
-use Rattle.rules.proofs.Laws.Quick.{quick-whole}
-use Rattle.rules.proofs.Laws.Span.{looks-at-span, reworks-span, card-frame, card-standing, holds-frame, quick-shows}
-use Rattle.rules.proofs.Laws.Holds.{asked-gear, held-from-one, none-held-moving, none-held-standing, none-held-right, hold-whole, release-whole, free-released, cleared-standing, fault-of-two, holds-of-two, card-of-two}
-use Rattle.rules.proofs.Laws.Mend.{mend-whole, mend-same, lo-kept, hi-kept, bytes-kept, speeds-kept, may-change, mend-looks, mend-reworks, hold-wins}
-use Rattle.rules.proofs.Laws.Runs.{hold-stays, release-stays, mend-stays, run-right}
-use Rattle.rules.proofs.Laws.Summary.{quick-counts-right, quick-by-part, quick-no-count, mend-counts-right as mended-counts-right, mend-by-part, mend-no-count, run-counts, seconds-of, gears-shown}
+use Rattle.rules.proofs.Laws.Edits.{whole-fault, whole-card, refused-alone, card-frame, speeds-frame, holds-frame, from-one, shows, hold-wins, nothing-asked, hold-standing, release-standing, none-by-7, zero-as-over, may-change, stays-right, run-right as edits-right}
+use Rattle.rules.proofs.Laws.Span.{span-kept, looks-at-span, reworks-span}
+use Rattle.rules.proofs.Laws.Summary.{counts-right, counts-by-part, run-counts as edits-counts, seconds-of, gears-shown}
+use Rattle.rules.proofs.Laws.Geared.{work-up, card-up, ups-none}
+use Rattle.rules.proofs.Laws.Vans.{geared-cleared, cleared-bounds, geared-van, lower-bounds}
 use Rattle.rules.proofs.Laws.Groups.{one-form}
 use Rattle.rules.proofs.Laws.Writes.{writable, reads-written, writes-read, write-none, none-write, read-passes}
 use Rattle.rules.proofs.Laws.Long.{long-job, too-long, two-bytes-most}
@@ -81,52 +82,46 @@ neighbours vs i m =
 
 -- ---- 2. First choice, said plainly
 
-pub first-choice : (car : Vehicle) (here : Place) (v : ℕ) (d : ℤ) → bad-field car ≡ none → FirstChoice car here v d (choose car here v d)
+pub first-choice : (car : Vehicle) (here : Role) (v : ℕ) (d : ℤ) → bad-field car ≡ none → FirstChoice car here v d (choose car here v d)
 first-choice car here v d e = first-choice-plainly car here v d (in-bounds car e)
 
 -- first choices run from left to right through a trip: the held gear, else the rules' choice for what the second is, which may ask for the first choice before
 pub first-choice-at : (car : Vehicle) (vs hs : List ℕ) → length hs ≡ length vs → (i : ℕ) → moving (at vs i) ≡ true
-    → first-at car vs hs i ≡ (if eqb (at hs i) 0 then choose car (place-at car vs hs i) (at vs i) (rise vs i) else at hs i)
+    → first-at car vs hs i ≡ (if eqb (at hs i) 0 then choose car (role-at car vs hs i) (at vs i) (rise vs i) else at hs i)
 first-choice-at = first-at-is
 
 -- of the minimum speeds of a gear the one after the lowest gear is the highest: a gear that fits there fits at every second but a trip's first
-pub highest-minimum : (car : Vehicle) (here : Place) (g : ℕ) → minimum car here g ≤ minimum car AfterLow g
+pub highest-minimum : (car : Vehicle) (here : Role) (g : ℕ) → minimum car here g ≤ minimum car AfterLow g
 highest-minimum = minimum-most
 
-pub fits-at-any : (car : Vehicle) (here : Place) (v g : ℕ) → is-first here ≡ false → fits car AfterLow v g ≡ true → fits car here v g ≡ true
+pub fits-at-any : (car : Vehicle) (here : Role) (v g : ℕ) → is-first here ≡ false → fits car AfterLow v g ≡ true → fits car here v g ≡ true
 fits-at-any = fits-anywhere
+
+-- the closing run: a second of a trip is in it exactly when from there to the trip's end every V is above the V that follows
+pub closing-run : (vs : List ℕ) (i : ℕ) → moving (at vs i) ≡ true → stop vs i < length vs
+    → (closing (drop i vs) ≡ true) ↔ ((k : ℕ) → i ≤ k → k < stop vs i → at vs (suc k) < at vs k)
+closing-run = closing-plainly
 
 -- ---- 3. Power
 
 -- the segment found holds x
-pub segment-found : (car : Vehicle) → bad-field car ≡ none → (here : Place) (v g : ℕ) → fits car here v g ≡ true → OnSegment car (power-speed car v g) (segment car (power-speed car v g))
+pub segment-found : (car : Vehicle) → bad-field car ≡ none → (here : Role) (v g : ℕ) → fits car here v g ≡ true → OnSegment car (power-speed car v g) (segment car (power-speed car v g))
 segment-found car e = gear-segment car (in-bounds car e)
 
 -- at a shared point both neighbours give the same power: Q/w is Q'/w'
 pub same-power : (car : Vehicle) (k : ℕ) → let x = 1000 * at (car .n) (suc k) in on-segment car x k .Q *ℤ on-segment car x (suc k) .w ≡ on-segment car x (suc k) .Q *ℤ on-segment car x k .w
 same-power = shared-point
 
--- Request Six: where no point of the curve has a margin of its own, power is compared as in document 01, by full-load power and M alone
+-- Request Six: where no point of the curve has a margin of its own, power is compared as in document 01, by full-load power and M alone. The rules look at
+-- power through these two tests and in no other way, so they choose as they chose
 
 module _ (car : Vehicle) (ok : bad-field car ≡ none) (none-own : NoMargins car) where
-  pub enough-by-M : (here : Place) (v g : ℕ) → fits car here v g ≡ true → (d : ℤ) → enough car v d g ≡ enough-before car v d g
+  pub enough-by-M : (here : Role) (v g : ℕ) → fits car here v g ≡ true → (d : ℤ) → enough car v d g ≡ enough-before car v d g
   enough-by-M = enough-none car (in-bounds car ok) none-own
 
-  pub most-by-full-load : (here : Place) (v g h : ℕ) → fits car here v g ≡ true → fits car here v h ≡ true
+  pub most-by-full-load : (here : Role) (v g h : ℕ) → fits car here v g ≡ true → fits car here v h ≡ true
       → more (power car v g) (power car v h) ≡ more (full-load car v g) (full-load car v h)
   most-by-full-load = more-none car (in-bounds car ok) none-own
-
-  -- so the rules choose as document 01 chose
-  pub choice-by-M : (here : Place) (v : ℕ) (d : ℤ) → choose car here v d ≡ choose-before car here v d
-  choice-by-M = choose-none car (in-bounds car ok) none-own
-
-  -- and the card is the one that was
-  pub card-by-M : (vs hs : List ℕ) → card car vs hs ≡ card-by (choose-before car) car vs hs
-  card-by-M = card-same (choose-before car) car choice-by-M
-
--- the card by another choice is the card with that choice in place of the rules': with the rules' own it is the card
-pub card-by-rules : (car : Vehicle) (vs hs : List ℕ) → card car vs hs ≡ card-by (choose car) car vs hs
-card-by-rules car = card-same (choose car) car (λ here v d. refl)
 
 -- ---- 4. Every product and sum of the power comparison, the engine speeds X and 1000 x idle among them, stays inside a signed 64-bit number
 
@@ -192,220 +187,154 @@ module _ (car : Vehicle) (vs hs old : List ℕ) (ok : work-fault car vs hs old �
   pub engine-in-limits : under-nmax car (at vs i) (gear-at car vs hs i) ≡ true
   engine-in-limits = no-over-rev car vs hs (rooms-in vs hs old (A .room) .0) i m (vehicle-in car (A .vehicle)) (fit-of car vs hs 0 (length vs) (A .span) i (omega arith) (moving-in vs i m))
 
--- ---- 7. An edit of one second, of its hold or of its speed: where the old trace and holds pass every check and the old card is theirs, the checks of
--- the span find what those of the whole find, and the card re-worked within reach is the whole card; in a refusal it is the old one
+-- ---- 7. One edit of the screen: a hold, a release or a mended sample
 
-pub edit-of-one-second : (car : Vehicle) {vs hs ws ks : List ℕ} {s : ℕ} → Edit vs hs ws ks s → (old : List ℕ) → work-fault car vs hs old ≡ none → old ≡ card car vs hs
-    → let lo = start ws s - 1 in let hi = stop ws (suc s) in
-    let f = edit-fault car vs hs old s (span-fault car ws ks lo (min (suc hi) (length ws))) in
-    (f ≡ work-fault car ws ks old) × (left f old (patch old lo hi (card-at car ws ks)) ≡ work-card car ws ks old)
-edit-of-one-second car {vs} {hs} {ws} {ks} {s} E old ok right = edit-as-whole car (reaches car E) old (accepted car vs hs old ok) right s (E .in-trace)
+-- from a right card the very refusal, or the very card, of the whole working on the new speeds and holds; of holding for gears from 1
+pub edit-as-whole : (car : Vehicle) (e : Edit) (x : Screen) → Right car x → second e < length (x .speeds) → none-held e ≡ false
+    → let ws = asked-speeds e (x .speeds) in let ks = asked-holds e (x .holds) in
+    (edit-fault car e x ≡ work-fault car ws ks (x .card)) × (edited car e x .card ≡ work-card car ws ks (x .card))
+edit-as-whole car e x R l h = (whole-fault car e x R l h, whole-card car e x R l h)
 
--- One hold, the quick way
+-- so a right card stays right, and under edits one after the other, each perhaps refused
+pub edit-right : (car : Vehicle) (e : Edit) (x : Screen) → Right car x → Right car (edited car e x)
+edit-right = stays-right
 
-module _ (car : Vehicle) (vs hs old : List ℕ) (s g : ℕ) where
-  -- if the old holds pass every check and the old card is their card, the very refusal, or the very card, of the whole working on the new holds
-  pub quick-as-whole : work-fault car vs hs old ≡ none → old ≡ card car vs hs → s < length vs
-      → (quick-fault car vs hs old s g ≡ work-fault car vs (set hs s g) old) × (quick-card car vs hs old s g ≡ work-card car vs (set hs s g) old)
-  quick-as-whole ok right l = quick-whole car vs hs old s g (accepted car vs hs old ok) l right
+pub run-right : (car : Vehicle) (es : List Edit) (x : Screen) → Right car x → Right car (after car es x)
+run-right = edits-right
 
-  -- with no such assumption: no byte changes outside the second, its trip and the one standing second before
-  pub card-untouched : (i : ℕ) → Out (span-lo vs s) (stop vs s) i → at (quick-card car vs hs old s g) i ≡ at old i
-  card-untouched = card-frame car vs hs old s g
+-- with no such assumption: a refusal changes nothing at all
+pub edit-refused : (car : Vehicle) (e : Edit) (x : Screen) (q : Fault) → edit-fault car e x ≡ some q → edited car e x ≡ x
+edit-refused = refused-alone
 
-  pub card-untouched-standing : moving (at vs s) ≡ false → quick-card car vs hs old s g ≡ old
-  card-untouched-standing = card-standing car vs hs old s g
+module _ (car : Vehicle) (e : Edit) (x : Screen) where
+  -- no byte changes outside the span, and no speed and no hold but those of the second
+  pub edit-frame : (i : ℕ) → Out (span e (x .speeds) .lo) (span e (x .speeds) .hi) i → at (edited car e x .card) i ≡ at (x .card) i
+  edit-frame = card-frame car e x
 
-  pub holds-untouched : (i : ℕ) → i ≢ s → at (quick-holds car vs hs old s g) i ≡ at hs i
-  holds-untouched = holds-frame car vs hs old s g
+  pub edit-frame-speeds : (i : ℕ) → i ≢ second e → at (edited car e x .speeds) i ≡ at (x .speeds) i
+  edit-frame-speeds = speeds-frame car e x
 
-  -- the held second shows its hold
-  pub hold-shown : quick-fault car vs hs old s g ≡ none → g ≢ 0 → at (quick-card car vs hs old s g) s % 16 ≡ g
-  hold-shown = quick-shows car vs hs old s g
+  pub edit-frame-holds : (i : ℕ) → i ≢ second e → at (edited car e x .holds) i ≡ at (x .holds) i
+  edit-frame-holds = holds-frame car e x
 
--- what its checks say of a moving second depends on the seconds of its span and on no others
-pub quick-looks-at-span : (car : Vehicle) (vs hs ws ks : List ℕ) (s g : ℕ) → SameSpan vs hs ws ks (span-lo vs s) (span-hi vs s) → moving (at vs s) ≡ true → own-fault car ws ks s g ≡ own-fault car vs hs s g
-quick-looks-at-span = looks-at-span
+-- the checks look at the seconds of the span and at no others, and so does the card that is left
+pub edit-looks : (car : Vehicle) (e : Edit) (vs hs us ls : List ℕ) → SameSpan vs hs us ls (span e vs .lo) (span e vs .end) → asked-fault car e us ls ≡ asked-fault car e vs hs
+edit-looks = looks-at-span
 
--- and so does what it leaves in the card
-pub quick-reworks-span : (car : Vehicle) (vs hs ws ks : List ℕ) (s g : ℕ) → SameSpan vs hs ws ks (span-lo vs s) (span-hi vs s) → moving (at vs s) ≡ true
-    → (old : List ℕ) → reworked car ws (set ks s g) old s ≡ reworked car vs (set hs s g) old s
-quick-reworks-span = reworks-span
+pub edit-reworks : (car : Vehicle) (e : Edit) (x y : Screen) → SameSpan (x .speeds) (x .holds) (y .speeds) (y .holds) (span e (x .speeds) .lo) (span e (x .speeds) .end) → y .card ≡ x .card
+    → asked-screen car e y .card ≡ asked-screen car e x .card
+edit-reworks = reworks-span
 
--- Request Seven: holding and releasing are two buttons
+-- the span does not hang on the speed at its second, old or new
+pub span-of-old : (e : Edit) (vs : List ℕ) → span e (asked-speeds e vs) ≡ span e vs
+span-of-old = span-kept
 
-module _ (car : Vehicle) (vs hs old : List ℕ) (s : ℕ) where
-  -- together they do all that the one call did: gear 0 releases, any other holds
-  pub two-buttons : (g : ℕ)
-      → (quick-fault car vs hs old s g ≡ (if eqb g 0 then release-fault car vs hs old s else hold-fault car vs hs old s g))
-      × (quick-holds car vs hs old s g ≡ (if eqb g 0 then release-holds car vs hs old s else hold-holds car vs hs old s g))
-      × (quick-card car vs hs old s g ≡ (if eqb g 0 then release-card car vs hs old s else hold-card car vs hs old s g))
-  two-buttons g = (fault-of-two car vs hs old s g, holds-of-two car vs hs old s g, card-of-two car vs hs old s g)
+-- of a hold or a release at a moving second: its trip and the standing second before it are re-worked, the standing second after it is looked at too
+pub span-of-hold : (vs : List ℕ) (s : ℕ) → moving (at vs s) ≡ true → hold-span vs s ≡ record { lo = start vs s - 1; hi = stop vs s; end = min (suc (stop vs s)) (length vs) }
+unfolding hold-span around
+span-of-hold vs s m = rw (m, own-trip vs s m)
 
-  -- from a right card the very refusal, or the very card, of the whole working on the new holds; of holding for gears from 1
-  pub hold-as-whole : work-fault car vs hs old ≡ none → old ≡ card car vs hs → s < length vs → (g : ℕ) → 1 ≤ g
-      → (hold-fault car vs hs old s g ≡ work-fault car vs (set hs s g) old) × (hold-card car vs hs old s g ≡ work-card car vs (set hs s g) old)
-  hold-as-whole ok right l = hold-whole car vs hs old s (accepted car vs hs old ok) right l
+-- of a mended sample: the trips that hold the second or a neighbour, the standing second before each, the second itself and the second before it
+pub span-of-mend : (ws : List ℕ) (s i : ℕ) → around ws s .lo ≤ i → i < around ws s .hi → MayChange ws s i
+span-of-mend = may-change
 
-  pub release-as-whole : work-fault car vs hs old ≡ none → old ≡ card car vs hs → s < length vs
-      → (release-fault car vs hs old s ≡ work-fault car vs (set hs s 0) old) × (release-card car vs hs old s ≡ work-card car vs (set hs s 0) old)
-  release-as-whole ok right l = release-whole car vs hs old s (accepted car vs hs old ok) right l
+-- One hold, the quick way, and request Seven
 
-  -- releasing a free second, where the card was right, changes no byte
-  pub released-free : work-fault car vs hs old ≡ none → old ≡ card car vs hs → s < length vs → at hs s ≡ 0
-      → (release-fault car vs hs old s ≡ none) × (release-holds car vs hs old s ≡ hs) × (release-card car vs hs old s ≡ old)
-  released-free ok right l = free-released car vs hs old s (accepted car vs hs old ok) right l
+-- the one call that there was: gear 0 clears
+unfoldable pub one-call : ℕ → ℕ → Edit
+one-call s g = if eqb g 0 then Release s else Hold s g
 
-  -- releasing a standing second is accepted by its own checks
-  pub released-standing : moving (at vs s) ≡ false → own-fault car vs hs s 0 ≡ none
-  released-standing = cleared-standing car vs hs s
+-- the two buttons do all that it did: for every gear, 0 too, the very refusal, or the very card, of the whole working on the new holds
+pub quick-as-whole : (car : Vehicle) (s g : ℕ) (x : Screen) → Right car x → s < length (x .speeds)
+    → (edit-fault car (one-call s g) x ≡ work-fault car (x .speeds) (set (x .holds) s g) (x .card))
+    × (edited car (one-call s g) x .card ≡ work-card car (x .speeds) (set (x .holds) s g) (x .card))
+unfolding one-call second asked-speeds asked-holds none-held
+quick-as-whole car s g x R l =
+    by-test (eqb g 0)
+    (λ t. let z : g ≡ 0 = eqb-true g 0 t in rw z (edit-as-whole car (Release s) x R l refl))
+    (λ t. rw t (edit-as-whole car (Hold s g) x R l t))
 
-  -- gear 0 is never held; where the card was right it is refused by 7, at that second
-  pub none-held : hold-fault car vs hs old s 0 ≢ none
-  none-held e = let z = held-from-one car vs hs old s 0 e in omega arith
+-- at a standing second a gear is refused, by 7 if it is not driven, else by 8, and a release is accepted; no byte changes
+module _ (car : Vehicle) (vs hs : List ℕ) (s : ℕ) (r : moving (at vs s) ≡ false) (l : s < length hs) where
+  pub held-standing : (g : ℕ) → asked-fault car (Hold s g) vs hs ≡ some (record { no = if eqb g 0 or not-driven car g then 7 else 8; spot = s })
+  held-standing = hold-standing car vs hs s r l
 
-  pub none-held-by-7 : work-fault car vs hs old ≡ none → old ≡ card car vs hs → s < length vs → hold-fault car vs hs old s 0 ≡ some (record { no = 7; spot = s })
-  none-held-by-7 ok right l = none-held-right car vs hs old s (accepted car vs hs old ok) right l
+  pub released-standing : asked-fault car (Release s) vs hs ≡ none
+  released-standing = release-standing car vs hs s r l
 
-  -- right or not, in the table's order over the span: 4, 5 and 6, then 7 at the lowest second that is s or has a hold of a gear that is not driven
-  pub none-held-moves : bad-field car ≡ none → moving (at vs s) ≡ true → length hs ≡ length vs
-      → own-fault car vs hs s (asked 0)
-      ≡ fault-of car vs hs (span-lo vs s) (span-hi vs s) (speed ∷ step ∷ ends ∷ [])
-      orelse refuse-at 7 (first (λ i. eqb i s or not-driven car (at hs i)) (span-lo vs s) (span-hi vs s - span-lo vs s))
-  none-held-moves e m n = none-held-moving car vs hs s m n (omega (arith, in-bounds car e .ng-to))
+pub card-standing : (vs : List ℕ) (s i : ℕ) → moving (at vs s) ≡ false → Out (hold-span vs s .lo) (hold-span vs s .hi) i
+unfolding hold-span
+card-standing vs s i r = rw r (by-order i s (λ h. inl h) (λ h. inr h))
 
-  -- and at a standing second 7
-  pub none-held-stands : bad-field car ≡ none → moving (at vs s) ≡ false → own-fault car vs hs s (asked 0) ≡ some (record { no = 7; spot = s })
-  none-held-stands e r = none-held-standing car vs hs s r (omega (arith, in-bounds car e .ng-to))
+-- a held second shows its hold, whether or not the card was right
+pub held-shown : (car : Vehicle) (s g : ℕ) (x : Screen) → edit-fault car (Hold s g) x ≡ none → at (edited car (Hold s g) x .card) s % 16 ≡ g
+held-shown = shows
 
-  -- with no such assumption: the held second shows its hold
-  pub held-shown : (g : ℕ) → hold-fault car vs hs old s g ≡ none → at (hold-card car vs hs old s g) s % 16 ≡ g
-  unfolding hold-fault hold-card
-  held-shown g e =
-      let h = held-from-one car vs hs old s g e in
-      rw (asked-gear g h) (hold-shown car vs hs old s g (rw (asked-gear g h) at e) (λ z. omega arith))
+-- gear 0 is never held; where the card was right it is refused by 7, at that second
+pub zero-never-held : (car : Vehicle) (s : ℕ) (x : Screen) → edit-fault car (Hold s 0) x ≢ none
+zero-never-held car s x ok = from-one car s 0 x ok refl
+
+pub zero-held-by-7 : (car : Vehicle) (s : ℕ) (x : Screen) → Right car x → s < length (x .speeds) → edit-fault car (Hold s 0) x ≡ some (record { no = 7; spot = s })
+zero-held-by-7 = none-by-7
+
+-- right or not, it is refused as a gear above ng would be
+pub zero-held-as-over : (car : Vehicle) (vs hs : List ℕ) (s g : ℕ) → s < length vs → length hs ≡ length vs → not-driven car g ≡ true
+    → asked-fault car (Hold s 0) vs hs ≡ span-fault car vs (set hs s g) (hold-span vs s .lo) (hold-span vs s .end)
+zero-held-as-over = zero-as-over
+
+-- releasing a free second, where the card was right, changes no byte
+pub released-free : (car : Vehicle) (s : ℕ) (x : Screen) → Right car x → s < length (x .speeds) → at (x .holds) s ≡ 0
+    → (edit-fault car (Release s) x ≡ none) × (edited car (Release s) x .card ≡ x .card) × (asked-holds (Release s) (x .holds) ≡ x .holds)
+unfolding second asked-speeds asked-holds none-held
+released-free car s x R l z =
+    let k : set (x .holds) s 0 ≡ x .holds = ap (set (x .holds) s) (sym z) ∙ set-getD (x .holds) s 0 in
+    let t = nothing-asked car (Release s) x R l refl refl k in (t .0, t .1, k)
+
+-- Request Eight
+
+-- mending a sample to the speed that it has changes nothing
+pub mended-same : (car : Vehicle) (s : ℕ) (x : Screen) → Right car x → s < length (x .speeds)
+    → let e = Mend s (at (x .speeds) s) in (edit-fault car e x ≡ none) × (edited car e x .card ≡ x .card) × (asked-speeds e (x .speeds) ≡ x .speeds)
+unfolding second asked-speeds asked-holds none-held
+mended-same car s x R l =
+    let k : set (x .speeds) s (at (x .speeds) s) ≡ x .speeds = set-getD (x .speeds) s 0 in
+    let t = nothing-asked car (Mend s (at (x .speeds) s)) x R l refl k refl in (t .0, t .1, k)
+
+-- a hold stays in force: a held second that is mended still moves
+pub mend-hold-wins : (car : Vehicle) (s v : ℕ) (x : Screen) → edit-fault car (Mend s v) x ≡ none → at (x .holds) s ≢ 0 → moving v ≡ true
+mend-hold-wins = hold-wins
 
 -- ---- Request Twelve: no card over-revs an engine, and where the speed rises a free second's gear rises by one at most, or to its floor. `Spares` has
 -- both sentences, of one second
 
 -- on every card that is right for its trace and holds, at every second
-pub right-card-spares : (car : Vehicle) (vs hs old : List ℕ) → work-fault car vs hs old ≡ none → old ≡ card car vs hs → (i : ℕ) → Spares car vs hs old i
-right-card-spares car vs hs old ok = right-spares car vs hs old (accepted car vs hs old ok)
+pub right-card-spares : (car : Vehicle) (x : Screen) → Right car x → (i : ℕ) → Spares car (x .speeds) (x .holds) (x .card) i
+right-card-spares car x R = right-spares car (x .speeds) (x .holds) (x .card) (accepted car (x .speeds) (x .holds) (x .card) (R .accepted)) (R .its-card)
 
--- and, right or not, at every second that one hold by the quick way re-works
-pub reworked-card-spares : (car : Vehicle) (vs hs old : List ℕ) (s g : ℕ) → quick-fault car vs hs old s g ≡ none → moving (at vs s) ≡ true
-    → (i : ℕ) → span-lo vs s ≤ i → i < stop vs s → Spares car vs (quick-holds car vs hs old s g) (quick-card car vs hs old s g) i
-reworked-card-spares = reworked-spares
-
--- Request Eight: mending a sample
-
-module _ (car : Vehicle) (vs hs old : List ℕ) (s v : ℕ) where
-  -- from a right card the very refusal, or the very card, of the whole working on the new trace
-  pub mend-as-whole : work-fault car vs hs old ≡ none → old ≡ card car vs hs → s < length vs
-      → (mend-fault car vs hs old s v ≡ work-fault car (set vs s v) hs old) × (mend-card car vs hs old s v ≡ work-card car (set vs s v) hs old)
-  mend-as-whole ok right l = mend-whole car vs hs old s v (accepted car vs hs old ok) right l
-
-  -- so mending a sample to the speed that it has changes nothing
-  pub mended-same : v ≡ at vs s → work-fault car vs hs old ≡ none → old ≡ card car vs hs → s < length vs
-      → (mend-fault car vs hs old s v ≡ none) × (mend-speeds car vs hs old s v ≡ vs) × (mend-card car vs hs old s v ≡ old)
-  mended-same e ok right l = rw e (mend-same car vs hs old s (accepted car vs hs old ok) right l)
-
-  -- with no such assumption: no byte changes outside what may change, and no speed but that of the second
-  pub mend-frame : (i : ℕ) → Out (mend-lo vs s) (mend-hi vs s) i → at (mend-card car vs hs old s v) i ≡ at old i
-  mend-frame i o = bytes-kept car vs hs old s v i o
-
-  pub mend-frame-speeds : (i : ℕ) → i ≢ s → at (mend-speeds car vs hs old s v) i ≡ at vs i
-  mend-frame-speeds i n = speeds-kept car vs hs old s v i n
-
-  -- and a held second that is mended still moves
-  pub mend-hold-wins : mend-fault car vs hs old s v ≡ none → at hs s ≢ 0 → moving v ≡ true
-  mend-hold-wins = hold-wins car vs hs old s v
-
--- what may change does not hang on the speed at s, old or new
-pub mend-range : (vs : List ℕ) (s v : ℕ) → (mend-lo (set vs s v) s ≡ mend-lo vs s) × (mend-hi (set vs s v) s ≡ mend-hi vs s)
-mend-range vs s v = (lo-kept vs s v, hi-kept vs s v)
-
--- it is the trips that hold s or a neighbour, the standing second before each, s and the second before it
-pub mend-changes : (ws : List ℕ) (s i : ℕ) → mend-lo ws s ≤ i → i < mend-hi ws s → MayChange ws s i
-mend-changes = may-change
-
--- what the checks say depends on the seconds of the span and on no others, and so does the card that is left
-pub mend-looks-at-span : (car : Vehicle) (vs hs us ks : List ℕ) (s v : ℕ) → SameSpan vs hs us ks (mend-lo vs s) (mend-end vs s)
-    → mended-fault car (set us s v) ks s ≡ mended-fault car (set vs s v) hs s
-mend-looks-at-span = mend-looks
-
-pub mend-reworks-span : (car : Vehicle) (vs hs us ks : List ℕ) (s v : ℕ) → SameSpan vs hs us ks (mend-lo vs s) (mend-end vs s)
-    → (old : List ℕ) → mended-card car (set us s v) ks old s ≡ mended-card car (set vs s v) hs old s
-mend-reworks-span = mend-reworks
-
--- Edits one after the other: a right card stays right under each, and under a run of holds, releases and mended samples, each perhaps refused
-
-module _ (car : Vehicle) (vs hs old : List ℕ) (s : ℕ) (R : Right car vs hs old) where
-  pub hold-stays-right : (g : ℕ) → Right car vs (hold-holds car vs hs old s g) (hold-card car vs hs old s g)
-  hold-stays-right = hold-stays car vs hs old s R
-
-  pub release-stays-right : Right car vs (release-holds car vs hs old s) (release-card car vs hs old s)
-  release-stays-right = release-stays car vs hs old s R
-
-  pub mend-stays-right : (v : ℕ) → Right car (mend-speeds car vs hs old s v) hs (mend-card car vs hs old s v)
-  mend-stays-right = mend-stays car vs hs old s R
-
-pub run-stays-right : {car : Vehicle} {vs hs old ws ks new : List ℕ} → Run car vs hs old ws ks new → Right car vs hs old → Right car ws ks new
-run-stays-right = run-right
+-- and, right or not, at every second that an accepted edit re-works
+pub edit-spares : (car : Vehicle) (e : Edit) (x : Screen) → edit-fault car e x ≡ none → let r = span e (asked-speeds e (x .speeds)) in
+    (i : ℕ) → r .lo ≤ i → i < r .hi → Spares car (edited car e x .speeds) (edited car e x .holds) (edited car e x .card) i
+edit-spares = reworked-spares
 
 -- ---- Request Nine: the summary
 
--- it equals the count over the whole card whenever it did before ..
-module _ (car : Vehicle) (vs hs old : List ℕ) (s : ℕ) (was : Summary) (right : was ≡ summary vs old) where
-  pub hold-counts-right : (g : ℕ) → hold-summary car vs hs old s g was ≡ summary vs (hold-card car vs hs old s g)
-  unfolding hold-summary hold-card
-  hold-counts-right g = quick-counts-right car vs hs old s (asked g) was right
+-- it equals the count over the whole card whenever it did before, and under edits one after the other, be the card right or not
+pub edit-counts : (car : Vehicle) (e : Edit) (x : Screen) → Counted x → Counted (edited car e x)
+edit-counts = counts-right
 
-  pub release-counts-right : release-summary car vs hs old s was ≡ summary vs (release-card car vs hs old s)
-  unfolding release-summary release-card
-  release-counts-right = quick-counts-right car vs hs old s 0 was right
+pub run-counts : (car : Vehicle) (es : List Edit) (x : Screen) → Counted x → Counted (after car es x)
+run-counts = edits-counts
 
-  pub mend-counts-right : (v : ℕ) → mend-summary car vs hs old s v was ≡ summary (mend-speeds car vs hs old s v) (mend-card car vs hs old s v)
-  mend-counts-right v = mended-counts-right car vs hs old s v was right
-
--- .. and after any run of edits, each perhaps refused, be the card right or not
-pub run-counts-right : {car : Vehicle} {vs hs old ws ks new : List ℕ} (r : Run car vs hs old ws ks new) (was : Summary) → was ≡ summary vs old → carried r was ≡ summary ws new
-run-counts-right = run-counts
-
--- right or not, it is brought up to date from the old and new speeds and bytes of the changed span alone; and a refused edit changes no count
-module _ (car : Vehicle) (vs hs old : List ℕ) (s : ℕ) (was : Summary) where
-  pub hold-counts-span : (g : ℕ) → hold-fault car vs hs old s g ≡ none
-      → let lo = start vs s in let hi = stop vs s in
-      hold-summary car vs hs old s g was ≡ updated was (summary (part vs lo hi) (part old lo hi)) (summary (part vs lo hi) (part (hold-card car vs hs old s g) lo hi))
-  unfolding hold-fault hold-summary hold-card
-  hold-counts-span g e = quick-by-part car vs hs old s (asked g) was e
-
-  pub release-counts-span : release-fault car vs hs old s ≡ none
-      → let lo = start vs s in let hi = stop vs s in
-      release-summary car vs hs old s was ≡ updated was (summary (part vs lo hi) (part old lo hi)) (summary (part vs lo hi) (part (release-card car vs hs old s) lo hi))
-  unfolding release-fault release-summary release-card
-  release-counts-span e = quick-by-part car vs hs old s 0 was e
-
-  pub mend-counts-span : (v : ℕ) → mend-fault car vs hs old s v ≡ none
-      → let lo = start vs s in let hi = stop vs (suc s) in
-      mend-summary car vs hs old s v was
-      ≡ updated was (summary (part vs lo hi) (part old lo hi)) (summary (part (mend-speeds car vs hs old s v) lo hi) (part (mend-card car vs hs old s v) lo hi))
-  mend-counts-span v e = mend-by-part car vs hs old s v was e
-
-  pub hold-counts-refused : (g : ℕ) (q : Fault) → hold-fault car vs hs old s g ≡ some q → hold-summary car vs hs old s g was ≡ was
-  unfolding hold-fault hold-summary
-  hold-counts-refused g = quick-no-count car vs hs old s (asked g) was
-
-  pub release-counts-refused : (q : Fault) → release-fault car vs hs old s ≡ some q → release-summary car vs hs old s was ≡ was
-  unfolding release-fault release-summary
-  release-counts-refused = quick-no-count car vs hs old s 0 was
-
-  pub mend-counts-refused : (v : ℕ) (q : Fault) → mend-fault car vs hs old s v ≡ some q → mend-summary car vs hs old s v was ≡ was
-  mend-counts-refused v = mend-no-count car vs hs old s v was
+-- right or not, it is brought up to date from the old and new speeds and bytes of the changed span alone
+pub edit-counts-span : (car : Vehicle) (e : Edit) (x : Screen) → edit-fault car e x ≡ none
+    → let lo = start (x .speeds) (second e) in let hi = stop (x .speeds) (suc (second e)) in let y = edited car e x in
+    y .summary ≡ updated (x .summary) (summary (part (x .speeds) lo hi) (part (x .card) lo hi)) (summary (part (y .speeds) lo hi) (part (y .card) lo hi))
+edit-counts-span = counts-by-part
 
 -- on a right card the seconds in it add up to the trace length
-pub seconds-add-up : (car : Vehicle) (vs hs old : List ℕ) → work-fault car vs hs old ≡ none → old ≡ card car vs hs → seconds-in (summary vs old) ≡ length vs
-seconds-add-up car vs hs old ok right = rw right (seconds-of vs (card car vs hs) (gears-shown car vs hs old (accepted car vs hs old ok)))
+pub seconds-add-up : (car : Vehicle) (x : Screen) → Right car x → seconds-in (summary (x .speeds) (x .card)) ≡ length (x .speeds)
+seconds-add-up car x R =
+    rw (R .its-card) (seconds-of (x .speeds) (card car (x .speeds) (x .holds)) (gears-shown car (x .speeds) (x .holds) (x .card) (accepted car (x .speeds) (x .holds) (x .card) (R .accepted))))
 
 -- ---- 8. Groups: every value 0 to 65,535 has exactly one form that is accepted, and reading that form gives the value and the place after it
 
@@ -414,19 +343,21 @@ one-form-each = one-form
 
 -- ---- 9. The job, both ways
 
--- what is written reads back as the same job, its version too, in rooms that are long enough; places of the vehicle that are no part of a job as 0
+-- what is written at the start of the room reads back as the same job, its version too, in rooms that are long enough; places of the vehicle that are no part
+-- of a job as 0
 pub written-reads-back : (v : ℕ) (car : Vehicle) (vs hs room : List ℕ) → write-fault v car vs hs room ≡ none → (a b : ℕ) → length vs ≤ a → length vs ≤ b
-    → job-read (written v car vs hs room) a b ≡ got (job-from v (cleared car) vs hs) (length (written v car vs hs room))
-written-reads-back v car vs hs room e a b x y = let w = write-none v car vs hs room e in rw (w .1) (reads-written v car vs hs (writable v car vs hs (w .0)) a b x y)
+    → let bytes = job-bytes v car vs hs in
+    (write-room v car vs hs room ≡ bytes ++ drop (length bytes) room) × (job-read bytes a b ≡ got (job-from v (cleared car) vs hs) (length bytes))
+unfolding write-room filled
+written-reads-back v car vs hs room e a b x y = (left-none _ _ e, reads-written v car vs hs (writable v car vs hs (write-none v car vs hs room e .0)) a b x y)
 
 -- a job that is read and passes checks 1 to 9 is written, in its own version, as the same bytes, in room that is long enough
 pub read-writes-back : (bytes : List ℕ) → Bytes bytes → (a b : ℕ) {j : Job} {end : ℕ} → job-read bytes a b ≡ got j end
     → job-fault (j .vehicle) (j .speeds) (j .holds) ≡ none → (room : List ℕ) → length bytes ≤ length room
-    → (write-fault (j .version) (j .vehicle) (j .speeds) (j .holds) room ≡ none) × (written (j .version) (j .vehicle) (j .speeds) (j .holds) room ≡ bytes)
+    → (write-fault (j .version) (j .vehicle) (j .speeds) (j .holds) room ≡ none) × (job-bytes (j .version) (j .vehicle) (j .speeds) (j .holds) ≡ bytes)
 read-writes-back bytes h a b {j} e ok room l =
     let same = writes-read bytes h a b e in
-    let f = none-write (j .version) (j .vehicle) (j .speeds) (j .holds) room (read-passes bytes a b e ok) (rw same l) in
-    (f, write-none (j .version) (j .vehicle) (j .speeds) (j .holds) room f .1 ∙ same)
+    (none-write (j .version) (j .vehicle) (j .speeds) (j .holds) room (read-passes bytes a b e ok) (rw same l), same)
 
 -- ---- Request Thirteen: in profile 0 the lowest gear is 1, so that every rule says what it said before; in profile 1 it is 2
 
@@ -437,6 +368,32 @@ lowest-of-a-car car e = rw e
 pub lowest-of-a-van : (car : Vehicle) → car .profile ≡ 1 → low car ≡ 2
 unfolding low
 lowest-of-a-van car e = rw e
+
+-- so a van is driven as the car that it is without its crawler, each gear one higher, neutral and no hold as they are: it is refused as that car is, at the
+-- same second, and its card is the car's, each gear one higher
+pub van-as-car : (van : Vehicle) → bad-field van ≡ none → van .profile ≡ 1 → (vs hs old : List ℕ)
+    → let car = without-crawler van in
+    (bad-field car ≡ none)
+    × (work-fault van vs (map (up 1) hs) old ≡ work-fault car vs hs old)
+    × (work-fault car vs hs old ≡ none → card van vs (map (up 1) hs) ≡ map (up 1) (card car vs hs))
+unfolding vehicle-fault refuse-at
+van-as-car van ok crawls vs hs old =
+    let G = geared-van van crawls (in-bounds van ok) in
+    let low-ok = lower-bounds van crawls ok in
+    (low-ok, work-up G (rw low-ok) (rw ok) vs hs old, λ e. card-up G vs hs old (accepted (without-crawler van) vs hs old e))
+
+-- Places of the vehicle past ng and past the point count: nothing looks at them. With 0 there it is refused alike, and the card is the same
+pub unused-places : (car : Vehicle) → bad-field car ≡ none → (vs hs old : List ℕ)
+    → (bad-field (cleared car) ≡ none) × (work-fault (cleared car) vs hs old ≡ work-fault car vs hs old) × (work-fault car vs hs old ≡ none → card (cleared car) vs hs ≡ card car vs hs)
+unfolding vehicle-fault refuse-at
+unused-places car ok vs hs old =
+    let G = geared-cleared car (in-bounds car ok) in
+    let same-ok : bad-field (cleared car) ≡ none = cleared-bounds car (in-bounds car ok) ∙ ok in
+    let holds : map (up 0) hs ≡ hs = ups-none hs in (
+      same-ok,
+      rw holds at (work-up G (rw ok) (rw same-ok) vs hs old),
+      λ e. (rw holds at (card-up G vs hs old (accepted car vs hs old e))) ∙ ups-none (card car vs hs),
+    )
 
 -- ---- The card program: of an input that is longer than the longest job that it has room for, as many bytes as that job has and one more say all that
 -- is printed

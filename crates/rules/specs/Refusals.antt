@@ -1,14 +1,14 @@
 -- Document 01, "Numbers of refusal": number and place of each, and those of the whole working.
 -- Assumes nothing.
-use Prim.Native.Nat.{ℕ, zero, suc, _+_, _-_}
-use mathlib.Core.Bool.{Bool, true, false, not}
+use Prim.Native.Nat.{ℕ, suc, _+_, _-_}
+use mathlib.Core.Bool.{Bool, not}
 use mathlib.Core.Option.{Option, none, some}
-use mathlib.Core.List.{List, [], _∷_}
+use mathlib.Core.List.{List, [], _∷_, _++_}
 use lib.ListN.{length}
-use lib.Dec.{leb, ltb, eqb}
+use lib.Dec.{ltb, eqb}
 use Rattle.rules.specs.declared.Vehicle.{Vehicle}
 use Rattle.rules.specs.declared.Refusal.{Refusal}
-use Rattle.rules.specs.declared.Refusal.the-variants.{TraceLength, RoomLength, VehicleField, OutsideTrace, SpeedOver, StepOver, EndMoving, HoldOverNg, HoldStanding, HoldOverRev, NoGear, JobEndsEarly, BadGroup, BadVersion, BadHold, BytesAfter, RoomShort, BadPart, BadKind, NotFinite, OutOfBounds, KindMissing, BadFactor}
+use Rattle.rules.specs.declared.Refusal.the-variants.{TraceLength, RoomLength, VehicleField, OutsideTrace, SpeedOver, StepOver, EndMoving, HoldNotDriven, HoldStanding, HoldOverRev, NoGear, JobEndsEarly, BadGroup, BadVersion, BadHold, BytesAfter, RoomShort, BadPart, BadKind, NotFinite, OutOfBounds, KindMissing, BadFactor}
 use Rattle.rules.specs.declared.Answer.{Answer}
 use Rattle.rules.specs.declared.Answer.the-variants.{Done, Refused}
 use Rattle.rules.specs.Words.{if_then_else_, _and_, _or_, within, at, first}
@@ -18,87 +18,60 @@ use Rattle.rules.specs.Corrections.{first-at, card}
 
 -- ---- a refusal as the table has it
 
--- the number of each case
-abbrev pub number : Refusal → ℕ
-number TraceLength = 1
-number RoomLength = 2
-number (VehicleField f) = 3
-number (OutsideTrace s) = 11
-number (SpeedOver s) = 4
-number (StepOver s) = 5
-number (EndMoving s) = 6
-number (HoldOverNg s) = 7
-number (HoldStanding s) = 8
-number (HoldOverRev s) = 9
-number (NoGear s) = 10
-number (JobEndsEarly n) = 12
-number (BadGroup b) = 13
-number BadVersion = 14
-number (BadHold b) = 15
-number (BytesAfter b) = 16
--- document 02, request One
-number (RoomShort n) = 17
--- document 02, request Three
-number BadPart = 18
--- document 02, request Five
-number (BadKind b) = 19
-number (NotFinite b) = 20
-number (OutOfBounds b) = 21
-number (KindMissing b) = 22
--- document 02, request Eleven
-number BadFactor = 23
-
--- the place of each case
-abbrev pub place : Refusal → ℕ
-place TraceLength = 0
-place RoomLength = 0
-place (VehicleField f) = f
-place (OutsideTrace s) = s
-place (SpeedOver s) = s
-place (StepOver s) = s
-place (EndMoving s) = s
-place (HoldOverNg s) = s
-place (HoldStanding s) = s
-place (HoldOverRev s) = s
-place (NoGear s) = s
-place (JobEndsEarly n) = n
-place (BadGroup b) = b
-place BadVersion = 0
-place (BadHold b) = b
-place (BytesAfter b) = b
-place (RoomShort n) = n
-place BadPart = 0
-place (BadKind b) = b
-place (NotFinite b) = b
-place (OutOfBounds b) = b
-place (KindMissing b) = b
-place BadFactor = 0
-
 -- a number and a place
 pub record Fault : Type 0 where
   pub no : ℕ
   pub spot : ℕ
 
+abbrev pub numbered : ℕ → ℕ → Fault
+numbered n place = record { no = n; spot = place }
+
+-- number and place of each case
+abbrev pub fault : Refusal → Fault
+fault TraceLength = numbered 1 0
+fault RoomLength = numbered 2 0
+fault (VehicleField f) = numbered 3 f
+fault (OutsideTrace s) = numbered 11 s
+fault (SpeedOver s) = numbered 4 s
+fault (StepOver s) = numbered 5 s
+fault (EndMoving s) = numbered 6 s
+fault (HoldNotDriven s) = numbered 7 s
+fault (HoldStanding s) = numbered 8 s
+fault (HoldOverRev s) = numbered 9 s
+fault (NoGear s) = numbered 10 s
+fault (JobEndsEarly n) = numbered 12 n
+fault (BadGroup b) = numbered 13 b
+fault BadVersion = numbered 14 0
+fault (BadHold b) = numbered 15 b
+fault (BytesAfter b) = numbered 16 b
+-- document 02, request One
+fault (RoomShort n) = numbered 17 n
+-- document 02, request Three
+fault BadPart = numbered 18 0
+-- document 02, request Five
+fault (BadKind b) = numbered 19 b
+fault (NotFinite b) = numbered 20 b
+fault (OutOfBounds b) = numbered 21 b
+fault (KindMissing b) = numbered 22 b
+-- document 02, request Eleven
+fault BadFactor = numbered 23 0
+
 -- what an answer says: nothing, or the refusal's number and place
 unfoldable pub said : Answer → Option Fault
 said Done = none
-said (Refused r) = some (record { no = number r; spot = place r })
+said (Refused r) = some (fault r)
 
--- the same as two numbers: number 0 where nothing is refused
-abbrev pub answer-number : Answer → ℕ
-answer-number Done = 0
-answer-number (Refused r) = number r
-
-abbrev pub answer-place : Answer → ℕ
-answer-place Done = 0
-answer-place (Refused r) = place r
+-- the same as two numbers: 0 and 0 where nothing is refused
+abbrev pub told : Answer → Fault
+told Done = numbered 0 0
+told (Refused r) = fault r
 
 -- ---- checks in a row
 
 -- a check: refused by its number at the place that it found
 unfoldable pub refuse-at : ℕ → Option ℕ → Option Fault
 refuse-at n none = none
-refuse-at n (some i) = some (record { no = n; spot = i })
+refuse-at n (some i) = some (numbered n i)
 
 infixr 20 _orelse_
 -- the first refusal of two
@@ -146,9 +119,9 @@ check-number no-gear = 10
 unfoldable pub checks : List Check
 checks = speed ∷ step ∷ ends ∷ over-ng ∷ at-rest ∷ over-rev ∷ []
 
--- 10, which comes after them
-unfoldable pub last-check : List Check
-last-check = no-gear ∷ []
+-- and 10, which comes after them
+unfoldable pub all-checks : List Check
+all-checks = checks ++ (no-gear ∷ [])
 
 -- the check fails at second i, of a span that begins at lo
 unfoldable pub bad : Check → Vehicle → List ℕ → List ℕ → ℕ → ℕ → Bool
@@ -167,22 +140,18 @@ bad over-rev car vs hs lo i = not (eqb (at hs i) 0) and not (under-nmax car (at 
 -- 10: no gear fits, no hold: the first choice is none
 bad no-gear car vs hs lo i = moving (at vs i) and eqb (first-at car vs hs i) 0
 
--- the checks of a list, in its order, on the seconds from lo up to hi: for one number the lowest second wins
-unfoldable pub fault-of : Vehicle → List ℕ → List ℕ → ℕ → ℕ → List Check → Option Fault
-fault-of car vs hs lo hi [] = none
-fault-of car vs hs lo hi (c ∷ cs) = refuse-at (check-number c) (first (bad c car vs hs lo) lo (hi - lo)) orelse fault-of car vs hs lo hi cs
+-- checks in a row, each failing at a second or not, on the seconds from lo up to hi: for one number the lowest second wins
+unfoldable pub fault-of : (Check → ℕ → Bool) → ℕ → ℕ → List Check → Option Fault
+fault-of fails lo hi [] = none
+fault-of fails lo hi (c ∷ cs) = refuse-at (check-number c) (first (fails c) lo (hi - lo)) orelse fault-of fails lo hi cs
 
 -- 4 to 9 on the seconds from lo up to hi
 unfoldable pub seconds-fault : Vehicle → List ℕ → List ℕ → ℕ → ℕ → Option Fault
-seconds-fault car vs hs lo hi = fault-of car vs hs lo hi checks
-
--- 10 on them, for want of a gear
-unfoldable pub gear-fault : Vehicle → List ℕ → List ℕ → ℕ → ℕ → Option Fault
-gear-fault car vs hs lo hi = fault-of car vs hs lo hi last-check
+seconds-fault car vs hs lo hi = fault-of (λ c. bad c car vs hs lo) lo hi checks
 
 -- 4 to 10
 unfoldable pub span-fault : Vehicle → List ℕ → List ℕ → ℕ → ℕ → Option Fault
-span-fault car vs hs lo hi = seconds-fault car vs hs lo hi orelse gear-fault car vs hs lo hi
+span-fault car vs hs lo hi = fault-of (λ c. bad c car vs hs lo) lo hi all-checks
 
 -- ---- the whole working
 
@@ -198,13 +167,3 @@ left (some f) old new = old
 -- the card that the working leaves
 unfoldable pub work-card : Vehicle → List ℕ → List ℕ → List ℕ → List ℕ
 work-card car vs hs old = left (work-fault car vs hs old) old (card car vs hs)
-
--- ---- an edit of one second
-
--- 11: second outside the trace
-unfoldable pub second-fault : List ℕ → ℕ → Option Fault
-second-fault vs s = refuse-at 11 (when (not (ltb s (length vs))) s)
-
--- 1, 2, 3 and 11, then the edit's own checks
-unfoldable pub edit-fault : Vehicle → List ℕ → List ℕ → List ℕ → ℕ → Option Fault → Option Fault
-edit-fault car vs hs old s own = trace-fault vs orelse room-fault vs hs old orelse vehicle-fault car orelse second-fault vs s orelse own

@@ -1,57 +1,30 @@
 -- The words of the theorems: what they say, as records of plain facts. A reader who has the definitions reads these, and then the theorems, without
 -- any law.
 -- Assumes nothing.
-use Prim.Native.Nat.{ℕ, suc, _+_, _-_, _*_, _^_, _≤_, _<_, _%_, zero}
+use Prim.Native.Nat.{ℕ, suc, _+_, _-_, _*_, _^_, _≤_, _<_, zero}
 use mathlib.Core.Path.{_≡_}
 use mathlib.Core.Logic.{_≢_, _⊎_}
 use mathlib.Core.Bool.{Bool, true, false, not}
-use mathlib.Core.Option.{none}
+use mathlib.Core.Option.{Option, none}
 use mathlib.Core.List.{List, _++_}
-use lib.ListN.{length, replicate}
+use lib.ListN.{length, drop}
 use lib.Dec.{eqb}
 use lib.IntN.{ℤ, pos, natAbs, _+ℤ_, _-ℤ_, _*ℤ_}
 use lib.Signed.{leZ}
 use Rattle.rules.specs.declared.Vehicle.{Vehicle}
-use Rattle.rules.specs.declared.Place.{Place}
+use Rattle.rules.specs.declared.Role.{Role}
 use Rattle.rules.specs.declared.Summary.{Summary}
-use Rattle.rules.specs.Words.{at, if_then_else_, _and_, _or_, highest, pass, table}
-use Rattle.rules.specs.Units.{ratio-of, low, moving, start, rise}
+use Rattle.rules.specs.Words.{at, if_then_else_, _and_, _or_, highest}
+use Rattle.rules.specs.Units.{most-gears, most-points, ratio-of, low, moving, start}
 use Rattle.rules.specs.Gears.{engine, minimum, fits, power, enough, more, suits, required, Power, between, segment, power-speed}
-use Rattle.rules.specs.Refusals.{trace-fault, room-fault, vehicle-fault, over-ng, over-rev, no-gear, bad, seconds-fault, work-fault}
-use Rattle.rules.specs.Corrections.{floor, card, here, peak, rising, slowing, trip-speeds, trip-holds, byte, place-at}
-use Rattle.rules.specs.Holds.{hold-holds, hold-card, release-holds, release-card}
-use Rattle.rules.specs.Mend.{mend-speeds, mend-card}
-use Rattle.rules.specs.Summary.{hold-summary, release-summary, mend-summary}
+use Rattle.rules.specs.Refusals.{Fault, _orelse_, trace-fault, room-fault, vehicle-fault, seconds-fault, work-fault}
+use Rattle.rules.specs.Corrections.{floor, card, here, byte, role-of, closing, first-at, shown}
+use Rattle.rules.specs.Summary.{summary}
+use Rattle.rules.specs.declared.Edit.{Edit}
+use Rattle.rules.specs.declared.Edit.the-variants.{Hold, Release, Mend}
+use Rattle.rules.specs.Edit.{Screen}
 use Rattle.rules.specs.Groups.{got, group, form}
-
--- ---- the vehicle
-
--- every field is in bounds: what refusal 3 leaves
-pub record InBounds (car : Vehicle) : Type 0 where
-  pub low-to : low car ≤ 2
-  pub low-ng : low car < car .ng
-  pub ng-to : car .ng ≤ 10
-  pub ratio-to : (g : ℕ) → 1 ≤ g → g ≤ car .ng → ratio-of car g ≤ 50000
-  pub falling : (g : ℕ) → 1 ≤ g → g < car .ng → ratio-of car (suc g) < ratio-of car g
-  pub idle-to : car .idle ≤ 3000
-  pub rated-from : car .idle < car .rated
-  pub nmax-from : car .rated ≤ car .nmax
-  pub nmax-to : car .nmax ≤ 15000
-  pub f0-to : car .f0 ≤ 10000
-  pub f1-in : natAbs (car .f1) ≤ 5000
-  pub f2-to : car .f2 ≤ 20000
-  pub tm-to : car .tm ≤ 4000
-  pub margin-to : car .margin ≤ 50
-  pub points-from : 2 ≤ car .points
-  pub points-to : car .points ≤ 64
-  pub n-to : (k : ℕ) → k < car .points → at (car .n) k ≤ 16000
-  pub n-rises : (k : ℕ) → suc k < car .points → at (car .n) k < at (car .n) (suc k)
-  pub n-rises-by : (k : ℕ) → suc k < car .points → at (car .n) (suc k) ≤ at (car .n) k + 1000
-  pub p-to : (k : ℕ) → k < car .points → at (car .p) k ≤ 5000
-  pub m-to : (k : ℕ) → k < car .points → at (car .m) k ≤ 50
-  pub margins-to : (k : ℕ) → k < car .points → car .margin + at (car .m) k ≤ 90
-  pub first-point : at (car .n) 0 ≤ car .idle
-  pub last-point : car .nmax ≤ at (car .n) (car .points - 1)
+use Rattle.rules.specs.Job.{Job, vehicle-of, parts-of}
 
 -- ---- the trace
 
@@ -65,14 +38,14 @@ pub record IsTrip (vs : List ℕ) (a b : ℕ) : Type 0 where
 -- ---- choosing a gear
 
 -- c is the highest gear that fits and has enough power
-pub record HighestEnough (car : Vehicle) (here : Place) (v : ℕ) (d : ℤ) (c : ℕ) : Type 0 where
+pub record HighestEnough (car : Vehicle) (here : Role) (v : ℕ) (d : ℤ) (c : ℕ) : Type 0 where
   pub a-gear : c ≤ car .ng
   pub fitting : fits car here v c ≡ true
   pub with-enough : enough car v d c ≡ true
   pub none-higher : (h : ℕ) → c < h → h ≤ car .ng → suits car here v d h ≡ false
 
 -- c is the fitting gear with most power, the higher gear on a tie
-pub record MostPower (car : Vehicle) (here : Place) (v c : ℕ) : Type 0 where
+pub record MostPower (car : Vehicle) (here : Role) (v c : ℕ) : Type 0 where
   pub a-gear : c ≤ car .ng
   pub fitting : fits car here v c ≡ true
   pub none-stronger : (h : ℕ) → h ≤ car .ng → fits car here v h ≡ true → more (power car v h) (power car v c) ≡ false
@@ -83,7 +56,7 @@ abbrev pub NoGear : Vehicle → (ℕ → Bool) → Type 0
 NoGear car p = (g : ℕ) → g ≤ car .ng → p g ≡ false
 
 -- document 01, "First choice at a moving second" without a hold; c is the choice
-pub record FirstChoice (car : Vehicle) (here : Place) (v : ℕ) (d : ℤ) (c : ℕ) : Type 0 where
+pub record FirstChoice (car : Vehicle) (here : Role) (v : ℕ) (d : ℤ) (c : ℕ) : Type 0 where
   -- the highest gear that fits and has enough power, if one does
   pub choice-enough : (g : ℕ) → g ≤ car .ng → suits car here v d g ≡ true → HighestEnough car here v d c
   -- if none has enough, the fitting gear with most power, if one fits
@@ -117,45 +90,49 @@ unfoldable pub enough-before : Vehicle → ℕ → ℤ → ℕ → Bool
 enough-before car v d g =
     leZ (required car v d *ℤ full-load car v g .w) ((pos 100 -ℤ pos (car .margin)) *ℤ full-load car v g .Q *ℤ pos 3240000)
 
--- the rules' choice by these
-unfoldable pub suits-before : Vehicle → Place → ℕ → ℤ → ℕ → Bool
-suits-before car here v d g = fits car here v g and enough-before car v d g
+-- ---- request Thirteen, and places that nothing looks at
 
-unfoldable pub beats-before : Vehicle → Place → ℕ → ℕ → ℕ → Bool
-beats-before car here v g r = fits car here v g and (eqb r 0 or not (more (full-load car v r) (full-load car v g)))
+-- the gears of the second vehicle, d higher, turn the engine as those of the first; all else that is looked at is the same
+pub record Geared (d : ℕ) (car van : Vehicle) : Type 0 where
+  pub lowest : low van ≡ low car + d
+  pub highest : van .ng ≡ car .ng + d
+  pub ratio : (g : ℕ) → low car ≤ g → g ≤ car .ng → ratio-of van (g + d) ≡ ratio-of car g
+  pub idle : van .idle ≡ car .idle
+  pub rated : van .rated ≡ car .rated
+  pub nmax : van .nmax ≡ car .nmax
+  pub f0 : van .f0 ≡ car .f0
+  pub f1 : van .f1 ≡ car .f1
+  pub f2 : van .f2 ≡ car .f2
+  pub tm : van .tm ≡ car .tm
+  pub margin : van .margin ≡ car .margin
+  pub points : van .points ≡ car .points
+  pub n : (k : ℕ) → k < car .points → at (van .n) k ≡ at (car .n) k
+  pub p : (k : ℕ) → k < car .points → at (van .p) k ≡ at (car .p) k
+  pub m : (k : ℕ) → k < car .points → at (van .m) k ≡ at (car .m) k
 
-unfoldable pub strongest-before : Vehicle → Place → ℕ → ℕ → ℕ
-strongest-before car here v zero = 0
-strongest-before car here v (suc k) =
-    let r = strongest-before car here v k in
-    if beats-before car here v (suc k) r then suc k else r
+-- a gear, or a byte of a card, d higher; 0 stays 0
+unfoldable pub up : ℕ → ℕ → ℕ
+up d g = if eqb g 0 then 0 else g + d
 
-unfoldable pub choose-before : Vehicle → Place → ℕ → ℤ → ℕ
-choose-before car here v d =
-    let g = highest (suits-before car here v d) (car .ng) in
-    if eqb g 0 then strongest-before car here v (car .ng) else g
-
--- the card of a vehicle whose gears are chosen by `rule`, all else as in Corrections
-module _ (rule : Place → ℕ → ℤ → ℕ) (car : Vehicle) where
-  unfoldable pub first-by : List ℕ → List ℕ → ℕ → List ℕ → ℕ
-  first-by us hs j gs = if eqb (at hs j) 0 then rule (here car us hs j gs) (at us j) (rise us j) else at hs j
-
-  unfoldable pub gears-by : List ℕ → List ℕ → List ℕ
-  gears-by us hs =
-      let firsts = pass (first-by us hs) (length hs) (replicate (length hs) 0) in
-      let after-A = pass (peak car us hs) (length hs) firsts in
-      let after-B = pass (rising car us hs) (length hs) after-A in
-      pass (slowing car us hs) (length hs) after-B
-
-  unfoldable pub gear-by : List ℕ → List ℕ → ℕ → ℕ
-  gear-by vs hs i = at (gears-by (trip-speeds vs i) (trip-holds vs hs i)) (i - start vs i)
-
-  unfoldable pub card-by : List ℕ → List ℕ → List ℕ
-  card-by vs hs =
-      table
-      (λ i. if moving (at vs i) then byte car vs i (gear-by vs hs i)
-      else if moving (at vs (suc i)) then 16 + gear-by vs hs (suc i)
-      else 0) 0 (length vs)
+-- a van without its crawler: a car whose gears are the van's, each one lower
+unfoldable pub without-crawler : Vehicle → Vehicle
+without-crawler van = record {
+  ng = van .ng - 1;
+  ratio = drop 1 (van .ratio);
+  idle = van .idle;
+  rated = van .rated;
+  nmax = van .nmax;
+  f0 = van .f0;
+  f1 = van .f1;
+  f2 = van .f2;
+  tm = van .tm;
+  margin = van .margin;
+  points = van .points;
+  n = van .n;
+  p = van .p;
+  m = van .m;
+  profile = 0;
+}
 
 -- ---- every product stays inside a signed 64-bit number
 
@@ -238,8 +215,12 @@ available-sum car x k = Q-sum car x k times num (pos 3240000)
 
 -- ---- refused for want of a gear
 
+-- what a moving second is in its trip
+unfoldable pub role-at : Vehicle → List ℕ → List ℕ → ℕ → Role
+role-at car vs hs i = role-of car (eqb i (start vs i)) (closing (drop i vs)) (first-at car vs hs (i - 1))
+
 -- gear g turns the engine inside its limits at road speed v: from its minimum there, which the lowest gear has not, to nmax
-pub record Turns (car : Vehicle) (here : Place) (v g : ℕ) : Type 0 where
+pub record Turns (car : Vehicle) (here : Role) (v g : ℕ) : Type 0 where
   pub from : g ≢ low car → 1000 * minimum car here g ≤ engine car g v
   pub to : engine car g v ≤ 1000 * car .nmax
 
@@ -253,7 +234,7 @@ pub record Allowed (car : Vehicle) (vs : List ℕ) (i g : ℕ) : Type 0 where
 pub record Wanting (car : Vehicle) (vs hs : List ℕ) (i : ℕ) : Type 0 where
   pub moves : moving (at vs i) ≡ true
   pub no-hold : at hs i ≡ 0
-  pub no-gear-there : (g : ℕ) → Allowed car vs i g → Turns car (place-at car vs hs i) (at vs i) g → ⊥
+  pub no-gear-there : (g : ℕ) → Allowed car vs i g → Turns car (role-at car vs hs i) (at vs i) g → ⊥
 
 -- the trace passes checks 1 to 9
 pub record PassesOthers (car : Vehicle) (vs hs old : List ℕ) : Type 0 where
@@ -262,19 +243,13 @@ pub record PassesOthers (car : Vehicle) (vs hs old : List ℕ) : Type 0 where
   pub three : vehicle-fault car ≡ none
   pub four-to-nine : seconds-fault car vs hs 0 (length vs) ≡ none
 
--- the checks of a second on which its gear leans
-pub record Fit (car : Vehicle) (vs hs : List ℕ) (i : ℕ) : Type 0 where
-  pub hold-in-ng : bad over-ng car vs hs 0 i ≡ false
-  pub hold-in-nmax : bad over-rev car vs hs 0 i ≡ false
-  pub some-gear : bad no-gear car vs hs 0 i ≡ false
-
--- ---- request Twelve, over a finished card: the gear that it shows at a second is its byte there modulo 16
+-- ---- request Twelve, over a finished card: `shown` is the gear that a byte shows
 
 -- the gear at second i, one of the vehicle's, turns the engine at nmax or below
-pub record AtMostNmax (car : Vehicle) (vs shown : List ℕ) (i : ℕ) : Type 0 where
-  pub from : low car ≤ at shown i % 16
-  pub to : at shown i % 16 ≤ car .ng
-  pub in-limits : engine car (at shown i % 16) (at vs i) ≤ 1000 * car .nmax
+pub record AtMostNmax (car : Vehicle) (vs bs : List ℕ) (i : ℕ) : Type 0 where
+  pub from : low car ≤ shown (at bs i)
+  pub to : shown (at bs i) ≤ car .ng
+  pub in-limits : engine car (shown (at bs i)) (at vs i) ≤ 1000 * car .nmax
 
 -- a second without a hold, not the first of its trip, whose speed is above the second before
 pub record FreeRise (vs hs : List ℕ) (i : ℕ) : Type 0 where
@@ -284,11 +259,11 @@ pub record FreeRise (vs hs : List ℕ) (i : ℕ) : Type 0 where
   pub above : at vs (i - 1) < at vs i
 
 -- what the request asks of a card at second i
-pub record Spares (car : Vehicle) (vs hs shown : List ℕ) (i : ℕ) : Type 0 where
+pub record Spares (car : Vehicle) (vs hs bs : List ℕ) (i : ℕ) : Type 0 where
   -- the gear at each moving second turns the engine at nmax or below
-  pub never-over-revs : moving (at vs i) ≡ true → AtMostNmax car vs shown i
+  pub never-over-revs : moving (at vs i) ≡ true → AtMostNmax car vs bs i
   -- there the gear is at most one above the gear before, or is no higher than that second's floor
-  pub rises-by-one-or-floor : FreeRise vs hs i → (at shown i % 16 ≤ at shown (i - 1) % 16 + 1) ⊎ (at shown i % 16 ≤ floor car (at vs i))
+  pub rises-by-one-or-floor : FreeRise vs hs i → (shown (at bs i) ≤ shown (at bs (i - 1)) + 1) ⊎ (shown (at bs i) ≤ floor car (at vs i))
 
 -- ---- an edit of one second
 
@@ -296,13 +271,11 @@ pub record Spares (car : Vehicle) (vs hs shown : List ℕ) (i : ℕ) : Type 0 wh
 abbrev pub Out : ℕ → ℕ → ℕ → Type 0
 Out lo hi i = (i < lo) ⊎ (hi ≤ i)
 
--- the speeds and holds ws, ks are vs, hs but for second s
-pub record Edit (vs hs ws ks : List ℕ) (s : ℕ) : Type 0 where
-  pub in-trace : s < length vs
-  pub speeds : length ws ≡ length vs
-  pub holds : length ks ≡ length hs
-  pub speed-at : (i : ℕ) → i ≢ s → at ws i ≡ at vs i
-  pub hold-at : (i : ℕ) → i ≢ s → at ks i ≡ at hs i
+-- holding with gear 0
+unfoldable pub none-held : Edit → Bool
+none-held (Hold s g) = eqb g 0
+none-held (Release s) = false
+none-held (Mend s v) = false
 
 -- two traces with their holds that say the same of each second from lo up to hi
 pub record SameSpan (vs hs ws ks : List ℕ) (lo hi : ℕ) : Type 0 where
@@ -337,23 +310,47 @@ pub data MayChange (ws : List ℕ) (s i : ℕ) : Type 0 where
 -- ---- edits, one after the other
 
 -- the card on the screen is the right one for the present speeds and holds
-pub record Right (car : Vehicle) (vs hs old : List ℕ) : Type 0 where
-  pub accepted : work-fault car vs hs old ≡ none
-  pub its-card : old ≡ card car vs hs
+pub record Right (car : Vehicle) (x : Screen) : Type 0 where
+  pub accepted : work-fault car (x .speeds) (x .holds) (x .card) ≡ none
+  pub its-card : x .card ≡ card car (x .speeds) (x .holds)
 
--- a run of holds, releases and mended samples, each perhaps refused: from the first three lists, speeds, holds and card, to the last three
-pub data Run (car : Vehicle) : List ℕ → List ℕ → List ℕ → List ℕ → List ℕ → List ℕ → Type 0 where
-  no-more : {vs hs old : List ℕ} → Run car vs hs old vs hs old
-  then-hold : {vs hs old ws ks new : List ℕ} (s g : ℕ) → Run car vs (hold-holds car vs hs old s g) (hold-card car vs hs old s g) ws ks new → Run car vs hs old ws ks new
-  then-release : {vs hs old ws ks new : List ℕ} (s : ℕ) → Run car vs (release-holds car vs hs old s) (release-card car vs hs old s) ws ks new → Run car vs hs old ws ks new
-  then-mend : {vs hs old ws ks new : List ℕ} (s v : ℕ) → Run car (mend-speeds car vs hs old s v) hs (mend-card car vs hs old s v) ws ks new → Run car vs hs old ws ks new
+-- the summary on it is the count over the whole card
+abbrev pub Counted : Screen → Type 0
+Counted x = x .summary ≡ summary (x .speeds) (x .card)
 
--- what the edits of a run make of the summary that is kept beside the card
-unfoldable pub carried : {car : Vehicle} {vs hs old ws ks new : List ℕ} → Run car vs hs old ws ks new → Summary → Summary
-carried no-more was = was
-carried {car} {vs} {hs} {old} (then-hold s g r) was = carried r (hold-summary car vs hs old s g was)
-carried {car} {vs} {hs} {old} (then-release s r) was = carried r (release-summary car vs hs old s was)
-carried {car} {vs} {hs} {old} (then-mend s v r) was = carried r (mend-summary car vs hs old s v was)
+-- ---- the summary
+
+-- f lo + f (lo + 1) + ..: k summands
+unfoldable pub total : (ℕ → ℕ) → ℕ → ℕ → ℕ
+total f lo zero = 0
+total f lo (suc k) = f lo + total f (suc lo) k
+
+-- the seconds in a summary: standing, and moving in each gear
+unfoldable pub seconds-in : Summary → ℕ
+seconds-in m = m .standing + total (at (m .gears)) 0 most-gears
+
+-- ---- the job
+
+-- the job of a version, a vehicle, speeds and holds
+unfoldable pub job-from : ℕ → Vehicle → List ℕ → List ℕ → Job
+job-from v car vs hs = record { version = v; vehicle = car; speeds = vs; holds = hs }
+
+-- the vehicle with its places past the gears and past the points as 0
+unfoldable pub cleared : Vehicle → Vehicle
+cleared car = vehicle-of (parts-of car)
+
+-- 1 to 9, as in the working
+unfoldable pub job-fault : Vehicle → List ℕ → List ℕ → Option Fault
+job-fault car vs hs = trace-fault vs orelse room-fault vs hs hs orelse vehicle-fault car orelse seconds-fault car vs hs 0 (length vs)
+
+-- a job of so many seconds has at most so many groups: version; profile; ng and ratios; eight numbers; point count, n, p and m; sample count and speeds;
+-- hold count, second and gear
+unfoldable pub most-groups : ℕ → ℕ
+most-groups seconds = 1 + 1 + (1 + most-gears) + 8 + (1 + 3 * most-points) + (1 + seconds) + (1 + 2 * seconds)
+
+-- and a group at most three bytes
+unfoldable pub longest-job : ℕ → ℕ
+longest-job seconds = 3 * most-groups seconds
 
 -- ---- groups
 

@@ -13,10 +13,11 @@ use lib.Seq.{getD-set-same, getD-set-other, ext-getD}
 use borrow.Author.Tests.{eqb-true, eqb-false}
 use Rattle.rules.specs.Words.{if_then_else_, _and_, at, part, table}
 use Rattle.rules.specs.Units.{moving, stop}
-use Rattle.rules.specs.Summary.{tally, shown, rests, drives, changes, counts}
+use Rattle.rules.specs.Summary.{tally, rests, drives, changes}
 use Rattle.rules.proofs.Laws.Words.{clash, by-test, by-order, at-part, length-part, at-table, table-ext, length-table}
 use Rattle.rules.proofs.Laws.Trips.{trip-of, stop-le, stop-after, stop-standing}
-use Rattle.rules.proofs.Laws.Summary.{tally-add, tally-shift, tally-le, same-counts}
+use Rattle.rules.proofs.Laws.Summary.{tally-add, tally-shift, tally-le, same-counts, counts}
+use Rattle.rules.specs.Corrections.{shown}
 use Rattle.summaries.specs.declared.Tally.{Tally}
 use Rattle.summaries.specs.Tallies.{tallied, in-ten, shows, shifts, ridden, rested, Spare, Countable, Rides}
 
@@ -70,7 +71,7 @@ module _ {old bs : List ℕ} where
   fill-none l = record { places = l; each = λ g h. sym (add-zero _) }
 
   pub fill-more : {gears : List ℕ} (i : ℕ) → Filled old bs gears i → Filled old bs (set gears (at bs i % 16) (at gears (at bs i % 16) + 1)) (i + 1)
-  unfolding shows shown
+  unfolding shows
   fill-more {gears} i F =
       let x = at bs i % 16 in
       let small : x < 16 = mod-lt (at bs i) (omega arith) in

@@ -7,34 +7,25 @@ use Rattle.once.specs.Determined.{Determined}
 use Rattle.summaries.specs.declared.Counted.{Counted}
 use Rattle.summaries.proofs.whole.summary_of.Kinds as summary-of-kinds
 use Rattle.summaries.proofs.whole.summary_of.Reads as summary-of-reads
-use Rattle.summaries.proofs.edits.hold.Kinds as hold-kinds
-use Rattle.summaries.proofs.edits.hold.Reads as hold-reads
-use Rattle.summaries.proofs.edits.release.Kinds as release-kinds
-use Rattle.summaries.proofs.edits.release.Reads as release-reads
-use Rattle.summaries.proofs.edits.mend.Kinds as mend-kinds
-use Rattle.summaries.proofs.edits.mend.Reads as mend-reads
+use Rattle.summaries.proofs.stretch.count.Kinds as count-kinds
+use Rattle.summaries.proofs.stretch.count.Reads as count-reads
+use Rattle.summaries.proofs.stretch.nothing.Kinds as nothing-kinds
+use Rattle.summaries.proofs.stretch.nothing.Reads as nothing-reads
+use Rattle.summaries.proofs.settle.updated.Kinds as updated-kinds
+use Rattle.summaries.proofs.settle.updated.Reads as updated-reads
 
 -- an answer that says the same, with the same summary
-counted-once : (z z′ : Counted) → said (z .answer) ≡ said (z′ .answer) → z .summary ≡ z′ .summary → z ≡ z′
+pub counted-once : (z z′ : Counted) → said (z .answer) ≡ said (z′ .answer) → z .summary ≡ z′ .summary → z ≡ z′
 counted-once z z′ e f i = record { answer = said-once (z .answer) (z′ .answer) e i; summary = f i }
 
 pub summary-of : Determined summary-of-kinds.ps summary-of-kinds.r summary-of-reads.Asked summary-of-reads.Learnt
 summary-of κs a asked z z′ ws ws′ p q = (counted-once z z′ (p .0 ∙ sym (q .0)) (p .1 ∙ sym (q .1)), refl)
 
-pub hold : Determined hold-kinds.ps hold-kinds.r hold-reads.Asked hold-reads.Learnt
-hold κs a asked z z′ ws ws′ p q = (
-  counted-once z z′ (p .0 ∙ sym (q .0)) (p .1 .0 ∙ sym (q .1 .0)),
-  λ i. (tt, (tt, ((p .1 .1 .0 ∙ sym (q .1 .1 .0)) i, ((p .1 .1 .1 ∙ sym (q .1 .1 .1)) i, (tt, (tt, (tt, tt))))))),
-)
+pub count : Determined count-kinds.ps count-kinds.r count-reads.Asked count-reads.Learnt
+count κs a asked z z′ ws ws′ p q = (p ∙ sym q, refl)
 
-pub release : Determined release-kinds.ps release-kinds.r release-reads.Asked release-reads.Learnt
-release κs a asked z z′ ws ws′ p q = (
-  counted-once z z′ (p .0 ∙ sym (q .0)) (p .1 .0 ∙ sym (q .1 .0)),
-  λ i. (tt, (tt, ((p .1 .1 .0 ∙ sym (q .1 .1 .0)) i, ((p .1 .1 .1 ∙ sym (q .1 .1 .1)) i, (tt, (tt, tt)))))),
-)
+pub nothing : Determined nothing-kinds.ps nothing-kinds.r nothing-reads.Asked nothing-reads.Learnt
+nothing κs a asked z z′ ws ws′ p q = (p ∙ sym q, refl)
 
-pub mend : Determined mend-kinds.ps mend-kinds.r mend-reads.Asked mend-reads.Learnt
-mend κs a asked z z′ ws ws′ p q = (
-  counted-once z z′ (p .0 ∙ sym (q .0)) (p .1 .0 ∙ sym (q .1 .0)),
-  λ i. (tt, ((p .1 .1 .0 ∙ sym (q .1 .1 .0)) i, (tt, ((p .1 .1 .1 ∙ sym (q .1 .1 .1)) i, (tt, (tt, (tt, tt))))))),
-)
+pub updated : Determined updated-kinds.ps updated-kinds.r updated-reads.Asked updated-reads.Learnt
+updated κs a asked z z′ ws ws′ p q = (p ∙ sym q, refl)

@@ -1,6 +1,6 @@
--- The laws of the counting code, each way out of the edits, that each contract allows one outcome, and request Nine over the contracts.
+-- The laws of the counting code, that each contract allows one outcome, and request Nine over the contract of `summary_of`.
 pub mod Counting
 pub mod Settling
-pub mod Editing
+pub mod Totals
 pub mod Determined
 pub mod Demands

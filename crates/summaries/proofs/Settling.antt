@@ -12,19 +12,22 @@ use Rattle.rules.specs.declared.Summary.{Summary}
 use Rattle.rules.specs.Words.{at, table}
 use Rattle.rules.specs.Summary.{settled, updated}
 use Rattle.rules.proofs.Laws.Words.{by-eq, at-table, table-ext, length-table}
-use Rattle.rules.proofs.Laws.Summary.{settled-is, same-counts}
+use Rattle.rules.proofs.Laws.Summary.{same-counts}
 use Rattle.summaries.specs.declared.Tally.{Tally}
 use Rattle.summaries.specs.Tallies.{in-ten}
 
 -- below 0, past the highest, between
 pub stops-low : (was before after : ℕ) → was + after < before → 0 ≡ settled was before after
-stops-low was before after h = sym (settled-is was before after ∙ omega arith)
+unfolding settled
+stops-low was before after h = omega arith
 
 pub stops-high : (was before after : ℕ) → 65535 < was + after - before → 65535 ≡ settled was before after
-stops-high was before after h = sym (settled-is was before after ∙ omega arith)
+unfolding settled
+stops-high was before after h = omega arith
 
 pub between : (was before after : ℕ) → was + after - before ≤ 65535 → was + after - before ≡ settled was before after
-between was before after h = sym (settled-is was before after ∙ omega arith)
+unfolding settled
+between was before after h = omega arith
 
 module _ (was : Summary) (before after : Tally) where
   -- the count of gear k + 1

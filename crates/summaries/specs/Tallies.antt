@@ -9,7 +9,8 @@ use lib.ListN.{length}
 use Rattle.rules.specs.declared.Summary.{Summary}
 use Rattle.rules.specs.Words.{at, table}
 use Rattle.rules.specs.Units.{moving, start, stop, longest}
-use Rattle.rules.specs.Summary.{tally, shown, rests, drives, changes}
+use Rattle.rules.specs.Summary.{tally, rests, drives, changes}
+use Rattle.rules.specs.Corrections.{shown}
 use Rattle.summaries.specs.declared.Tally.{Tally}
 
 -- the counts over the k seconds from lo on
@@ -62,13 +63,3 @@ pub record Countable (vs bs : List ℕ) (lo hi : ℕ) : Type 0 where
 pub record Rides (vs : List ℕ) (lo hi : ℕ) : Type 0 where
   pub each : (i : ℕ) → lo ≤ i → i < hi → moving (at vs i) ≡ true
   pub ends : moving (at vs hi) ≡ false
-
--- a stretch of a trace whose card has so many places: where an edit of second s can be made, from the first second of the trip of s, or of the one before
--- it, to the end of the trip of s + more
-pub record Reached (vs : List ℕ) (places s more lo hi : ℕ) : Type 0 where
-  pub order : lo ≤ hi
-  pub in-trace : hi ≤ length vs
-  pub in-card : hi ≤ places
-  pub few : hi ≤ 65535
-  pub ends : lo < hi → moving (at vs hi) ≡ false
-  pub found : places ≡ length vs → length vs ≤ longest → s < length vs → (lo ≡ start vs s) × (hi ≡ stop vs (s + more))

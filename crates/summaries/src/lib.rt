@@ -1,14 +1,13 @@
-// The summary of a card, request Nine: counted once over the whole card, and brought up to date by each edit of one second.
-mod count;
-mod edits;
+// The summary of a card, request Nine: its seconds counted, once over the whole card or over a stretch of it, and brought up to date.
 mod settle;
+mod stretch;
 mod whole;
 
-pub use edits::hold;
-pub use edits::mend;
-pub use edits::release;
 use rules::Answer;
 use rules::Summary;
+pub use settle::updated;
+pub use stretch::count;
+pub use stretch::nothing;
 pub use whole::summary_of;
 
 // An answer, and the summary that goes with it.

@@ -1,11 +1,12 @@
 // The summary of a whole card.
 ghost use mathlib.Core.Path.{_≡_};
+ghost use mathlib.Core.List.{[]};
 ghost use Rattle.rules.specs.Refusals.{said};
-ghost use Rattle.rules.specs.Summary.{summary-fault, no-counts, asked-summary};
+ghost use Rattle.rules.specs.Summary.{summary, summary-fault, counted-summary};
 use crate::Counted;
-use crate::count::count;
-use crate::count::nothing;
 use crate::settle::updated;
+use crate::stretch::count;
+use crate::stretch::nothing;
 use checks::Span;
 use checks::check_lengths;
 use rules::Answer;
@@ -13,7 +14,7 @@ use rules::Summary;
 
 // All 0.
 fn no_counts() -> Summary
-    ensures { λ r. ⌜ r ≡ no-counts ⌝ }
+    ensures { λ r. ⌜ r ≡ summary [] [] ⌝ }
 {
     Summary {
         standing: 0,
@@ -25,7 +26,7 @@ fn no_counts() -> Summary
 // The card counted once; asking after that reads the summary and nothing else.
 pub fn summary_of<'a>(speeds: &'a [u16], card: &'a [u8]) -> Counted
     ensures answer { λ r. ⌜ said (r .answer) ≡ summary-fault (now (speeds .entry)) (now (card .entry)) ⌝ }
-    ensures summary { λ r. ⌜ r .summary ≡ asked-summary (now (speeds .entry)) (now (card .entry)) ⌝ }
+    ensures summary { λ r. ⌜ r .summary ≡ counted-summary (now (speeds .entry)) (now (card .entry)) ⌝ }
 {
     let none = no_counts();
     let seconds = speeds.len();

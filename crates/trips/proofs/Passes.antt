@@ -15,10 +15,10 @@ use Rattle.rules.specs.declared.Vehicle.{Vehicle}
 use Rattle.rules.specs.Words.{at, first, pass, table}
 use Rattle.rules.specs.Units.{low, rise}
 use Rattle.rules.specs.Gears.{under-nmax}
-use Rattle.rules.specs.Corrections.{floor, ceiling, place-of, here, first-choice, is-peak, peak, too-high, rising, too-low, slowing, firsts, after-A, after-B, gears}
-use Rattle.rules.specs.Vocabulary.{InBounds}
+use Rattle.rules.specs.Corrections.{floor, ceiling, role-of, here, first-choice, is-peak, peak, too-high, rising, too-low, slowing, firsts, gears}
+use Rattle.rules.specs.Inside.{InBounds}
 use Rattle.rules.proofs.Laws.Words.{by-eq, by-order, if-ind, and-right, length-pass, pass-at, pass-later, pass-holds, length-table, at-table, Found, first-found}
-use Rattle.rules.proofs.Laws.Held.{length-firsts, length-A, length-B, first-is}
+use Rattle.rules.proofs.Laws.Held.{length-firsts, length-A, length-B, first-is, after-A, after-B}
 use Rattle.rules.proofs.Laws.Choice.{choose-to}
 use Rattle.gears.specs.declared.Numbers.{Numbers}
 use Rattle.gears.proofs.Parts.{built}
@@ -77,7 +77,7 @@ pass-fresh {f} B gs hs n (suc k) h j l =
 
 -- a first choice looks at no place that is not yet written
 pub first-looks-back : (car : Vehicle) (us hs : List ℕ) → LooksBack (first-choice car us hs)
-unfolding first-choice here place-of
+unfolding first-choice here role-of
 first-looks-back car us hs = record {
   same = λ j rs ss n h. by-order 0 j (λ l. rw (h (j - 1) (omega arith))) (λ l. let e : j ≡ 0 = omega arith in rw e);
 }

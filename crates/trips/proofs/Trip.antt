@@ -1,6 +1,6 @@
 -- What the calls of one trip's work come to, one after the other.
 -- Assumes nothing.
-use Prim.Native.Nat.{ℕ, suc, _-_, _*_, _≤_, _<_}
+use Prim.Native.Nat.{ℕ, suc, _+_, _-_, _*_, _≤_, _<_}
 use native.Mathlib.Omega.{arith}
 use mathlib.Core.Path.{_≡_, refl, sym, ap, _∙_}
 use mathlib.Core.Bool.{Bool, true, false}
@@ -10,19 +10,19 @@ use lib.IntN.{ℤ}
 use lib.ListN.{length, drop}
 use borrow.Author.Tests.{eq-eqb, ne-eqb}
 use Rattle.rules.specs.declared.Vehicle.{Vehicle}
-use Rattle.rules.specs.declared.Place.the-variants.{First}
-use Rattle.rules.specs.Vocabulary.{InBounds}
+use Rattle.rules.specs.declared.Role.the-variants.{First}
+use Rattle.rules.specs.Inside.{InBounds}
 use Rattle.rules.specs.Words.{if_then_else_, _and_, at, pass, table}
 use Rattle.rules.specs.Units.{rise}
-use Rattle.rules.specs.Corrections.{closing, place-of, here, first-choice, peak, rising, slowing, firsts, after-A, after-B, gears, byte}
+use Rattle.rules.specs.Corrections.{closing, role-of, here, first-choice, peak, rising, slowing, firsts, gears, byte}
 use Rattle.rules.proofs.Laws.Words.{by-order}
-use Rattle.rules.proofs.Laws.Held.{length-gears}
+use Rattle.rules.proofs.Laws.Held.{length-gears, after-A, after-B}
 use Rattle.trips.proofs.Passes.{pass-same, firsts-fresh, gears-to}
 use Rattle.gears.specs.declared.Numbers.{Numbers}
 use Rattle.gears.specs.Parts.{low-in, Has, Lent, Parts}
 use Rattle.gears.specs.Second.{Driven}
-use Rattle.gears.proofs.Parts.{low-of, ng-of}
-use Rattle.gears.specs.Choosing.{only-first, first-of, first-parts}
+use Rattle.gears.proofs.Parts.{low-of, ng-of, points-of}
+use Rattle.gears.specs.Choosing.{Hints, only-lowest, first-of, first-parts}
 use Rattle.gears.proofs.Speeds.{fits-over, fits-one}
 use Rattle.gears.proofs.Choices.{choice-first}
 use Rattle.trips.specs.Ready.{HasRoom, Ready}
@@ -31,11 +31,11 @@ use Rattle.trips.specs.Trip.{AllMoving, RunFrom, on-way, trip-bytes}
 -- the first choice of a trip's first second with no hold: the lowest gear where it turns at most at nmax, otherwise none
 module _ {car : Vehicle} {k : Numbers} {ratio : List ℕ} (H : Has car k ratio) (b : InBounds car) (v : ℕ) (d : ℤ) (hold : ℕ) (free : hold ≡ 0) {g : ℕ} (e : g ≡ low-in k) where
   pub first-none : 1000 * k .nmax < at ratio (g - 1) * v → 0 ≡ first-of car First v d hold
-  unfolding first-of only-first
+  unfolding first-of only-lowest
   first-none h = rw (eq-eqb hold 0 free, ← choice-first car b v d, low-of (H .counts), ← e, ← fits-over H First v g h)
 
   pub first-one : at ratio (g - 1) * v ≤ 1000 * k .nmax → g ≡ first-of car First v d hold
-  unfolding first-of only-first
+  unfolding first-of only-lowest
   first-one h = rw (eq-eqb hold 0 free, ← choice-first car b v d, low-of (H .counts), ← e, ← fits-one H First v g (omega (arith, e)) h, eq-eqb g (low-in k) e)
 
 -- and with one: the held gear
@@ -46,8 +46,8 @@ first-held car v d hold n = rw (ne-eqb hold 0 n)
 module _ (car : Vehicle) (us hs : List ℕ) where
   -- a trip's seconds in a row, from its first on: what second j is, and its first choice
   known : (run j : ℕ) (gs : List ℕ) → closing (drop j us) ≡ leb run j
-      → place-of car (true and eqb j 0) (leb run j) (if eqb j 0 then 0 else at gs (j - 1)) ≡ here car us hs j gs
-  unfolding here place-of _and_
+      → role-of car (true and eqb j 0) (leb run j) (if eqb j 0 then 0 else at gs (j - 1)) ≡ here car us hs j gs
+  unfolding here role-of _and_
   known run j gs c =
       by-order 0 j
       (λ l. rw (c, ne-eqb j 0 (λ z. omega arith)))
@@ -65,12 +65,12 @@ module _ (car : Vehicle) (us hs : List ℕ) where
   -- one second of some in a row: the trip's first
   pub way-begins : (begins : Bool) (run last : ℕ) (gs : List ℕ) {v : ℕ} → begins ≡ true → v ≡ first-of car First (at us 0) (rise us 0) (at hs 0)
       → v ≡ on-way car us hs begins run last 0 gs
-  unfolding on-way place-of _and_
+  unfolding on-way role-of _and_
   way-begins begins run last gs t e = e ∙ rw t
 
   -- and any other
   pub way-step : (begins : Bool) (run last before j : ℕ) (gs : List ℕ) {v : ℕ} → (begins and eqb j 0) ≡ false → before ≡ (if eqb j 0 then last else at gs (j - 1))
-      → v ≡ first-of car (place-of car false (leb run j) before) (at us j) (rise us j) (at hs j) → v ≡ on-way car us hs begins run last j gs
+      → v ≡ first-of car (role-of car false (leb run j) before) (at us j) (rise us j) (at hs j) → v ≡ on-way car us hs begins run last j gs
   unfolding on-way
   way-step begins run last before j gs a b e = e ∙ rw (a, b)
 
@@ -103,6 +103,14 @@ pub gears-few : {k : Numbers} {ratio n p : List ℕ} → Parts k ratio n p → D
 gears-few P = record {
   ng-to = omega (arith, ng-of (P .lent .has .counts), P .lent .bounds .ng-to);
   low-to = omega (arith, ng-of (P .lent .has .counts), low-of (P .lent .has .counts), P .lent .bounds .low-ng);
+}
+
+-- a search may start from the gear above the lowest and the curve's first segment
+pub any-hints : {k : Numbers} {ratio n p : List ℕ} → Parts k ratio n p → Hints k (low-in k + 1) 0
+any-hints P = let C = P .lent .has .counts in record {
+  from = omega arith;
+  to = omega (arith, ng-of C, low-of C, P .lent .bounds .low-ng);
+  near = omega (arith, points-of C, P .lent .bounds .points-from);
 }
 
 -- every second of a trip that is ready is moving

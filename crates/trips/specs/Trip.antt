@@ -9,7 +9,7 @@ use lib.ListN.{length, drop}
 use Rattle.rules.specs.declared.Vehicle.{Vehicle}
 use Rattle.rules.specs.Words.{if_then_else_, _and_, _or_, at, table}
 use Rattle.rules.specs.Units.{moving, rise}
-use Rattle.rules.specs.Corrections.{closing, place-of, gears, byte}
+use Rattle.rules.specs.Corrections.{closing, role-of, gears, byte}
 use Rattle.gears.specs.Choosing.{first-of}
 
 -- every second of the trip is moving
@@ -24,7 +24,7 @@ pub record RunFrom (us : List ℕ) (r : ℕ) : Type 0 where
 -- the first choice of second j of some in a row: whether the trip begins with them, where among them the closing run begins, and the first choice before them
 unfoldable pub on-way : Vehicle → List ℕ → List ℕ → Bool → ℕ → ℕ → ℕ → List ℕ → ℕ
 on-way car us hs begins run last j gs =
-    first-of car (place-of car (begins and eqb j 0) (leb run j) (if eqb j 0 then last else at gs (j - 1))) (at us j) (rise us j) (at hs j)
+    first-of car (role-of car (begins and eqb j 0) (leb run j) (if eqb j 0 then last else at gs (j - 1))) (at us j) (rise us j) (at hs j)
 
 -- a trip with these holds and gears whose closing run begins at second r
 pub record Closes (r : ℕ) (hs gs : List ℕ) : Type 0 where

@@ -7,11 +7,11 @@ ghost use lib.IntN.{ℤ};
 ghost use lib.ListN.{length};
 ghost use Rattle.rules.specs.Words.{if_then_else_, _and_, at, pass};
 ghost use Rattle.rules.specs.Units.{rise};
-ghost use Rattle.rules.specs.Corrections.{place-of};
+ghost use Rattle.rules.specs.Corrections.{role-of};
 ghost use Rattle.rules.specs.declared.Vehicle.{Vehicle};
-ghost use Rattle.gears.specs.Choosing.{first-of};
-ghost use Rattle.rules.specs.declared.Place.the-variants.{First};
-ghost use Rattle.rules.specs.Vocabulary.{InBounds};
+ghost use Rattle.gears.specs.Choosing.{Hints, first-of};
+ghost use Rattle.rules.specs.declared.Role.the-variants.{First};
+ghost use Rattle.rules.specs.Inside.{InBounds};
 ghost use Rattle.gears.specs.Parts.{Has, Lent, Parts};
 ghost use Rattle.gears.specs.Second.{Driven};
 ghost use Rattle.trips.specs.Ready.{Aligned, TripSecond, Paced, Ready};
@@ -21,6 +21,7 @@ use crate::peak::pass_a;
 use crate::rising::pass_b;
 use crate::slowing::closing_from;
 use crate::slowing::pass_c;
+use gears::Chosen;
 use gears::Numbers;
 use gears::choice_after;
 use gears::engine;
@@ -87,16 +88,17 @@ fn choice_at<'a>(
     us: &[u16],
     hs: &[u8],
     run: usize,
-    before: u8,
+    before: Chosen,
     j: usize,
-) -> u8
-    requires { ⌜ Parts k (now ratio) (now n) (now p) × Paced (now us) (now hs) × TripSecond (now us) (now hs) j ⌝ }
-    ensures { λ r. ⌜ ((car : Vehicle) → Lent car k (now (ratio .entry)) (now (n .entry)) (now (p .entry)) → r ≡ first-of car (place-of car false (leb run j) before) (at (now (us .entry)) j) (rise (now (us .entry)) j) (at (now (hs .entry)) j)) ⌝ }
+) -> Chosen
+    requires { ⌜ Parts k (now ratio) (now n) (now p) × Paced (now us) (now hs) × TripSecond (now us) (now hs) j × Hints k (before .reached) (before .segment) ⌝ }
+    ensures gear { λ r. ⌜ ((car : Vehicle) → Lent car k (now (ratio .entry)) (now (n .entry)) (now (p .entry)) → r .gear ≡ first-of car (role-of car false (leb run j) (before .gear)) (at (now (us .entry)) j) (rise (now (us .entry)) j) (at (now (hs .entry)) j)) ⌝ }
+    ensures hints { λ r. ⌜ Hints k (r .reached) (r .segment) ⌝ }
 {
     let v = us[j];
     let next = us[j + 1];
     let hold = hs[j];
-    choice_after(k, ratio, n, p, false, run <= j, before, v, next, hold)
+    choice_after(k, ratio, n, p, run <= j, before, v, next, hold)
 }
 
 // First choices of some seconds in a row, from left to right, whatever the slice held before. `begins` says whether the trip begins with them, `run` where
@@ -118,11 +120,15 @@ pub fn first_choices<'a>(
     ensures { λ r. ⌜ ((car : Vehicle) → Lent car k (now (ratio .entry)) (now (n .entry)) (now (p .entry)) → now (gs .exit) ≡ pass (on-way car (now (us .entry)) (now (hs .entry)) begins run last) (length (now (hs .entry))) (now (gs .entry))) ⌝ }
 {
     let mut j = begin(k, ratio, us, hs, begins, gs);
-    let mut before = before_at(last, gs, j);
+    // the first search starts from the gear above the lowest and the curve's first segment
+    let mut before = Chosen {
+        gear: before_at(last, gs, j),
+        reached: lowest(k) + 1,
+        segment: 0,
+    };
     while j < gs.len() {
-        let g = choice_at(k, ratio, n, p, us, hs, run, before, j);
-        gs[j] = g;
-        before = g;
+        before = choice_at(k, ratio, n, p, us, hs, run, before, j);
+        gs[j] = before.gear;
         j += 1;
     }
 }

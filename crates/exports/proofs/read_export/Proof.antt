@@ -6,28 +6,10 @@ use mir.Val.{SFits}
 use mir.Syntax.{w32}
 use Rattle.exports.specs.Fields.{TM}
 use Rattle.exports.proofs.Sizes.{f1-short, tm-plain}
-use Rattle.exports.proofs.Whole.{both-judged, first-stops, second-stops, third-stops, more-bytes, all-read, refused-as, read-as-found}
+use Rattle.exports.proofs.WholeExport.{both-judged, first-stops, second-stops, third-stops, more-bytes, all-read, refused-as, read-as-found}
 use borrow.Author.Needs.{needs}
 use Rattle.exports.proofs.read_export.Statement.{statement}
 use Rattle.exports.proofs.read_export.Tie as tie
-
-none-yet-requires : tie.Need-none-yet-requires
-none-yet-requires c κs = search needs
-
-record-at-requires : tie.Need-record-at-requires
-record-at-requires c κs = search needs
-
-enum-known-first : tie.Need-enum-known-first
-enum-known-first c = search needs
-
-enum-told : tie.Need-enum-told
-enum-told c = search needs
-
-answer-requires : tie.Need-answer-requires
-answer-requires c κs = search needs
-
-nothing-requires : tie.Need-nothing-requires
-nothing-requires c κs = search needs
 
 returns : tie.Need-returns
 returns c =
@@ -36,24 +18,6 @@ returns c =
     let n = c .before .before .before .before .before .none-yet .ensures in
     let s = c .before .before .before .before .before .before .before in
     rw (c .nothing .ensures, c .before .answer .ensures, e) (refused-as (s .args .bytes .now) (first-stops (s .args .bytes .now) (rw (e, n) at (r .ensures .0))))
-
-and-requires : tie.Need-and-requires
-and-requires c κs = search needs
-
-record-at-requires-2 : tie.Need-record-at-requires-2
-record-at-requires-2 c κs = search needs
-
-enum-known-second : tie.Need-enum-known-second
-enum-known-second c = search needs
-
-enum-told-2 : tie.Need-enum-told-2
-enum-told-2 c = search needs
-
-answer-requires-2 : tie.Need-answer-requires-2
-answer-requires-2 c κs = search needs
-
-nothing-requires-2 : tie.Need-nothing-requires-2
-nothing-requires-2 c κs = search needs
 
 returns-2 : tie.Need-returns-2
 returns-2 c =
@@ -65,24 +29,6 @@ returns-2 c =
     let a = rw (c₁ .before .first .given .1, n) at (c₁ .before .before .before .record-at .ensures .0) in
     let h = rw n at (c .before .before .before .before .before .and .ensures) in
     rw (c .nothing2 .ensures, c .before .answer2 .ensures, e) (refused-as (s .args .bytes .now) (second-stops (s .args .bytes .now) a (rw (e, h) at (r .ensures .0))))
-
-and-requires-2 : tie.Need-and-requires-2
-and-requires-2 c κs = search needs
-
-record-at-requires-3 : tie.Need-record-at-requires-3
-record-at-requires-3 c κs = search needs
-
-enum-known-third : tie.Need-enum-known-third
-enum-known-third c = search needs
-
-enum-told-3 : tie.Need-enum-told-3
-enum-told-3 c = search needs
-
-answer-requires-3 : tie.Need-answer-requires-3
-answer-requires-3 c κs = search needs
-
-nothing-requires-3 : tie.Need-nothing-requires-3
-nothing-requires-3 c κs = search needs
 
 returns-3 : tie.Need-returns-3
 returns-3 c =
@@ -97,9 +43,6 @@ returns-3 c =
     let b = rw (c₂ .before .second .given .1, h) at (c₂ .before .before .before .record-at2 .ensures .0) in
     let w = rw h at (c .before .before .before .before .before .and2 .ensures) in
     rw (c .nothing3 .ensures, c .before .answer3 .ensures, e) (refused-as (s .args .bytes .now) (third-stops (s .args .bytes .now) a b (rw (e, w) at (r .ensures .0))))
-
-nothing-requires-4 : tie.Need-nothing-requires-4
-nothing-requires-4 c κs = search needs
 
 returns-4 : tie.Need-returns-4
 returns-4 c =
@@ -166,28 +109,28 @@ pub read-export-spec : {M : Type 1} → statement M
 read-export-spec =
     tie.close
     (tie.spec
-    none-yet-requires
-    record-at-requires
-    enum-known-first
-    enum-told
-    answer-requires
-    nothing-requires
+    (λ c κs. search needs)
+    (λ c κs. search needs)
+    (λ c. search needs)
+    (λ c. search needs)
+    (λ c κs. search needs)
+    (λ c κs. search needs)
     returns
-    and-requires
-    record-at-requires-2
-    enum-known-second
-    enum-told-2
-    answer-requires-2
-    nothing-requires-2
+    (λ c κs. search needs)
+    (λ c κs. search needs)
+    (λ c. search needs)
+    (λ c. search needs)
+    (λ c κs. search needs)
+    (λ c κs. search needs)
     returns-2
-    and-requires-2
-    record-at-requires-3
-    enum-known-third
-    enum-told-3
-    answer-requires-3
-    nothing-requires-3
+    (λ c κs. search needs)
+    (λ c κs. search needs)
+    (λ c. search needs)
+    (λ c. search needs)
+    (λ c κs. search needs)
+    (λ c κs. search needs)
     returns-3
-    nothing-requires-4
+    (λ c κs. search needs)
     returns-4
     in-units-requires
     whole-requires

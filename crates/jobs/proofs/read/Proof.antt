@@ -7,26 +7,14 @@ use lib.Seq.{length-take-le}
 use borrow.Author.Needs.{needs}
 use Rattle.rules.specs.declared.Refusal.the-variants.{RoomLength}
 use Rattle.rules.specs.Forms.{value, many}
-use Rattle.rules.specs.Job.{rising}
 use Rattle.rules.proofs.Laws.Forms.{value-sound}
 use Rattle.jobs.proofs.Steps.{comes-by, many-length, judged-comes}
-use Rattle.jobs.proofs.Ways.{bounded-in}
-use Rattle.jobs.proofs.Whole.{top, car-stops, count-stops, no-room, speeds-stop, number-stops, holds-stop, more-bytes, whole-gives}
+use Rattle.jobs.proofs.StageAnswers.{bounded-in}
+use Rattle.jobs.specs.Progress.{hold-row}
+use Rattle.jobs.proofs.WholeJob.{top, car-stops, count-stops, no-room, speeds-stop, number-stops, holds-stop, more-bytes, whole-gives}
 use Rattle.jobs.proofs.Rooms.{refused-as, filled-as, speeds-stand, holds-stand}
 use Rattle.jobs.proofs.read.Statement.{statement}
 use Rattle.jobs.proofs.read.Tie as tie
-
-car-at-requires : tie.Need-car-at-requires
-car-at-requires c κs = search needs
-
-enum-known-came : tie.Need-enum-known-came
-enum-known-came c = search needs
-
-enum-told : tie.Need-enum-told
-enum-told c = search needs
-
-nothing-requires : tie.Need-nothing-requires
-nothing-requires c κs = search needs
 
 returns : tie.Need-returns
 returns c =
@@ -34,24 +22,6 @@ returns c =
     let s = c₁ .before .before .before .before in
     let g = c .before .enum-told .given .1 in
     rw (c .nothing .ensures, g) (refused-as (s .args .job .now) (s .args .speeds .now) (s .args .holds .now) (car-stops (s .args .job .now) (length (s .args .speeds .now)) (length (s .args .holds .now)) (rw g at (c₁ .car-at .ensures))))
-
-cast-bounded : tie.Need-cast-bounded
-cast-bounded c = search needs
-
-bounded-requires : tie.Need-bounded-requires
-bounded-requires c κs = search needs
-
-enum-known-seconds : tie.Need-enum-known-seconds
-enum-known-seconds c = search needs
-
-enum-told-2 : tie.Need-enum-told-2
-enum-told-2 c = search needs
-
-came-requires : tie.Need-came-requires
-came-requires c κs = search needs
-
-nothing-requires-2 : tie.Need-nothing-requires-2
-nothing-requires-2 c κs = search needs
 
 returns-2 : tie.Need-returns-2
 returns-2 c =
@@ -62,12 +32,6 @@ returns-2 c =
     let g = c .before .before .enum-told2 .given .1 in
     rw (c .nothing2 .ensures, c .before .came2 .ensures, g) (refused-as (s .args .job .now) (s .args .speeds .now) (s .args .holds .now) (count-stops (s .args .job .now) (length (s .args .speeds .now)) (length (s .args .holds .now)) (rw (c₂ .came .given .1) at (c₁ .car-at .ensures)) (rw g at (c₃ .bounded .ensures))))
 
-cast-count : tie.Need-cast-count
-cast-count c = search needs
-
-nothing-requires-3 : tie.Need-nothing-requires-3
-nothing-requires-3 c κs = search needs
-
 returns-3 : tie.Need-returns-3
 returns-3 c =
     let c₄ = c .before .before .before in
@@ -77,9 +41,6 @@ returns-3 c =
     let s = c₁ .before .before .before .before in
     rw (c .nothing3 .ensures) (refused-as (s .args .job .now) (s .args .speeds .now) (s .args .holds .now) {f = RoomLength} (no-room (s .args .job .now) (length (s .args .speeds .now)) (length (s .args .holds .now)) (rw (c₂ .came .given .1) at (c₁ .car-at .ensures)) (rw (c₄ .seconds .given .1) at (c₃ .bounded .ensures)) (λ x y. omega arith)))
 
-nothing-requires-4 : tie.Need-nothing-requires-4
-nothing-requires-4 c κs = search needs
-
 returns-4 : tie.Need-returns-4
 returns-4 c =
     let c₄ = c .before .before .before .before in
@@ -88,18 +49,6 @@ returns-4 c =
     let c₁ = c₂ .before .before in
     let s = c₁ .before .before .before .before in
     rw (c .nothing4 .ensures) (refused-as (s .args .job .now) (s .args .speeds .now) (s .args .holds .now) {f = RoomLength} (no-room (s .args .job .now) (length (s .args .speeds .now)) (length (s .args .holds .now)) (rw (c₂ .came .given .1) at (c₁ .car-at .ensures)) (rw (c₄ .seconds .given .1) at (c₃ .bounded .ensures)) (λ x y. omega arith)))
-
-skip-requires : tie.Need-skip-requires
-skip-requires c κs = search needs
-
-enum-known-skipped : tie.Need-enum-known-skipped
-enum-known-skipped c = search needs
-
-enum-told-3 : tie.Need-enum-told-3
-enum-told-3 c = search needs
-
-nothing-requires-5 : tie.Need-nothing-requires-5
-nothing-requires-5 c κs = search needs
 
 returns-5 : tie.Need-returns-5
 returns-5 c =
@@ -111,21 +60,6 @@ returns-5 c =
     let s = c₁ .before .before .before .before in
     let g = c .before .enum-told3 .given .1 in
     rw (c .nothing5 .ensures, g) (refused-as (s .args .job .now) (s .args .speeds .now) (s .args .holds .now) (speeds-stop (s .args .job .now) (length (s .args .speeds .now)) (length (s .args .holds .now)) (rw (c₂ .came .given .1) at (c₁ .car-at .ensures)) (rw (c₄ .seconds .given .1) at (c₃ .bounded .ensures)) (omega arith) (omega arith) (rw g at (c₅ .skip .ensures))))
-
-group-at-requires : tie.Need-group-at-requires
-group-at-requires c κs = search needs
-
-enum-known-number : tie.Need-enum-known-number
-enum-known-number c = search needs
-
-enum-told-4 : tie.Need-enum-told-4
-enum-told-4 c = search needs
-
-came-requires-2 : tie.Need-came-requires-2
-came-requires-2 c κs = search needs
-
-nothing-requires-6 : tie.Need-nothing-requires-6
-nothing-requires-6 c κs = search needs
 
 returns-6 : tie.Need-returns-6
 returns-6 c =
@@ -140,9 +74,6 @@ returns-6 c =
     let g = c .before .before .enum-told4 .given .1 in
     rw (c .nothing6 .ensures, c .before .came3 .ensures, g) (refused-as (s .args .job .now) (s .args .speeds .now) (s .args .holds .now) (number-stops (s .args .job .now) (length (s .args .speeds .now)) (length (s .args .holds .now)) (rw (c₂ .came .given .1) at (c₁ .car-at .ensures)) (rw (c₄ .seconds .given .1) at (c₃ .bounded .ensures)) (omega arith) (omega arith) (rw (c₆ .skipped .given .1) at (c₅ .skip .ensures)) (rw g at (c₇ .group-at .ensures))))
 
-cast-held : tie.Need-cast-held
-cast-held c = search needs
-
 judge-holds-requires : tie.Need-judge-holds-requires
 judge-holds-requires c κs =
     let c₈ = c .before in
@@ -155,15 +86,6 @@ judge-holds-requires c κs =
     let c₁ = c₂ .before .before in
     let s = c₁ .before .before .before .before in
     let b = bounded-in (s .args .job .now) 1 top 1 0 (c₂ .came .given .0 .0) (rw (c₄ .seconds .given .1) at (c₃ .bounded .ensures)) in omega (arith, b)
-
-enum-known-judged : tie.Need-enum-known-judged
-enum-known-judged c = search needs
-
-enum-told-5 : tie.Need-enum-told-5
-enum-told-5 c = search needs
-
-nothing-requires-7 : tie.Need-nothing-requires-7
-nothing-requires-7 c κs = search needs
 
 returns-7 : tie.Need-returns-7
 returns-7 c =
@@ -180,9 +102,6 @@ returns-7 c =
     let g = c .before .enum-told5 .given .1 in
     rw (c .nothing7 .ensures, g) (refused-as (s .args .job .now) (s .args .speeds .now) (s .args .holds .now) (holds-stop (s .args .job .now) (length (s .args .speeds .now)) (length (s .args .holds .now)) (rw (c₂ .came .given .1) at (c₁ .car-at .ensures)) (rw (c₄ .seconds .given .1) at (c₃ .bounded .ensures)) (omega arith) (omega arith) (rw (c₆ .skipped .given .1) at (c₅ .skip .ensures)) (rw (c₈ .number .given .1) at (c₇ .group-at .ensures)) (rw g at (c₉ .judge-holds .ensures))))
 
-nothing-requires-8 : tie.Need-nothing-requires-8
-nothing-requires-8 c κs = search needs
-
 returns-8 : tie.Need-returns-8
 returns-8 c =
     let c₁₀ = c .before .before .before in
@@ -197,9 +116,6 @@ returns-8 c =
     let c₁ = c₂ .before .before in
     let s = c₁ .before .before .before .before in
     rw (c .nothing8 .ensures) (refused-as (s .args .job .now) (s .args .speeds .now) (s .args .holds .now) (more-bytes (s .args .job .now) (length (s .args .speeds .now)) (length (s .args .holds .now)) (rw (c₂ .came .given .1) at (c₁ .car-at .ensures)) (rw (c₄ .seconds .given .1) at (c₃ .bounded .ensures)) (omega arith) (omega arith) (rw (c₆ .skipped .given .1) at (c₅ .skip .ensures)) (rw (c₈ .number .given .1) at (c₇ .group-at .ensures)) (rw (c₁₀ .judged .given .1) at (c₉ .judge-holds .ensures)) (λ e. omega arith)))
-
-slice-relend-prefix-put-speeds : tie.Need-slice-relend-prefix-put-speeds
-slice-relend-prefix-put-speeds c = search needs
 
 slice-aggregate-put-speeds : tie.Need-slice-aggregate-put-speeds
 slice-aggregate-put-speeds c = sym (length-take-le _ _ (omega arith))
@@ -219,9 +135,6 @@ put-speeds-requires c κs =
     let s = c₁ .before .before .before .before in
     rw (length-take-le (c₄ .seconds .given .0 .0) (s .args .speeds .now) (omega arith)) (comes-by (judged-comes (many value _) (s .args .job .now) _ (rw (c₆ .skipped .given .1) at (c₅ .skip .ensures))))
 
-slice-relend-prefix-put-holds : tie.Need-slice-relend-prefix-put-holds
-slice-relend-prefix-put-holds c = search needs
-
 slice-aggregate-put-holds : tie.Need-slice-aggregate-put-holds
 slice-aggregate-put-holds c = sym (length-take-le _ _ (omega arith))
 
@@ -238,13 +151,7 @@ put-holds-requires c κs =
     let c₂ = c₃ .before .before in
     let c₁ = c₂ .before .before in
     let s = c₁ .before .before .before .before in
-    rw (length-take-le (c₄ .seconds .given .0 .0) (s .args .holds .now) (omega arith)) (comes-by (judged-comes (rising _ _) (s .args .job .now) _ (rw (c₁₀ .judged .given .1) at (c₉ .judge-holds .ensures))))
-
-same-length : tie.Need-same-length
-same-length c = search needs
-
-same-length-2 : tie.Need-same-length-2
-same-length-2 c = search needs
+    rw (length-take-le (c₄ .seconds .given .0 .0) (s .args .holds .now) (omega arith)) (comes-by (judged-comes (hold-row _ _) (s .args .job .now) _ (rw (c₁₀ .judged .given .1) at (c₉ .judge-holds .ensures))))
 
 returns-9 : tie.Need-returns-9
 returns-9 c =
@@ -270,48 +177,48 @@ pub read-spec : {M : Type 1} → statement M
 read-spec =
     tie.close
     (tie.spec
-    car-at-requires
-    enum-known-came
-    enum-told
-    nothing-requires
+    (λ c κs. search needs)
+    (λ c. search needs)
+    (λ c. search needs)
+    (λ c κs. search needs)
     returns
-    cast-bounded
-    bounded-requires
-    enum-known-seconds
-    enum-told-2
-    came-requires
-    nothing-requires-2
+    (λ c. search needs)
+    (λ c κs. search needs)
+    (λ c. search needs)
+    (λ c. search needs)
+    (λ c κs. search needs)
+    (λ c κs. search needs)
     returns-2
-    cast-count
-    nothing-requires-3
+    (λ c. search needs)
+    (λ c κs. search needs)
     returns-3
-    nothing-requires-4
+    (λ c κs. search needs)
     returns-4
-    skip-requires
-    enum-known-skipped
-    enum-told-3
-    nothing-requires-5
+    (λ c κs. search needs)
+    (λ c. search needs)
+    (λ c. search needs)
+    (λ c κs. search needs)
     returns-5
-    group-at-requires
-    enum-known-number
-    enum-told-4
-    came-requires-2
-    nothing-requires-6
+    (λ c κs. search needs)
+    (λ c. search needs)
+    (λ c. search needs)
+    (λ c κs. search needs)
+    (λ c κs. search needs)
     returns-6
-    cast-held
+    (λ c. search needs)
     judge-holds-requires
-    enum-known-judged
-    enum-told-5
-    nothing-requires-7
+    (λ c. search needs)
+    (λ c. search needs)
+    (λ c κs. search needs)
     returns-7
-    nothing-requires-8
+    (λ c κs. search needs)
     returns-8
-    slice-relend-prefix-put-speeds
+    (λ c. search needs)
     slice-aggregate-put-speeds
     put-speeds-requires
-    slice-relend-prefix-put-holds
+    (λ c. search needs)
     slice-aggregate-put-holds
     put-holds-requires
-    same-length
-    same-length-2
+    (λ c. search needs)
+    (λ c. search needs)
     returns-9)

@@ -12,21 +12,22 @@ use mathlib.Core.List.{List}
 use lib.Dec.{eqb, ltb}
 use lib.ListN.{length, replicate, drop, length-take, length-drop, length-replicate}
 use borrow.Author.Tests.{ltb-false, eqb-false, not-false, ne-eqb, eqb-true, eq-eqb, lt-ltb, le-ltb}
+use Rattle.rules.specs.Inside.{InBounds, Fit}
 use Rattle.rules.specs.declared.Vehicle.{Vehicle}
-use Rattle.rules.specs.declared.Place.{Place}
+use Rattle.rules.specs.declared.Role.{Role}
 use Rattle.rules.specs.Words.{if_then_else_, _and_, at, part, pass}
 use Rattle.rules.specs.Units.{low, moving, rise, start, stop}
 use Rattle.rules.specs.Gears.{under-nmax, choose, is-first}
-use Rattle.rules.specs.Corrections.{here, first-choice, firsts, gears, trip-speeds, trip-holds, first-at, gear-at, clutch, byte, card-at, card, closing, place-at, place-of}
+use Rattle.rules.specs.Corrections.{here, first-choice, firsts, gears, trip-speeds, trip-holds, first-at, gear-at, clutch, byte, card-at, card, closing, role-of}
 use Rattle.rules.specs.Refusals.{over-ng, over-rev, no-gear, bad, span-fault}
-use Rattle.rules.specs.Vocabulary.{InBounds, Fit}
+use Rattle.rules.specs.Vocabulary.{role-at}
 use Rattle.rules.proofs.Laws.Words.{if-ind, and-fails, at-part, length-part, at-table, by-test, by-order, pass-done}
 use Rattle.rules.proofs.Laws.Trips.{trip-of, stop-in, trip-start, trip-stop}
 use Rattle.rules.proofs.Laws.Held.{first-is, held-gear}
 use Rattle.rules.proofs.Laws.Limits.{InRange, of-under, under-of, first-in, gears-in}
 use Rattle.rules.proofs.Laws.Checks.{driven, passed}
 use Rattle.rules.proofs.Laws.Closing.{closing-part}
-use Rattle.rules.specs.declared.Place.the-variants.{First, Closing, AfterLow, Inner}
+use Rattle.rules.specs.declared.Role.the-variants.{First, Closing, AfterLow, Inner}
 
 -- a moving second's byte, modulo 16, is its gear, clutch down or not
 pub card-mod : (car : Vehicle) (vs hs : List ℕ) (i : ℕ) → moving (at vs i) ≡ true → gear-at car vs hs i < 16 → card-at car vs hs i % 16 ≡ gear-at car vs hs i
@@ -70,8 +71,8 @@ module _ (car : Vehicle) (vs hs : List ℕ) (n : length hs ≡ length vs) (i : �
   before = pass (first-choice car (trip-speeds vs i) (trip-holds vs hs i)) (i - start vs i) (replicate (length (trip-holds vs hs i)) 0)
 
   -- what it is, seen from its trip and from the whole trace
-  place-is : here car (trip-speeds vs i) (trip-holds vs hs i) (i - start vs i) before ≡ place-at car vs hs i
-  unfolding here place-at place-of trip-speeds trip-holds first-at firsts
+  place-is : here car (trip-speeds vs i) (trip-holds vs hs i) (i - start vs i) before ≡ role-at car vs hs i
+  unfolding here role-at role-of trip-speeds trip-holds first-at firsts
   place-is =
       let t = trip-of vs i m in
       let a = start vs i in
@@ -113,7 +114,7 @@ module _ (car : Vehicle) (vs hs : List ℕ) (n : length hs ≡ length vs) (i : �
       rw (le-ltb _ _ l, le-ltb _ _ h))
 
   -- its first choice: the hold, else the rules' choice
-  pub first-at-is : first-at car vs hs i ≡ (if eqb (at hs i) 0 then choose car (place-at car vs hs i) (at vs i) (rise vs i) else at hs i)
+  pub first-at-is : first-at car vs hs i ≡ (if eqb (at hs i) 0 then choose car (role-at car vs hs i) (at vs i) (rise vs i) else at hs i)
   unfolding first-at first-choice
   first-at-is =
       first-is car (trip-speeds vs i) (trip-holds vs hs i) (i - start vs i) (in-trip vs hs n i m)

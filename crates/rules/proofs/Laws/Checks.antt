@@ -11,13 +11,15 @@ use mathlib.Core.List.{List, [], _∷_, _++_}
 use lib.Dec.{ltb, lit<}
 use borrow.Author.Tests.{ltb-false, lt-ltb, le-ltb, ltb-true, eqb-true, not-false}
 use lib.ListN.{length, getD}
+use Rattle.rules.specs.Inside.{InBounds, gear-fault}
 use Rattle.rules.specs.declared.Vehicle.{Vehicle}
 use Rattle.rules.specs.Words.{if_then_else_, _and_, _or_, first}
-use Rattle.rules.specs.Refusals.{Fault, refuse-at, _orelse_, when, trace-fault, room-fault, vehicle-fault, not-driven, Check, speed, step, ends, over-ng, at-rest, over-rev, no-gear, check-number, checks, last-check, bad, fault-of, seconds-fault, gear-fault, span-fault, work-fault, left, second-fault, edit-fault}
+use Rattle.rules.specs.Refusals.{Fault, refuse-at, _orelse_, when, trace-fault, room-fault, vehicle-fault, not-driven, Check, speed, step, ends, over-ng, at-rest, over-rev, no-gear, check-number, checks, all-checks, bad, fault-of, seconds-fault, span-fault, work-fault, left}
+use Rattle.rules.specs.declared.Edit.{Edit}
+use Rattle.rules.specs.Edit.{Screen, second, asked-fault, edit-fault}
 use Rattle.rules.specs.Units.{bad-field, low, longest}
-use Rattle.rules.specs.Vocabulary.{InBounds}
 use Rattle.rules.proofs.Laws.Vehicle.{in-bounds, within-lo, within-hi}
-use Rattle.rules.proofs.Laws.Words.{by-test, by-eq, and-left, and-right, and-fails, or-left, or-right, none-first, first-ext, first-window}
+use Rattle.rules.proofs.Laws.Words.{by-test, by-eq, and-left, and-right, and-fails, or-left, or-right, none-first, first-none, first-ext, first-window}
 
 -- ---- a row of checks
 
@@ -99,28 +101,34 @@ unfolding work-fault
 passes-whole car vs hs old A = none-orelse _ _ (A .trace) ∙ none-orelse _ _ (A .room) ∙ none-orelse _ _ (A .vehicle) ∙ A .span
 
 -- where the working accepted, an edit of a second of the trace is refused by its own checks alone
-pub edit-is : (car : Vehicle) (vs hs old : List ℕ) (s : ℕ) → Accepted car vs hs old → s < length vs → (own : Option Fault) → edit-fault car vs hs old s own ≡ own
-unfolding edit-fault second-fault
-edit-is car vs hs old s A l own =
+pub edit-is : (car : Vehicle) (e : Edit) (x : Screen) → Accepted car (x .speeds) (x .holds) (x .card) → second e < length (x .speeds) → edit-fault car e x ≡ asked-fault car e (x .speeds) (x .holds)
+unfolding edit-fault
+edit-is car e x A l =
     none-orelse _ _ (A .trace) ∙ none-orelse _ _ (A .room) ∙ none-orelse _ _ (A .vehicle)
-    ∙ none-orelse _ _ (none-when 11 (not (ltb s (length vs))) s (rw (lt-ltb s (length vs) l)))
+    ∙ none-orelse _ _ (none-when 11 (not (ltb (second e) (length (x .speeds)))) (second e) (rw (lt-ltb (second e) (length (x .speeds)) l)))
 
 -- the same record for an edit that is not refused, and its own checks
-pub record Taken (car : Vehicle) (vs hs old : List ℕ) (s : ℕ) (own : Option Fault) : Type 0 where
-  pub trace : trace-fault vs ≡ none
-  pub room : room-fault vs hs old ≡ none
+pub record Taken (car : Vehicle) (e : Edit) (x : Screen) : Type 0 where
+  pub trace : trace-fault (x .speeds) ≡ none
+  pub room : room-fault (x .speeds) (x .holds) (x .card) ≡ none
   pub vehicle : vehicle-fault car ≡ none
-  pub second : s < length vs
-  pub checks-pass : own ≡ none
+  pub in-trace : second e < length (x .speeds)
+  pub own : asked-fault car e (x .speeds) (x .holds) ≡ none
 
-pub taken : (car : Vehicle) (vs hs old : List ℕ) (s : ℕ) (own : Option Fault) → edit-fault car vs hs old s own ≡ none → Taken car vs hs old s own
-unfolding edit-fault second-fault
-taken car vs hs old s own e =
-    let a = orelse-none _ _ e in
+pub taken : (car : Vehicle) (e : Edit) (x : Screen) → edit-fault car e x ≡ none → Taken car e x
+unfolding edit-fault
+taken car e x ok =
+    let a = orelse-none _ _ ok in
     let b = orelse-none _ _ (a .1) in
     let c = orelse-none _ _ (b .1) in
     let d = orelse-none _ _ (c .1) in
-    record { trace = a .0; room = b .0; vehicle = c .0; second = ltb-true s (length vs) (not-false _ (when-none 11 (not (ltb s (length vs))) s (d .0))); checks-pass = d .1 }
+    record {
+      trace = a .0;
+      room = b .0;
+      vehicle = c .0;
+      in-trace = ltb-true (second e) (length (x .speeds)) (not-false _ (when-none 11 (not (ltb (second e) (length (x .speeds)))) (second e) (d .0)));
+      own = d .1;
+    }
 
 -- refused or not
 pub by-fault : {P : Type 0} (f : Option Fault) → (f ≡ none → P) → ((q : Fault) → f ≡ some q → P) → P
@@ -141,43 +149,55 @@ unfolding left
 left-same none old e = e refl
 left-same (some f) old e = refl
 
-pub left-by : (P : List ℕ → Type 0) (f : Option Fault) (old new : List ℕ) → P old → (f ≡ none → P new) → P (left f old new)
+pub left-by : {A : Type 0} (P : A → Type 0) (f : Option Fault) (old new : A) → P old → (f ≡ none → P new) → P (left f old new)
 unfolding left
 left-by P none old new p q = q refl
 left-by P (some f) old new p q = p
 
--- ---- where a span passes, each check passes at each of its seconds
+-- of a part of what is left
+pub left-part : {A B : Type 0} (part : A → B) (f : Option Fault) (old new : A) → part (left f old new) ≡ left f (part old) (part new)
+unfolding left
+left-part part none old new = refl
+left-part part (some f) old new = refl
 
-module _ (car : Vehicle) (vs hs : List ℕ) (lo hi : ℕ) where
-  none-at : (cs : List Check) → fault-of car vs hs lo hi cs ≡ none → (k : ℕ) → k < length cs → first (bad (getD cs k speed) car vs hs lo) lo (hi - lo) ≡ none
+-- ---- where a row of checks finds nothing, each passes at each second
+
+module _ (fails : Check → ℕ → Bool) (lo hi : ℕ) where
+  none-at : (cs : List Check) → fault-of fails lo hi cs ≡ none → (k : ℕ) → k < length cs → first (fails (getD cs k speed)) lo (hi - lo) ≡ none
   unfolding fault-of
   none-at [] e k h = absurd (not-suc-le-zero h)
   none-at (c ∷ cs) e zero h = refuse-none _ _ (orelse-none _ _ e .0)
   none-at (c ∷ cs) e (suc k) h = none-at cs (orelse-none _ _ e .1) k (le-of-suc-le-suc h)
 
-  -- 4 to 9 passed, and 10
-  pub span-none : span-fault car vs hs lo hi ≡ none → (seconds-fault car vs hs lo hi ≡ none) × (gear-fault car vs hs lo hi ≡ none)
-  unfolding span-fault
-  span-none e = orelse-none _ _ e
-
   -- a check of a list whose checks found nothing passes
-  pub listed : (cs : List Check) → fault-of car vs hs lo hi cs ≡ none → (k : ℕ) → k < length cs → (i : ℕ) → lo ≤ i → i < hi → bad (getD cs k speed) car vs hs lo i ≡ false
-  listed cs e k l i a b = none-first (bad (getD cs k speed) car vs hs lo) (hi - lo) lo (none-at cs e k l) i a (omega arith)
+  pub listed : (cs : List Check) → fault-of fails lo hi cs ≡ none → (k : ℕ) → k < length cs → (i : ℕ) → lo ≤ i → i < hi → fails (getD cs k speed) i ≡ false
+  listed cs e k l i a b = none-first (fails (getD cs k speed)) (hi - lo) lo (none-at cs e k l) i a (omega arith)
 
+  pub all-pass : fault-of fails lo hi all-checks ≡ none → (c : Check) (i : ℕ) → lo ≤ i → i < hi → fails c i ≡ false
+  unfolding all-checks checks
+  all-pass e speed = listed all-checks e 0 (lit< tt)
+  all-pass e step = listed all-checks e 1 (lit< tt)
+  all-pass e ends = listed all-checks e 2 (lit< tt)
+  all-pass e over-ng = listed all-checks e 3 (lit< tt)
+  all-pass e at-rest = listed all-checks e 4 (lit< tt)
+  all-pass e over-rev = listed all-checks e 5 (lit< tt)
+  all-pass e no-gear = listed all-checks e 6 (lit< tt)
+
+  -- where each passes, nothing is found
+  pub pass-all : (cs : List Check) → ((c : Check) (i : ℕ) → lo ≤ i → i < hi → fails c i ≡ false) → fault-of fails lo hi cs ≡ none
+  unfolding fault-of refuse-at _orelse_
+  pass-all [] h = refl
+  pass-all (c ∷ cs) h = rw (first-none (fails c) (hi - lo) lo (λ i a b. h c i a (omega arith)), pass-all cs h)
+
+module _ (car : Vehicle) (vs hs : List ℕ) (lo hi : ℕ) where
   pub passed : span-fault car vs hs lo hi ≡ none → (c : Check) (i : ℕ) → lo ≤ i → i < hi → bad c car vs hs lo i ≡ false
-  unfolding seconds-fault gear-fault checks last-check
-  passed e speed = listed checks (span-none e .0) 0 (lit< tt)
-  passed e step = listed checks (span-none e .0) 1 (lit< tt)
-  passed e ends = listed checks (span-none e .0) 2 (lit< tt)
-  passed e over-ng = listed checks (span-none e .0) 3 (lit< tt)
-  passed e at-rest = listed checks (span-none e .0) 4 (lit< tt)
-  passed e over-rev = listed checks (span-none e .0) 5 (lit< tt)
-  passed e no-gear = listed last-check (span-none e .1) 0 (lit< tt)
+  unfolding span-fault
+  passed e = all-pass (λ c. bad c car vs hs lo) lo hi e
 
   -- the step, of 4 to 9 alone
   pub step-passed : seconds-fault car vs hs lo hi ≡ none → (i : ℕ) → lo ≤ i → i < hi → bad step car vs hs lo i ≡ false
   unfolding seconds-fault checks
-  step-passed e = listed checks e 1 (lit< tt)
+  step-passed e = listed (λ c. bad c car vs hs lo) lo hi checks e 1 (lit< tt)
 
 -- the step into a span's first second is not checked
 pub step-first : (car : Vehicle) (vs hs : List ℕ) (lo : ℕ) → bad step car vs hs lo lo ≡ false
@@ -211,37 +231,36 @@ module _ (car : Vehicle) (vs hs ws ks : List ℕ) (n : length ws ≡ length vs) 
       first-window (bad c car ws ks 0) (bad c car ws ks lo) (length ws) lo hi a b
       (λ i h o. same c i (omega arith) o ∙ ok i (omega arith)) (λ i x y. bad-inside c ok i x (omega arith))
 
-  fault-inside : (cs : List Check) → fault-of car vs hs 0 (length vs) cs ≡ none → fault-of car ws ks 0 (length ws) cs ≡ fault-of car ws ks lo hi cs
+  fault-inside : (cs : List Check) → fault-of (λ c. bad c car vs hs 0) 0 (length vs) cs ≡ none → fault-of (λ c. bad c car ws ks 0) 0 (length ws) cs ≡ fault-of (λ c. bad c car ws ks lo) lo hi cs
   unfolding fault-of
   fault-inside [] e = refl
   fault-inside (c ∷ cs) e =
-      let o = orelse-none (refuse-at (check-number c) (first (bad c car vs hs 0) 0 (length vs - 0))) (fault-of car vs hs 0 (length vs) cs) e in
+      let o = orelse-none (refuse-at (check-number c) (first (bad c car vs hs 0) 0 (length vs - 0))) (fault-of (λ c. bad c car vs hs 0) 0 (length vs) cs) e in
       rw (fault-inside cs (o .1), sub-zero, first-inside c (rw sub-zero at (refuse-none (check-number c) (first (bad c car vs hs 0) 0 (length vs - 0)) (o .0))))
 
   pub fault-window : span-fault car vs hs 0 (length vs) ≡ none → span-fault car ws ks 0 (length ws) ≡ span-fault car ws ks lo hi
-  unfolding span-fault seconds-fault gear-fault
-  fault-window e = let o = span-none car vs hs 0 (length vs) e in rw (fault-inside checks (o .0), fault-inside last-check (o .1))
+  unfolding span-fault
+  fault-window e = fault-inside all-checks e
 
 -- ---- two lists of checks, one after the other
 
-pub fault-append : (car : Vehicle) (vs hs : List ℕ) (lo hi : ℕ) (cs ds : List Check) → fault-of car vs hs lo hi (cs ++ ds) ≡ fault-of car vs hs lo hi cs orelse fault-of car vs hs lo hi ds
+pub fault-append : (fails : Check → ℕ → Bool) (lo hi : ℕ) (cs ds : List Check) → fault-of fails lo hi (cs ++ ds) ≡ fault-of fails lo hi cs orelse fault-of fails lo hi ds
 unfolding fault-of _orelse_
-fault-append car vs hs lo hi [] ds = refl
-fault-append car vs hs lo hi (c ∷ cs) ds =
-    ap (λ (r : Option Fault). refuse-at (check-number c) (first (bad c car vs hs lo) lo (hi - lo)) orelse r) (fault-append car vs hs lo hi cs ds)
-    ∙ sym (orelse-assoc (refuse-at (check-number c) (first (bad c car vs hs lo) lo (hi - lo))) (fault-of car vs hs lo hi cs) (fault-of car vs hs lo hi ds))
+fault-append fails lo hi [] ds = refl
+fault-append fails lo hi (c ∷ cs) ds =
+    ap (λ (r : Option Fault). refuse-at (check-number c) (first (fails c) lo (hi - lo)) orelse r) (fault-append fails lo hi cs ds)
+    ∙ sym (orelse-assoc (refuse-at (check-number c) (first (fails c) lo (hi - lo))) (fault-of fails lo hi cs) (fault-of fails lo hi ds))
 
--- ---- two spans of which each check says the same
+-- 10, for want of a gear, comes after 4 to 9
+pub gears-last : (car : Vehicle) (vs hs : List ℕ) (lo hi : ℕ) → span-fault car vs hs lo hi ≡ seconds-fault car vs hs lo hi orelse gear-fault car vs hs lo hi
+unfolding span-fault seconds-fault all-checks gear-fault fault-of check-number
+gears-last car vs hs lo hi =
+    fault-append (λ c. bad c car vs hs lo) lo hi checks (no-gear ∷ [])
+    ∙ ap (λ (r : Option Fault). fault-of (λ c. bad c car vs hs lo) lo hi checks orelse r) (orelse-nothing (refuse-at 10 (first (bad no-gear car vs hs lo) lo (hi - lo))))
 
-pub fault-ext : (car : Vehicle) (vs hs ws ks : List ℕ) (lo hi : ℕ)
-    → ((c : Check) (i : ℕ) → lo ≤ i → i < hi → bad c car vs hs lo i ≡ bad c car ws ks lo i) → (cs : List Check)
-    → fault-of car vs hs lo hi cs ≡ fault-of car ws ks lo hi cs
+-- ---- two rows of which each check says the same
+
+pub fault-ext : (p q : Check → ℕ → Bool) (lo hi : ℕ) → ((c : Check) (i : ℕ) → lo ≤ i → i < hi → p c i ≡ q c i) → (cs : List Check) → fault-of p lo hi cs ≡ fault-of q lo hi cs
 unfolding fault-of
-fault-ext car vs hs ws ks lo hi same [] = refl
-fault-ext car vs hs ws ks lo hi same (c ∷ cs) =
-    rw (fault-ext car vs hs ws ks lo hi same cs, first-ext (bad c car vs hs lo) (bad c car ws ks lo) (hi - lo) lo (λ i x y. same c i x (omega arith)))
-
-pub span-ext : (car : Vehicle) (vs hs ws ks : List ℕ) (lo hi : ℕ)
-    → ((c : Check) (i : ℕ) → lo ≤ i → i < hi → bad c car vs hs lo i ≡ bad c car ws ks lo i) → span-fault car vs hs lo hi ≡ span-fault car ws ks lo hi
-unfolding span-fault seconds-fault gear-fault
-span-ext car vs hs ws ks lo hi same = rw (fault-ext car vs hs ws ks lo hi same checks, fault-ext car vs hs ws ks lo hi same last-check)
+fault-ext p q lo hi same [] = refl
+fault-ext p q lo hi same (c ∷ cs) = rw (fault-ext p q lo hi same cs, first-ext (p c) (q c) (hi - lo) lo (λ i x y. same c i x (omega arith)))

@@ -8,15 +8,16 @@ use mathlib.Core.Bool.{Bool, true, false}
 use lib.Dec.{eqb}
 use lib.IntN.{ℤ}
 use borrow.Author.Tests.{eqb-true, eqb-false, eq-eqb, ne-eqb}
+use Rattle.rules.specs.Inside.{InBounds}
 use Rattle.rules.specs.declared.Vehicle.{Vehicle}
-use Rattle.rules.specs.declared.Place.{Place}
+use Rattle.rules.specs.declared.Role.{Role}
 use Rattle.rules.specs.Words.{_and_, highest}
 use Rattle.rules.specs.Gears.{fits, power, enough, more, suits, strongest, choose}
-use Rattle.rules.specs.Vocabulary.{InBounds, HighestEnough, MostPower, NoGear, FirstChoice}
+use Rattle.rules.specs.Vocabulary.{HighestEnough, MostPower, NoGear, FirstChoice}
 use Rattle.rules.proofs.Laws.Words.{clash, by-test, if-ind, and-left, and-right, highest-holds, highest-above, highest-none}
 use Rattle.rules.proofs.Laws.Strongest.{fits-from, strongest-fits, strongest-none, strongest-tie, strongest-most}
 
-module _ (car : Vehicle) (here : Place) (v : ℕ) (d : ℤ) where
+module _ (car : Vehicle) (here : Role) (v : ℕ) (d : ℤ) where
   -- a gear without a fit does not suit
   suits-fits : (g : ℕ) → fits car here v g ≡ false → suits car here v d g ≡ false
   unfolding suits _and_

@@ -3,16 +3,19 @@
 use Prim.Native.Nat.{ℕ, zero, suc, _+_, _-_, _≤_, _<_}
 use native.Mathlib.Omega.{arith}
 use mathlib.Core.Path.{_≡_, sym, _∙_}
-use mathlib.Core.Bool.{false, not}
+use mathlib.Core.Bool.{true, false, not}
 use mathlib.Core.List.{List}
 use lib.Dec.{ltb}
 use lib.ListN.{length, drop, drop-of-length-le, length-take, length-drop}
 use lib.Seq.{drop-cons}
 use Rattle.rules.specs.Words.{_and_, _or_, at, part}
-use Rattle.rules.specs.Units.{moving}
+use Rattle.rules.specs.Units.{moving, stop}
 use Rattle.rules.specs.Corrections.{closing}
 use Rattle.rules.specs.Vocabulary.{IsTrip}
-use Rattle.rules.proofs.Laws.Words.{by-order, at-part}
+use Rattle.rules.proofs.Laws.Words.{by-test, by-order, by-eq, and-left, and-right, or-skip, both, at-part}
+use Rattle.rules.proofs.Laws.Trips.{trip-of, own-trip}
+use borrow.Author.Tests.{lt-ltb, ltb-true}
+use mathlib.Core.Logic.{_↔_}
 
 module _ (us : List ℕ) where
   -- one second: V is above the next, and that is standing or in the closing run
@@ -56,3 +59,37 @@ module _ (vs : List ℕ) {a b : ℕ} (T : IsTrip vs a b) (in-trace : b ≤ lengt
   -- a second of the trip is in the closing run of its part exactly when it is in that of the trace
   pub closing-part : (i : ℕ) → a ≤ i → i < b → closing (drop (i - a) (part vs a (suc b))) ≡ closing (drop i vs)
   closing-part i p q = let x : a + (i - a) ≡ i = omega arith in closing-to (b - suc i) (i - a) (omega arith) ∙ rw x
+
+-- ---- said of every second: to the end of the trip each V is above the V that follows
+
+module _ (vs : List ℕ) where
+  closing-each : (n i : ℕ) → moving (at vs i) ≡ true → stop vs i ≤ i + n → stop vs i < length vs → closing (drop i vs) ≡ true
+      → (k : ℕ) → i ≤ k → k < stop vs i → at vs (suc k) < at vs k
+  closing-each zero i m h e c k x y = absurd (omega arith)
+  closing-each (suc n) i m h e c k x y =
+      let t = trip-of vs i m in
+      let z = rw (closing-here vs i (omega arith)) at c in
+      by-eq x
+      (λ a. rw (← a) (ltb-true _ _ (and-left _ _ z)))
+      (λ a.
+      let u : moving (at vs (suc i)) ≡ true = t .0 .inside (suc i) (omega arith) (omega arith) in
+      let s = own-trip vs i m in
+      let r : closing (drop (suc i) vs) ≡ true = or-skip _ _ (rw u) (and-right _ _ z) in
+      closing-each n (suc i) u (omega arith) (omega arith) r k a (omega arith))
+
+  each-closing : (n i : ℕ) → moving (at vs i) ≡ true → stop vs i ≤ i + n → stop vs i < length vs
+      → ((k : ℕ) → i ≤ k → k < stop vs i → at vs (suc k) < at vs k) → closing (drop i vs) ≡ true
+  unfolding _or_
+  each-closing zero i m h e f = let t = trip-of vs i m in absurd (omega arith)
+  each-closing (suc n) i m h e f =
+      let t = trip-of vs i m in
+      let s = own-trip vs i m in
+      rw (closing-here vs i (omega arith))
+      (both (lt-ltb _ _ (f i (omega arith) (t .2)))
+      (by-test (moving (at vs (suc i)))
+      (λ u. rw (u, each-closing n (suc i) u (omega arith) (omega arith) (λ k x y. f k (omega arith) (omega arith))))
+      (λ u. rw u)))
+
+  pub closing-plainly : (i : ℕ) → moving (at vs i) ≡ true → stop vs i < length vs
+      → (closing (drop i vs) ≡ true) ↔ ((k : ℕ) → i ≤ k → k < stop vs i → at vs (suc k) < at vs k)
+  closing-plainly i m e = (closing-each (stop vs i - i) i m (omega arith) e, each-closing (stop vs i - i) i m (omega arith) e)

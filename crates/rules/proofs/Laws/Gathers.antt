@@ -10,7 +10,7 @@ use lib.Dec.{eqb}
 use borrow.Author.Tests.{leb-true, ltb-true, eqb-true, eqb-false, ne-eqb, le-leb, lt-ltb}
 use Rattle.rules.specs.Words.{_and_, within}
 use Rattle.rules.specs.Forms.{value, checked, _then_, seen, row, RowTakes, counted}
-use Rattle.rules.specs.Job.{hold, rising, put, gather, holds}
+use Rattle.rules.specs.Job.{hold, put, gather, holds}
 use Rattle.rules.proofs.Laws.Words.{by-test, by-order, and-left, and-right, both}
 use Rattle.rules.proofs.Laws.Forms.{Sound, value-sound, checked-sound, then-sound, seen-sound, row-sound, counted-sound}
 use Rattle.rules.proofs.Laws.Takes.{All}
@@ -101,7 +101,7 @@ gather-put (suc k) s count next (h ∷ hs) e l each =
     ))
 
 pub holds-sound : (count : ℕ) → Sound (holds count)
-unfolding holds rising counted seen _then_ row
+unfolding holds counted seen _then_ row
 holds-sound count =
     seen-sound _ _ (counted-sound value-sound (λ k. row-sound _ (hold-sound count) 0 k) (λ k hs t. t .1))
     (λ hs t. rw (← from-first hs (replicate count 0)) (gather-put count 0 count 0 hs (omega arith) (omega arith) (t .0 .1 .0)))
@@ -143,7 +143,7 @@ put-gather count s (g ∷ gs) b c t =
     (λ z. rw z (put-here s g (gather (suc s) gs) (replicate (length gs) 0) ∙ rw (put-later count s (suc s) (gather (suc s) gs) g (replicate (length gs) 0) (omega arith) later, back)))
 
 pub holds-take : (count : ℕ) (gs : List ℕ) → length gs ≡ count → count ≤ 65535 → All (λ g. g ≤ 255) gs → holds count .Takes gs
-unfolding holds rising counted row seen _then_ value
+unfolding holds counted row seen _then_ value
 holds-take count gs e c t = (
   ((omega (arith, gather-few 0 gs), (gather-rises count 0 0 gs (omega arith) (omega arith) (omega arith) t, refl)), refl),
   rw (← from-first (gather 0 gs) (replicate count 0), ← e) (put-gather count 0 gs (omega arith) (omega arith) t),

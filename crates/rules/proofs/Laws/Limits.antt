@@ -13,17 +13,17 @@ use lib.Dec.{leb, ltb, eqb}
 use lib.IntN.{ℤ}
 use lib.ListN.{length}
 use borrow.Author.Tests.{leb-true, ltb-true, le-leb, eqb-true}
+use Rattle.rules.specs.Inside.{InBounds}
 use Rattle.rules.specs.declared.Vehicle.{Vehicle}
-use Rattle.rules.specs.declared.Place.{Place}
+use Rattle.rules.specs.declared.Role.{Role}
 use Rattle.rules.specs.Words.{if_then_else_, _and_, _or_, at, first, highest, pass}
 use Rattle.rules.specs.Units.{ratio-of, low, rise}
 use Rattle.rules.specs.Gears.{engine, under-nmax, allowed, fits, beats, strongest, suits, choose}
-use Rattle.rules.specs.Corrections.{floor, ceiling, here, first-choice, free, is-peak, peak, too-high, rising, too-low, slowing, firsts, after-A, after-B, gears}
-use Rattle.rules.specs.Vocabulary.{InBounds}
+use Rattle.rules.specs.Corrections.{floor, ceiling, here, first-choice, free, is-peak, peak, too-high, rising, too-low, slowing, firsts, gears}
 use Rattle.rules.proofs.Laws.Words.{clash, if-ind, and-left, and-right, by-order, pass-holds, Found, first-found, none-first, highest-holds}
 use Rattle.rules.proofs.Laws.Vehicle.{low-from}
 use Rattle.rules.proofs.Laws.Strongest.{strongest-fits}
-use Rattle.rules.proofs.Laws.Held.{length-firsts, length-A, length-B}
+use Rattle.rules.proofs.Laws.Held.{length-firsts, length-A, length-B, after-A, after-B}
 
 module _ (car : Vehicle) (C : InBounds car) where
   -- gears from the floor up to ng are those whose engine speed is at most nmax
@@ -77,11 +77,11 @@ module _ (car : Vehicle) (C : InBounds car) where
 
   -- ---- the first choice is in range
 
-  pub fits-in : (spot : Place) (v g : ℕ) → fits car spot v g ≡ true → g ≤ car .ng → InRange v g
+  pub fits-in : (spot : Role) (v g : ℕ) → fits car spot v g ≡ true → g ≤ car .ng → InRange v g
   unfolding fits allowed
   fits-in spot v g t h = of-under v g (leb-true _ _ (and-left _ _ (and-left _ _ t))) h (and-right _ _ (and-right _ _ t))
 
-  pub choose-in : (spot : Place) (v : ℕ) (d : ℤ) → choose car spot v d ≢ 0 → InRange v (choose car spot v d)
+  pub choose-in : (spot : Role) (v : ℕ) (d : ℤ) → choose car spot v d ≢ 0 → InRange v (choose car spot v d)
   unfolding choose suits
   choose-in spot v d n =
       if-ind (λ g. g ≢ 0 → InRange v g) (eqb (highest (suits car spot v d) (car .ng)) 0)

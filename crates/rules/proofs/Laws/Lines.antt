@@ -88,13 +88,6 @@ lines-more vs bytes i (suc k) =
     let e : i + suc k ≡ suc i + k = omega arith in
     rw (e, append-assoc) (ap (λ (x : List ℕ). line i (at vs i) (at bytes i) ++ x) (lines-more vs bytes (suc i) k))
 
--- ---- a refusal
-
--- how long a refusal's text is
-pub refusal-length : (f : Fault) → length (refusal-text f) ≡ 13 + (length (decimal (f .no)) + length (decimal (f .spot)))
-unfolding refusal-text
-refusal-length f = simp length-append (omega arith)
-
 -- ---- the working looks at the lent card's length alone
 
 -- two cards of one length are refused alike

@@ -8,12 +8,13 @@ use mathlib.Core.List.{List}
 use lib.ListN.{length, take}
 use lib.Dec.{leb, ltb}
 use borrow.Author.Tests.{leb-true, ltb-true, le-leb, lt-leb, lt-ltb}
+use Rattle.rules.specs.Vocabulary.{most-groups, longest-job}
 use Rattle.rules.specs.declared.Vehicle.{Vehicle}
 use Rattle.rules.specs.Words.{if_then_else_, _and_, within}
 use Rattle.rules.specs.Units.{longest}
 use Rattle.rules.specs.Groups.{Read, got, hand-on, demand, form, group}
 use Rattle.rules.specs.Forms.{value, checked, bounded, _then_, seen, row-read, row, counted, whole}
-use Rattle.rules.specs.Job.{version, profile, gearbox, numbers, point, curve, vehicle, seconds, trace, hold, rising, holds, stages, job, job-read, most-groups, longest-job}
+use Rattle.rules.specs.Job.{version, profile, gearbox, numbers, point, curve, vehicle, seconds, trace, hold, holds, stages, job, job-read}
 use Rattle.rules.specs.Text.{refusal-text, program-room, printed-fault, read-text, printed}
 use Rattle.rules.proofs.Laws.Words.{by-test, by-order, and-left, and-right}
 use Rattle.rules.proofs.Laws.Forms.{says-now, value-sound, checked-sound, bounded-sound}
@@ -64,7 +65,7 @@ rising-reach count next (suc k) =
     })
 
 holds-reach : (room count : ℕ) → count ≤ room → Reach (holds count) (3 + 6 * room)
-unfolding holds rising
+unfolding holds
 holds-reach room count h = seen-reach _ _ (counted-reach value-sound value-reach (λ k t. less {m = 6 * room} (omega arith) (rising-reach count 0 k)))
 
 -- ---- the stages

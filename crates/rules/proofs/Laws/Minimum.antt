@@ -9,40 +9,40 @@ use mathlib.Core.Bool.{true, false}
 use lib.Dec.{eqb}
 use borrow.Author.Tests.{leb-true, le-leb}
 use Rattle.rules.specs.declared.Vehicle.{Vehicle}
-use Rattle.rules.specs.declared.Place.{Place}
-use Rattle.rules.specs.declared.Place.the-variants.{First, Closing, AfterLow, Inner}
+use Rattle.rules.specs.declared.Role.{Role}
+use Rattle.rules.specs.declared.Role.the-variants.{First, Closing, AfterLow, Inner}
 use Rattle.rules.specs.Words.{_and_, _or_}
 use Rattle.rules.specs.Units.{low}
 use Rattle.rules.specs.Gears.{is-first, engine, next-minimum, minimum-of, minimum, under-nmax, over-minimum, allowed, fits}
 use Rattle.rules.proofs.Laws.Words.{by-test, both, and-left, and-right, or-skip}
 
 module _ (car : Vehicle) where
-  next-most : (here : Place) → next-minimum car here ≤ next-minimum car AfterLow
+  next-most : (here : Role) → next-minimum car here ≤ next-minimum car AfterLow
   unfolding next-minimum
   next-most First = omega arith
   next-most Closing = omega arith
   next-most AfterLow = le-refl _
   next-most Inner = omega arith
 
-  of-most : (here : Place) (r : ℕ) → minimum-of car here r ≤ minimum-of car AfterLow r
+  of-most : (here : Role) (r : ℕ) → minimum-of car here r ≤ minimum-of car AfterLow r
   unfolding minimum-of
   of-most here zero = le-refl _
   of-most here (suc zero) = next-most here
   of-most here (suc (suc r)) = le-refl _
 
   -- the highest of a gear's minimum speeds
-  pub minimum-most : (here : Place) (g : ℕ) → minimum car here g ≤ minimum car AfterLow g
+  pub minimum-most : (here : Role) (g : ℕ) → minimum car here g ≤ minimum car AfterLow g
   unfolding minimum
   minimum-most here g = of-most here (g - low car)
 
-  over-anywhere : (here : Place) (v g : ℕ) → over-minimum car AfterLow v g ≡ true → over-minimum car here v g ≡ true
+  over-anywhere : (here : Role) (v g : ℕ) → over-minimum car AfterLow v g ≡ true → over-minimum car here v g ≡ true
   unfolding over-minimum _or_
   over-anywhere here v g t =
       by-test (eqb g (low car)) (λ e. rw e)
       (λ e. rw e (le-leb (1000 * minimum car here g) (engine car g v) (omega (arith, minimum-most here g, leb-true (1000 * minimum car AfterLow g) (engine car g v) (rw e at t)))))
 
   -- a gear that fits after the lowest gear fits at every second but a trip's first
-  pub fits-anywhere : (here : Place) (v g : ℕ) → is-first here ≡ false → fits car AfterLow v g ≡ true → fits car here v g ≡ true
+  pub fits-anywhere : (here : Role) (v g : ℕ) → is-first here ≡ false → fits car AfterLow v g ≡ true → fits car here v g ≡ true
   unfolding fits allowed is-first
   fits-anywhere here v g n t =
       rw n (both (and-left _ _ t) (both (over-anywhere here v g (and-left _ _ (and-right _ _ t))) (and-right _ _ (and-right _ _ t))))

@@ -3,10 +3,11 @@
 use Prim.Native.Nat.{ℕ, _≤_}
 use mathlib.Core.Path.{_≡_, refl, sym, ap, _∙_}
 use lib.IntN.{ℤ, pos, natAbs, _+ℤ_, _*ℤ_, +ℤ-assoc, +ℤ-comm, *ℤ-comm}
+use Rattle.rules.specs.Inside.{InBounds}
 use Rattle.rules.specs.declared.Vehicle.{Vehicle}
 use Rattle.rules.specs.Units.{fastest, steepest}
 use Rattle.rules.specs.Gears.{required}
-use Rattle.rules.specs.Vocabulary.{InBounds, In64, nested, nested-sum}
+use Rattle.rules.specs.Vocabulary.{In64, nested, nested-sum}
 use Rattle.rules.proofs.Laws.Integers.{*ℤ-+ℤ, *ℤ-assoc}
 use Rattle.rules.proofs.Laws.Range.{E, lit, var, _⊕_, _⊗_}
 use Rattle.rules.proofs.Laws.Sizes.{everywhere}

@@ -9,11 +9,12 @@ use mathlib.Core.Bool.{Bool, true, false}
 use mathlib.Core.Option.{Option, none, some, Option·getD}
 use lib.IntN.{ℤ, pos, negℤ, _+ℤ_, _-ℤ_, _*ℤ_, +ℤ-idr, +ℤ-invr, *ℤ-comm, *ℤ-zero}
 use borrow.Author.Tests.{leb-true, leb-false, lt-leb}
+use Rattle.rules.specs.Inside.{InBounds}
 use Rattle.rules.specs.declared.Vehicle.{Vehicle}
-use Rattle.rules.specs.declared.Place.{Place}
+use Rattle.rules.specs.declared.Role.{Role}
 use Rattle.rules.specs.Words.{_and_, _or_, at, first}
 use Rattle.rules.specs.Gears.{engine, under-nmax, fits, between, on-segment, reaches, segment, power-speed, power, derated}
-use Rattle.rules.specs.Vocabulary.{InBounds, OnSegment}
+use Rattle.rules.specs.Vocabulary.{OnSegment}
 use Rattle.rules.proofs.Laws.Words.{and-right, Found, first-found, none-first, first-skip}
 use Rattle.rules.proofs.Laws.Integers.{+ℤ-*ℤ, *ℤ-+ℤ, neg-*ℤ, *ℤ-neg, *ℤ-assoc, left-comm, add-back, pos-sub}
 
@@ -46,7 +47,7 @@ segment-holds car B x lo hi =
     (first (reaches car x) 0 (car .points - 1)) refl
 
 -- the power of a gear that fits is read on one of the curve's segments
-pub gear-segment : (car : Vehicle) → InBounds car → (here : Place) (v g : ℕ) → fits car here v g ≡ true
+pub gear-segment : (car : Vehicle) → InBounds car → (here : Role) (v g : ℕ) → fits car here v g ≡ true
     → OnSegment car (power-speed car v g) (segment car (power-speed car v g))
 unfolding fits under-nmax power-speed
 gear-segment car B here v g t =

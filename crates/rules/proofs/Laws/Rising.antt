@@ -1,30 +1,34 @@
 -- Request Twelve: what a card shows at a second whose byte is the definitions' and whose checks have passed. Its gear turns the engine at nmax or
 -- below; and where the speed rises, a free second's gear is at most one above the gear before, or no higher than its floor.
 -- Assumes nothing.
-use Prim.Native.Nat.{ℕ, suc, _+_, _-_, _≤_, _<_, _%_}
+use Prim.Native.Nat.{ℕ, suc, _+_, _-_, _≤_, _<_, _%_, min}
 use native.Mathlib.Nat.{zero-add}
 use native.Mathlib.Omega.{arith}
-use mathlib.Core.Path.{_≡_, ap, _∙_}
+use mathlib.Core.Path.{_≡_, sym, ap, _∙_}
 use mathlib.Core.Logic.{_⊎_, inl, inr}
-use mathlib.Core.Bool.{true}
+use mathlib.Core.Bool.{true, false}
 use mathlib.Core.Option.{none}
 use mathlib.Core.List.{List}
 use lib.Dec.{leb, ltb, eqb}
 use lib.ListN.{length, set, length-set}
 use borrow.Author.Tests.{lt-ltb, ltb-false, leb-true, eqb-true, eq-eqb}
+use Rattle.rules.specs.Inside.{InBounds, Fit}
 use Rattle.rules.specs.declared.Vehicle.{Vehicle}
 use Rattle.rules.specs.Words.{if_then_else_, _and_, at, pass}
 use Rattle.rules.specs.Units.{low, moving, start, stop}
 use Rattle.rules.specs.Gears.{under-nmax}
-use Rattle.rules.specs.Corrections.{floor, ceiling, free, too-high, rising, too-low, slowing, after-A, after-B, gears, trip-speeds, trip-holds, gear-at, card-at, card}
-use Rattle.rules.specs.Refusals.{span-fault, left}
-use Rattle.rules.specs.Quick.{span-lo, span-hi, own-fault, quick-fault, reworked, quick-holds, quick-card}
-use Rattle.rules.specs.Vocabulary.{InBounds, Fit, AtMostNmax, Spares}
+use Rattle.rules.specs.Corrections.{floor, ceiling, free, too-high, rising, too-low, slowing, gears, trip-speeds, trip-holds, gear-at, card-at, card}
+use Rattle.rules.specs.Refusals.{span-fault}
+use Rattle.rules.specs.declared.Edit.{Edit}
+use Rattle.rules.specs.declared.Edit.the-variants.{Hold, Release, Mend}
+use Rattle.rules.specs.Edit.{Screen, second, asked-speeds, asked-holds, Span, around, hold-span, span, edit-fault, asked-screen, edited}
+use Rattle.rules.specs.Vocabulary.{AtMostNmax, Spares}
 use Rattle.rules.proofs.Laws.Words.{clash, by-order, if-ind, and-right, and-fails, both, pass-at, pass-done, pass-later, pass-holds, at-table, patch-in}
-use Rattle.rules.proofs.Laws.Held.{length-A, length-B}
-use Rattle.rules.proofs.Laws.Trips.{trip-of, trip-start, trip-stop, start-before, stop-in, moving-in}
+use Rattle.rules.proofs.Laws.Held.{length-A, length-B, after-A, after-B}
+use Rattle.rules.proofs.Laws.Trips.{trip-of, trip-start, trip-stop, start-le, start-before, stop-le, stop-in, stop-to, moving-in}
 use Rattle.rules.proofs.Laws.Limits.{floor-low}
-use Rattle.rules.proofs.Laws.Checks.{vehicle-in, rooms-in, Accepted, taken}
+use Rattle.rules.proofs.Laws.Checks.{vehicle-in, rooms-in, Accepted, Taken, taken}
+use Rattle.rules.proofs.Laws.Edits.{by-kind, length-asked, length-holds, taken-asked, span-passes}
 use Rattle.rules.proofs.Laws.Cards.{fit-of, in-trip, hold-in, speed-in, gear-in-range, no-over-rev, byte-gear}
 
 -- the ceiling is at most one above the gear before
@@ -68,14 +72,14 @@ module _ (car : Vehicle) (us hs : List ℕ) (j : ℕ) (l : j < length hs) (p : 0
 
   -- pass C lowers no gear
   C-raises : (k : ℕ) → k < length hs → at B k ≤ at G k
-  unfolding gears slowing too-low
+  unfolding gears slowing too-low after-A after-B
   C-raises k h =
       pass-holds (slowing car us hs) (after-B car us hs) (λ i g. at B i ≤ g)
       (λ i rs x. if-ind (λ g. at B i ≤ g) (too-low car us hs i rs) (λ t. let e : at rs i ≡ low car = eqb-true _ _ (and-right _ _ t) in omega arith) (λ t. x))
       (length hs) k (rw (length-B car us hs) h) (omega arith)
 
   last : at G j ≡ (if too-low car us hs j before-C then low car + 1 else at before-C j)
-  unfolding gears slowing
+  unfolding gears slowing after-A after-B
   last = let n : length (after-B car us hs) ≡ length hs = length-B car us hs in pass-at (slowing car us hs) (after-B car us hs) (length hs) j l (omega arith)
 
   -- and where it raises the lowest gear, the gear before is the lowest at least
@@ -196,26 +200,58 @@ right-spares car vs hs old A e i =
     (λ l. let past : moving (at vs i) ≡ true → i < length vs = moving-in vs i in
     record { never-over-revs = λ m. absurd (omega (arith, past m)); rises-by-one-or-floor = λ F. absurd (omega (arith, past (F .moves))) })
 
--- the seconds that one hold, the quick way, re-works, whether or not the card was right
-module _ (car : Vehicle) (vs hs old : List ℕ) (s g : ℕ) (ok : quick-fault car vs hs old s g ≡ none) (m : moving (at vs s) ≡ true) where
-  reworked-part : RightPart car vs (quick-holds car vs hs old s g) (quick-card car vs hs old s g) (start vs s) (stop vs s)
-  unfolding quick-fault quick-holds quick-card own-fault reworked left span-lo span-hi
-  reworked-part =
-      let T = taken car vs hs old s (own-fault car vs hs s g) ok in
-      let r = rooms-in vs hs old (T .room) in
-      let c = stop-in vs s m in
-      let f : span-fault car vs (set hs s g) (span-lo vs s) (span-hi vs s) ≡ none = rw m at (T .checks-pass) in
-      rw (ok, m) (record {
-        vehicle = vehicle-in car (T .vehicle);
-        holds = length-set hs s g ∙ r .0;
-        fit = λ i a b. fit-of car vs (set hs s g) (span-lo vs s) (span-hi vs s) f i (omega arith) (omega arith);
-        byte-at = λ i a b. patch-in old (start vs s - 1) (stop vs s) (card-at car vs (set hs s g)) i (omega arith) b (omega (arith, r .1));
-      })
+-- a trip does not begin before a standing second that is not after it
+starts-in : (vs : List ℕ) (a i : ℕ) → ((k : ℕ) → suc k ≡ a → moving (at vs k) ≡ false) → a ≤ i → moving (at vs i) ≡ true → a ≤ start vs i
+starts-in vs a i before h m =
+    let t = trip-of vs i m in
+    by-order (start vs i) a (λ l. clash (t .0 .inside (a - 1) (omega arith) (omega arith)) (before (a - 1) (omega arith))) (λ l. l)
 
-  pub reworked-spares : (i : ℕ) → span-lo vs s ≤ i → i < stop vs s → Spares car vs (quick-holds car vs hs old s g) (quick-card car vs hs old s g) i
-  unfolding span-lo
-  reworked-spares i a b =
-      by-order i (start vs s)
-      (λ h. let e : suc i ≡ start vs s = omega arith in
-      record { never-over-revs = λ u. clash u (start-before vs s i e); rises-by-one-or-floor = λ F. clash (F .moves) (start-before vs s i e) })
-      (λ h. spares reworked-part i h b (λ u. let x : start vs i ≡ start vs s = trip-start vs (trip-of vs s m .0) i h b in omega arith))
+-- the seconds that an edit re-works, whether or not the card was right
+module _ (car : Vehicle) (ws ks new : List ℕ) (s : ℕ) (C : InBounds car) (n : length ks ≡ length ws) (pass : span-fault car ws ks (around ws s .lo) (around ws s .end) ≡ none)
+    (byte-at : (i : ℕ) → around ws s .lo ≤ i → i < around ws s .hi → i < length ws → at new i ≡ card-at car ws ks i) where
+  reworked-part : s < length ws → RightPart car ws ks new (start ws s) (stop ws (suc s))
+  unfolding around
+  reworked-part l =
+      let c = stop-to ws (suc s) l in
+      record {
+        vehicle = C;
+        holds = n;
+        fit = λ i a b. fit-of car ws ks (start ws s - 1) (min (suc (stop ws (suc s))) (length ws)) pass i (omega arith) (omega arith);
+        byte-at = λ i a b. byte-at i (omega arith) b (omega arith);
+      }
+
+  around-spares : s < length ws → (i : ℕ) → around ws s .lo ≤ i → i < around ws s .hi → Spares car ws ks new i
+  unfolding around
+  around-spares l i a b =
+      by-order i (start ws s)
+      (λ h. let e : suc i ≡ start ws s = omega arith in
+      record { never-over-revs = λ u. clash u (start-before ws s i e); rises-by-one-or-floor = λ F. clash (F .moves) (start-before ws s i e) })
+      (λ h. spares (reworked-part l) i h b (λ u. starts-in ws (start ws s) i (start-before ws s) h u))
+
+module _ (car : Vehicle) (e : Edit) (x : Screen) (ok : edit-fault car e x ≡ none) where
+  T : Taken car e x
+  T = taken car e x ok
+
+  abbrev new-speeds : List ℕ
+  new-speeds = asked-speeds e (x .speeds)
+
+  abbrev new-holds : List ℕ
+  new-holds = asked-holds e (x .holds)
+
+  long : length (x .card) ≡ length new-speeds
+  long = rooms-in (x .speeds) (x .holds) (x .card) (T .room) .1 ∙ sym (length-asked e (x .speeds))
+
+  asked-byte : (i : ℕ) → span e new-speeds .lo ≤ i → i < span e new-speeds .hi → i < length new-speeds → at (asked-screen car e x .card) i ≡ card-at car new-speeds new-holds i
+  unfolding asked-screen
+  asked-byte i a b l = patch-in (x .card) (span e new-speeds .lo) (span e new-speeds .hi) (card-at car new-speeds new-holds) i a b (rw long l)
+
+  pub edit-spares : (i : ℕ) → span e new-speeds .lo ≤ i → i < span e new-speeds .hi → Spares car (edited car e x .speeds) (edited car e x .holds) (edited car e x .card) i
+  unfolding asked-screen
+  edit-spares i a b =
+      by-kind e new-speeds
+      (λ k. rw (taken-asked car e x ok)
+      (around-spares car new-speeds new-holds (asked-screen car e x .card) (second e) (vehicle-in car (T .vehicle))
+      (length-holds e (x .holds) ∙ rooms-in (x .speeds) (x .holds) (x .card) (T .room) .0 ∙ sym (length-asked e (x .speeds)))
+      (rw k at (span-passes car e (x .speeds) (x .holds) (T .in-trace) (T .own)))
+      (λ j p q r. asked-byte j (rw k p) (rw k q) r) (rw (length-asked e (x .speeds)) (T .in-trace)) i (rw k at a) (rw k at b)))
+      (λ k. absurd (omega (arith, k)))

@@ -6,11 +6,12 @@ use native.Mathlib.Omega.{arith}
 use mathlib.Core.Path.{_≡_, refl}
 use lib.Dec.{T}
 use lib.IntN.{ℤ, pos, natAbs, _+ℤ_, _-ℤ_, _*ℤ_}
+use Rattle.rules.specs.Inside.{InBounds}
 use Rattle.rules.specs.declared.Vehicle.{Vehicle}
 use Rattle.rules.specs.Words.{at}
 use Rattle.rules.specs.Units.{ratio-of, fastest, steepest}
 use Rattle.rules.specs.Gears.{engine, required, derated, between, on-segment}
-use Rattle.rules.specs.Vocabulary.{InBounds, OnSegment, Sum, num, _plus_, _less_, _times_, worth, Everywhere, In64, engine-sum, idle-sum, required-sum, w-sum, past-sum, derated-sum, Q-sum, available-sum}
+use Rattle.rules.specs.Vocabulary.{OnSegment, Sum, num, _plus_, _less_, _times_, worth, Everywhere, In64, engine-sum, idle-sum, required-sum, w-sum, past-sum, derated-sum, Q-sum, available-sum}
 use Rattle.rules.proofs.Laws.Integers.{pos-sub}
 use Rattle.rules.proofs.Laws.Range.{E, lit, var, is, _⊕_, _⊖_, _⊗_, pure, size, ok, step-left, step-right, within, natAbs-below, natAbs-gap}
 

@@ -1,5 +1,4 @@
--- A span between standing seconds: its checks and its bytes look at its seconds and at no others, and so does the quick way; what that leaves alone;
--- and what the held second shows.
+-- A span between standing seconds: its checks and its bytes look at its seconds and at no others; and so does each edit.
 -- Assumes nothing.
 use Prim.Native.Nat.{ℕ, zero, suc, _+_, _-_, _≤_, _<_, _%_, min}
 use native.Mathlib.Nat.{zero-add}
@@ -17,13 +16,14 @@ use Rattle.rules.specs.declared.Vehicle.{Vehicle}
 use Rattle.rules.specs.Words.{if_then_else_, _and_, _or_, at, part, table, patch}
 use Rattle.rules.specs.Units.{moving, rise, start, stop}
 use Rattle.rules.specs.Corrections.{firsts, gears, trip-speeds, trip-holds, first-at, gear-at, clutch, byte, card-at}
-use Rattle.rules.specs.Refusals.{Fault, Check, speed, step, ends, over-ng, at-rest, over-rev, no-gear, checks, bad, span-fault, left}
-use Rattle.rules.specs.Quick.{span-lo, span-hi, standing-fault, own-fault, quick-fault, reworked, quick-holds, quick-card}
-use Rattle.rules.specs.Vocabulary.{InBounds, IsTrip, Out, SameSpan}
-use Rattle.rules.proofs.Laws.Words.{clash, by-test, by-order, part-ext, table-ext, patch-out, patch-in}
-use Rattle.rules.proofs.Laws.Trips.{trip-of, stop-in, moving-in, start-agree, stop-agree}
-use Rattle.rules.proofs.Laws.Checks.{driven, passed, span-ext, orelse-none, when-none, rooms-in, vehicle-in, taken, left-by}
-use Rattle.rules.proofs.Laws.Cards.{held-shows, card-mod}
+use Rattle.rules.specs.Refusals.{Check, speed, step, ends, over-ng, at-rest, over-rev, no-gear, check-number, all-checks, bad}
+use Rattle.rules.specs.declared.Edit.{Edit}
+use Rattle.rules.specs.declared.Edit.the-variants.{Hold, Release, Mend}
+use Rattle.rules.specs.Edit.{Screen, second, asked-speeds, asked-holds, Span, around, hold-span, span, fails, asked-fault, asked-screen}
+use Rattle.rules.specs.Vocabulary.{SameSpan, none-held}
+use Rattle.rules.proofs.Laws.Words.{clash, by-test, by-order, part-ext, table-ext, patch-none}
+use Rattle.rules.proofs.Laws.Trips.{trip-of, stop-in, moving-in, start-le, start-before, stop-le, stop-after, start-agree, stop-agree}
+use Rattle.rules.proofs.Laws.Checks.{fault-ext}
 
 -- ---- where to look
 
@@ -90,7 +90,7 @@ module _ (car : Vehicle) (vs hs ws ks : List ℕ) (a b : ℕ) (B : Between vs a 
     unfolding gear-at
     gear-same = of-trip (λ us gs j. at (gears car us gs) j)
 
-  bad-same : (c : Check) (i : ℕ) → a - 1 ≤ i → i < min (suc b) (length vs) → bad c car ws ks (a - 1) i ≡ bad c car vs hs (a - 1) i
+  pub bad-same : (c : Check) (i : ℕ) → a - 1 ≤ i → i < min (suc b) (length vs) → bad c car ws ks (a - 1) i ≡ bad c car vs hs (a - 1) i
   unfolding bad _and_
   bad-same c i x y =
       let v = S .speed-at i x y in
@@ -104,10 +104,6 @@ module _ (car : Vehicle) (vs hs ws ks : List ℕ) (a b : ℕ) (B : Between vs a 
         | over-rev ↦ rw (v, h)
         | no-gear ↦ by-test (moving (at vs i)) (λ t. rw (v, t, first-same i (omega arith) (omega arith) t)) (λ t. rw (v, t))
       ]
-
-  -- what its checks say depends on the seconds of the span alone
-  pub fault-between : span-fault car ws ks (a - 1) (min (suc b) (length vs)) ≡ span-fault car vs hs (a - 1) (min (suc b) (length vs))
-  fault-between = span-ext car ws ks vs hs (a - 1) (min (suc b) (length vs)) bad-same
 
   -- so does each byte before its last second
   byte-same : (i : ℕ) → a - 1 ≤ i → i < b → card-at car ws ks i ≡ card-at car vs hs i
@@ -130,98 +126,101 @@ module _ (car : Vehicle) (vs hs ws ks : List ℕ) (a b : ℕ) (B : Between vs a 
       (λ p. by-test (ltb i b) (λ q. rw (p, q) (byte-same i (leb-true _ _ p) (ltb-true _ _ q))) (λ q. rw (p, q)))
       (λ p. rw p))
 
--- so for the quick way at a moving second
-module _ (car : Vehicle) (vs hs ws ks : List ℕ) (s g : ℕ) (S : SameSpan vs hs ws ks (span-lo vs s) (span-hi vs s)) (m : moving (at vs s) ≡ true) where
-  its-trip : Between vs (start vs s) (stop vs s)
-  its-trip = let t = trip-of vs s m in record { order = omega arith; before = t .0 .before; after = t .0 .after }
+-- ---- each edit looks at its span, and at no other second
 
-  its-span : SameSpan vs hs ws ks (start vs s - 1) (min (suc (stop vs s)) (length vs))
-  unfolding span-lo span-hi
-  its-span = S
+-- two traces with their holds, and the spans r and q of one edit on them: the spans lie alike, and checks and bytes there say the same
+record Alike (car : Vehicle) (vs hs us ls : List ℕ) (r q : Span) : Type 0 where
+  pub place : q ≡ r
+  pub checks : (c : Check) (i : ℕ) → r .lo ≤ i → i < r .end → bad c car us ls (r .lo) i ≡ bad c car vs hs (r .lo) i
+  pub bytes : (old : List ℕ) → patch old (r .lo) (r .hi) (card-at car us ls) ≡ patch old (r .lo) (r .hi) (card-at car vs hs)
 
-  -- the trip lies where it lay
-  same-place : (at ws s ≡ at vs s) × (start ws s ≡ start vs s) × (stop ws s ≡ stop vs s)
-  same-place =
-      let t = trip-of vs s m in
-      let to = speed-to car vs hs ws ks (start vs s) (stop vs s) its-trip its-span in
-      (to s (omega arith) (omega arith), start-agree vs ws s (λ k p q. to k p (omega arith)), stop-agree vs ws s (λ k p q. to k (omega arith) q))
+module _ (car : Vehicle) (vs hs us ls : List ℕ) (s : ℕ) where
+  -- the trips next to s
+  its-trips : Between vs (start vs s) (stop vs (suc s))
+  its-trips = record { order = omega (arith, start-le vs s, stop-le vs (suc s)); before = start-before vs s; after = stop-after vs (suc s) }
 
-  its-holds : SameSpan vs (set hs s g) ws (set ks s g) (start vs s - 1) (min (suc (stop vs s)) (length vs))
-  its-holds = same-hold vs hs ws ks (start vs s - 1) (min (suc (stop vs s)) (length vs)) s g its-span
+  alike-around : SameSpan vs hs us ls (around vs s .lo) (around vs s .end) → Alike car vs hs us ls (around vs s) (around us s)
+  unfolding around
+  alike-around S =
+      let to = speed-to car vs hs us ls (start vs s) (stop vs (suc s)) its-trips S in
+      let x = start-le vs s in
+      let y = stop-le vs (suc s) in
+      record {
+        place = rw (start-agree vs us s (λ k p q. to k p (omega arith)), stop-agree vs us (suc s) (λ k p q. to k (omega arith) q), S .speeds);
+        checks = bad-same car vs hs us ls (start vs s) (stop vs (suc s)) its-trips S;
+        bytes = card-between car vs hs us ls (start vs s) (stop vs (suc s)) its-trips S;
+      }
 
-  -- what its checks say of it depends on its span alone
-  pub looks-at-span : own-fault car ws ks s g ≡ own-fault car vs hs s g
-  unfolding own-fault span-lo span-hi
-  looks-at-span =
-      let p = same-place in
-      rw (p .0, m, p .1, p .2, S .speeds) (fault-between car vs (set hs s g) ws (set ks s g) (start vs s) (stop vs s) its-trip its-holds)
+  -- a standing second alone
+  bad-alone : SameSpan vs hs us ls s (suc s) → moving (at vs s) ≡ false → (c : Check) (i : ℕ) → s ≤ i → i < suc s → bad c car us ls s i ≡ bad c car vs hs s i
+  unfolding bad _and_
+  bad-alone S m c i x y =
+      let e : i ≡ s = omega arith in
+      let v = S .speed-at s (omega arith) (omega arith) in
+      let h = S .hold-at s (omega arith) (omega arith) in
+      elim c [
+        | speed ↦ rw (e, v)
+        | step ↦ rw (e, le-ltb s s (omega arith))
+        | ends ↦ rw (e, v, S .speeds)
+        | over-ng ↦ rw (e, h)
+        | at-rest ↦ rw (e, v, h)
+        | over-rev ↦ rw (e, v, h)
+        | no-gear ↦ rw (e, v, m)
+      ]
 
-  -- and so the card that it leaves
-  pub reworks-span : (old : List ℕ) → reworked car ws (set ks s g) old s ≡ reworked car vs (set hs s g) old s
-  unfolding reworked span-lo
-  reworks-span old =
-      let p = same-place in
-      rw (p .0, m, p .1, p .2) (card-between car vs (set hs s g) ws (set ks s g) (start vs s) (stop vs s) its-trip its-holds old)
+  alike-hold : SameSpan vs hs us ls (hold-span vs s .lo) (hold-span vs s .end) → Alike car vs hs us ls (hold-span vs s) (hold-span us s)
+  unfolding hold-span around
+  alike-hold S =
+      by-test (moving (at vs s))
+      (λ m.
+      let T : SameSpan vs hs us ls (around vs s .lo) (around vs s .end) = rw m at S in
+      let x = start-le vs s in
+      let y = stop-le vs (suc s) in
+      let v = T .speed-at s (omega arith) (omega (arith, moving-in vs s m)) in
+      rw (v, m) (alike-around T))
+      (λ m.
+      let T : SameSpan vs hs us ls s (suc s) = rw m at S in
+      let v = T .speed-at s (omega arith) (omega arith) in
+      rw (v, m) (record { place = refl; checks = bad-alone T m; bytes = λ old. patch-none old s _ ∙ sym (patch-none old s _) }))
 
--- ---- what is left alone
+-- the span does not hang on the speed at the edited second, old or new
+pub span-kept : (e : Edit) (vs : List ℕ) → span e (asked-speeds e vs) ≡ span e vs
+unfolding span asked-speeds around
+span-kept (Hold s g) vs = refl
+span-kept (Release s) vs = refl
+span-kept (Mend s v) vs =
+    rw (
+      start-agree vs (set vs s v) s (λ k a b. getD-set-other vs s k v 0 (omega arith)),
+      stop-agree vs (set vs s v) (suc s) (λ k a b. getD-set-other vs s k v 0 (omega arith)),
+      length-set vs s v,
+    )
 
-module _ (car : Vehicle) (vs hs old : List ℕ) (s g : ℕ) where
-  -- no byte of the card changes outside the trip and the one standing second before it
-  pub card-frame : (i : ℕ) → Out (span-lo vs s) (stop vs s) i → at (quick-card car vs hs old s g) i ≡ at old i
-  unfolding quick-card reworked
-  card-frame i o =
-      left-by (λ l. at l i ≡ at old i) (quick-fault car vs hs old s g) old _ refl
-      (λ f. by-test (moving (at vs s)) (λ t. rw t (patch-out old (span-lo vs s) (stop vs s) (card-at car vs (set hs s g)) i o)) (λ t. rw t))
+alike-of : (car : Vehicle) (e : Edit) (vs hs us ls : List ℕ) → SameSpan vs hs us ls (span e vs .lo) (span e vs .end)
+    → Alike car (asked-speeds e vs) (asked-holds e hs) (asked-speeds e us) (asked-holds e ls) (span e (asked-speeds e vs)) (span e (asked-speeds e us))
+unfolding span asked-speeds asked-holds
+alike-of car (Hold s g) vs hs us ls S = alike-hold car vs (set hs s g) us (set ls s g) s (same-hold vs hs us ls _ _ s g S)
+alike-of car (Release s) vs hs us ls S = alike-hold car vs (set hs s 0) us (set ls s 0) s (same-hold vs hs us ls _ _ s 0 S)
+alike-of car (Mend s v) vs hs us ls S =
+    alike-around car (set vs s v) hs (set us s v) ls s (rw (span-kept (Mend s v) vs) (same-speed vs hs us ls (around vs s .lo) (around vs s .end) s v S))
 
-  -- for a standing second none at all
-  pub card-standing : moving (at vs s) ≡ false → quick-card car vs hs old s g ≡ old
-  unfolding quick-card reworked
-  card-standing r = left-by (λ l. l ≡ old) (quick-fault car vs hs old s g) old _ refl (λ f. rw r)
+-- each check, for every edit in one line
+pub fails-is : (e : Edit) (car : Vehicle) (ws ks : List ℕ) (lo : ℕ) (c : Check) (i : ℕ)
+    → fails e car ws ks lo c i ≡ (none-held e and eqb (check-number c) 7 and eqb i (second e) or bad c car ws ks lo i)
+unfolding fails none-held second _and_ _or_
+fails-is (Hold s g) car ws ks lo c i = refl
+fails-is (Release s) car ws ks lo c i = refl
+fails-is (Mend s v) car ws ks lo c i = refl
 
-  -- no hold changes but that of the second
-  pub holds-frame : (i : ℕ) → i ≢ s → at (quick-holds car vs hs old s g) i ≡ at hs i
-  unfolding quick-holds
-  holds-frame i n = left-by (λ l. at l i ≡ at hs i) (quick-fault car vs hs old s g) hs _ refl (λ f. getD-set-other hs s i g 0 n)
+-- what the checks say depends on the seconds of the span alone
+pub looks-at-span : (car : Vehicle) (e : Edit) (vs hs us ls : List ℕ) → SameSpan vs hs us ls (span e vs .lo) (span e vs .end) → asked-fault car e us ls ≡ asked-fault car e vs hs
+unfolding asked-fault
+looks-at-span car e vs hs us ls S =
+    let A = alike-of car e vs hs us ls S in
+    let r = span e (asked-speeds e vs) in
+    rw (A .place) (fault-ext _ _ (r .lo) (r .end) (λ c i x y. fails-is e car _ _ (r .lo) c i ∙ rw (A .checks c i x y) (sym (fails-is e car _ _ (r .lo) c i))) all-checks)
 
--- ---- what the held second shows
-
-module _ (car : Vehicle) (vs hs old : List ℕ) (s g : ℕ) (ok : quick-fault car vs hs old s g ≡ none) (h : g ≢ 0) where
-  -- nothing before the second's own checks refuses
-  own : (InBounds car) × (length hs ≡ length vs) × (length old ≡ length vs) × (s < length vs) × (own-fault car vs hs s g ≡ none)
-  unfolding quick-fault
-  own =
-      let T = taken car vs hs old s (own-fault car vs hs s g) ok in
-      let r = rooms-in vs hs old (T .room) in
-      (vehicle-in car (T .vehicle), r .0, r .1, T .second, T .checks-pass)
-
-  -- a gear is held at a moving second only
-  moves : moving (at vs s) ≡ true
-  unfolding own-fault standing-fault
-  moves =
-      by-test (moving (at vs s)) (λ t. t)
-      (λ t. let x : standing-fault car s g ≡ none = rw t at (own .4) in
-      let y : not (eqb g 0) ≡ false = when-none 8 (not (eqb g 0)) s (orelse-none _ _ x .1) in absurd (h (eqb-true g 0 (not-false (eqb g 0) y))))
-
-  -- and at most ng
-  pub at-most : g ≤ car .ng
-  unfolding own-fault bad span-lo span-hi
-  at-most =
-      let m = moves in
-      let t = trip-of vs s m in
-      let c = stop-in vs s m in
-      let f : span-fault car vs (set hs s g) (span-lo vs s) (span-hi vs s) ≡ none = rw m at (own .4) in
-      let x : at (set hs s g) s ≡ g = getD-set-same hs s g 0 (omega (arith, own .1, own .3)) in
-      rw x at (driven car (at (set hs s g) s) (passed car vs (set hs s g) (span-lo vs s) (span-hi vs s) f over-ng s (omega arith) (omega (arith, own .3))) .0)
-
-  -- the card's byte there shows the held gear, whether or not the card was right
-  pub quick-shows : at (quick-card car vs hs old s g) s % 16 ≡ g
-  unfolding quick-card reworked left span-lo
-  quick-shows =
-      let m = moves in
-      let t = trip-of vs s m in
-      let x : at (set hs s g) s ≡ g = getD-set-same hs s g 0 (omega (arith, own .1, own .3)) in
-      let k : gear-at car vs (set hs s g) s ≡ g = held-shows car vs (set hs s g) (length-set hs s g ∙ own .1) s m (rw x h) ∙ x in
-      let b = own .0 .ng-to in
-      let y = at-most in
-      rw (ok, m, patch-in old (start vs s - 1) (stop vs s) (card-at car vs (set hs s g)) s (omega arith) (t .2) (omega (arith, own .2, own .3)))
-      (card-mod car vs (set hs s g) s m (rw k (omega arith)) ∙ k)
+-- and so does the card that is left
+pub reworks-span : (car : Vehicle) (e : Edit) (x y : Screen) → SameSpan (x .speeds) (x .holds) (y .speeds) (y .holds) (span e (x .speeds) .lo) (span e (x .speeds) .end) → y .card ≡ x .card
+    → asked-screen car e y .card ≡ asked-screen car e x .card
+unfolding asked-screen
+reworks-span car e x y S same = let A = alike-of car e (x .speeds) (x .holds) (y .speeds) (y .holds) S in rw (same, A .place) (A .bytes (x .card))

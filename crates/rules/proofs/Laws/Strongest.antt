@@ -9,12 +9,12 @@ use mathlib.Core.Bool.{Bool, true, false, not}
 use lib.IntN.{ℤ, pos, _*ℤ_, *ℤ-comm}
 use lib.Signed.{leZ}
 use borrow.Author.Tests.{leb-true, eqb-false, ne-eqb, not-false, not-true}
+use Rattle.rules.specs.Inside.{InBounds}
 use Rattle.rules.specs.declared.Vehicle.{Vehicle}
-use Rattle.rules.specs.declared.Place.{Place}
+use Rattle.rules.specs.declared.Role.{Role}
 use Rattle.rules.specs.Words.{_and_}
 use Rattle.rules.specs.Units.{low}
 use Rattle.rules.specs.Gears.{Power, allowed, fits, segment, power-speed, power, more, beats, strongest}
-use Rattle.rules.specs.Vocabulary.{InBounds}
 use Rattle.rules.proofs.Laws.Words.{clash, by-test, by-eq, if-ind, and-left, and-right, and-fails, or-left, or-right, or-skip}
 use Rattle.rules.proofs.Laws.Vehicle.{low-from}
 use Rattle.rules.proofs.Laws.Integers.{ltZ-irrefl, ltZ-asym, ltZ-leZ, leZ-ltZ, leZ-trans, leZ-scale, *ℤ-assoc}
@@ -62,7 +62,7 @@ no-more-trans a b c A B C h k =
     (sym (scale B (a .Q *ℤ c .w) (c .Q *ℤ a .w)) ∙ (rw (right-comm (a .Q) (b .w) (c .w), right-comm (c .Q) (b .w) (a .w)) at both))
 
 -- the power of a gear that fits is read on a segment with a width
-pub gear-wide : (car : Vehicle) → InBounds car → (here : Place) (v g : ℕ) → fits car here v g ≡ true → Wide (power car v g)
+pub gear-wide : (car : Vehicle) → InBounds car → (here : Role) (v g : ℕ) → fits car here v g ≡ true → Wide (power car v g)
 unfolding power
 gear-wide car B here v g t =
     let s = width car B (power-speed car v g) (segment car (power-speed car v g)) (gear-segment car B here v g t .next-point) in
@@ -71,13 +71,13 @@ gear-wide car B here v g t =
 -- ---- the strongest gear
 
 -- a gear that fits is one of the gears, which count from 1
-pub fits-from : (car : Vehicle) (here : Place) (v g : ℕ) → fits car here v g ≡ true → 0 < g
+pub fits-from : (car : Vehicle) (here : Role) (v g : ℕ) → fits car here v g ≡ true → 0 < g
 unfolding fits allowed
 fits-from car here v g t =
     let l : low car ≤ g = leb-true _ _ (and-left _ _ (and-left _ _ t)) in
     omega (arith, low-from car)
 
-module _ (car : Vehicle) (here : Place) (v : ℕ) where
+module _ (car : Vehicle) (here : Role) (v : ℕ) where
   -- a gear that fits and yet does not beat another has less power
   not-beaten : (g r : ℕ) → fits car here v g ≡ true → beats car here v g r ≡ false → (r ≢ 0) × (more (power car v r) (power car v g) ≡ true)
   unfolding beats

@@ -9,30 +9,29 @@ use mathlib.Core.Path.{_≡_, refl, sym, ap, _∙_}
 use mathlib.Core.Logic.{_≢_, _⊎_, inl, inr}
 use mathlib.Core.Bool.{Bool, true, false, not}
 use mathlib.Core.Option.{Option, none, some}
-use mathlib.Core.List.{List}
+use mathlib.Core.List.{List, [], _∷_}
 use lib.Dec.{eqb}
 use lib.IntN.{ℤ, pos, negsuc, negℤ, _+ℤ_, _-ℤ_, +ℤ-assoc, +ℤ-comm}
 use lib.ListN.{length, set, length-set}
 use borrow.Author.Tests.{eq-eqb, ne-eqb, eqb-true, eqb-false}
 use Rattle.rules.specs.declared.Vehicle.{Vehicle}
 use Rattle.rules.specs.declared.Summary.{Summary}
-use Rattle.rules.specs.Words.{if_then_else_, _and_, at, part, table}
+use Rattle.rules.specs.Words.{if_then_else_, _and_, at, part, table, patch}
 use Rattle.rules.specs.Units.{low, moving, start, stop, longest}
-use Rattle.rules.specs.Corrections.{gear-at, card-at, card}
-use Rattle.rules.specs.Refusals.{Fault, left, edit-fault}
-use Rattle.rules.specs.Quick.{span-lo, own-fault, quick-fault, quick-card}
-use Rattle.rules.specs.Mend.{mend-lo, mend-hi, mended-fault, mended-card, mend-fault, mend-speeds, mend-card}
-use Rattle.rules.specs.Summary.{tally, stopped, shown, rests, drives, changes, counts, summary, total, seconds-in, settled, updated, quick-summary, hold-summary, release-summary, mend-summary}
-use Rattle.rules.specs.Holds.{asked, hold-card, release-card}
-use Rattle.rules.specs.Vocabulary.{Out, Run, no-more, then-hold, then-release, then-mend, carried}
-use Rattle.rules.proofs.Laws.Words.{by-test, by-order, by-eq, and-no, at-part, length-part, at-table, table-ext}
+use Rattle.rules.specs.Corrections.{gear-at, card-at, card, shown}
+use Rattle.rules.specs.declared.Edit.{Edit}
+use Rattle.rules.specs.declared.Edit.the-variants.{Hold, Release, Mend}
+use Rattle.rules.specs.Edit.{Screen, Span, second, asked-speeds, asked-holds, around, span, edit-fault, asked-screen, edited, after}
+use Rattle.rules.specs.Summary.{tally, rests, drives, changes, summary, settled, updated}
+use Rattle.rules.specs.Vocabulary.{Out, Counted, total, seconds-in}
+use Rattle.rules.proofs.Laws.Words.{by-test, by-order, by-eq, and-no, patch-none, at-part, length-part, at-table, table-ext}
 use Rattle.rules.proofs.Laws.Integers.{swap, pos-sub, pos-below}
 use Rattle.rules.proofs.Laws.Trips.{start-le, start-before, stop-le, stop-after, stop-to, standing-past}
-use Rattle.rules.proofs.Laws.Checks.{Accepted, taken, trace-in, rooms-in, vehicle-in, left-none, left-some, left-by, by-fault}
+use Rattle.rules.proofs.Laws.Checks.{Accepted, taken, trace-in, rooms-in, vehicle-in, by-fault}
 use Rattle.rules.proofs.Laws.Limits.{floor-low}
 use Rattle.rules.proofs.Laws.Cards.{fit-of, gear-in-range, byte-gear}
-use Rattle.rules.proofs.Laws.Span.{Between, card-frame}
-use Rattle.rules.proofs.Laws.Mend.{bytes-kept, speeds-kept}
+use Rattle.rules.proofs.Laws.Span.{Between, span-kept}
+use Rattle.rules.proofs.Laws.Edits.{by-kind, refused-alone, taken-asked, speeds-frame, length-edited, card-around}
 
 -- ---- a tally
 
@@ -73,24 +72,25 @@ tally-diff p q n lo hi a b h =
 
 -- ---- bringing a count up to date
 
--- said without a sign: the difference of naturals stops at 0 by itself
-pub settled-is : (was before after : ℕ) → settled was before after ≡ min (was + after - before) 65535
-unfolding settled stopped
-settled-is was before after =
-    let e : pos was -ℤ pos before +ℤ pos after ≡ pos (was + after) -ℤ pos before = swap (pos was) (negℤ (pos before)) (pos after) in
-    by-order (was + after) before
-    (λ h. let z : was + after - before ≡ 0 = omega arith in ap stopped (e ∙ pos-below (was + after) before h) ∙ rw z)
-    (λ h. ap stopped (e ∙ pos-sub (was + after) before h))
-
 -- what it comes to hangs on the difference alone
 pub settled-diff : (was a b c d : ℕ) → a + d ≡ b + c → settled was a b ≡ settled was c d
-settled-diff was a b c d e = let x : was + b - a ≡ was + d - c = omega arith in settled-is was a b ∙ rw x (sym (settled-is was c d))
+unfolding settled
+settled-diff was a b c d e = let x : was + b - a ≡ was + d - c = omega arith in rw x
 
 -- a right count stays right
 pub settled-right : (a b : ℕ) → b ≤ 65535 → settled a a b ≡ b
-settled-right a b h = settled-is a a b ∙ omega arith
+unfolding settled
+settled-right a b h = omega arith
 
 -- ---- a summary
+
+-- the counts over the k seconds from lo on
+unfoldable pub counts : List ℕ → List ℕ → ℕ → ℕ → Summary
+counts vs bs lo k = record {
+  standing = tally (rests vs) lo k;
+  gears = table (λ g. tally (drives g vs bs) lo k) 1 10;
+  changes = tally (changes vs bs) lo k;
+}
 
 -- a table, and one that begins a place later
 table-up : (f g : ℕ → ℕ) (k lo : ℕ) → ((i : ℕ) → lo ≤ i → i < lo + k → f i ≡ g (suc i)) → table f lo k ≡ table g (suc lo) k
@@ -183,6 +183,21 @@ module _ {vs bs ws cs : List ℕ} {a b : ℕ} (C : Changed vs bs ws cs a b) wher
       (d (drives (suc g) vs bs) (drives (suc g) ws cs) (drives-same (suc g))))
       (d (changes vs bs) (changes ws cs) changes-same))
 
+-- a standing second more before the stretch, whose speed stays, counts the same before and after
+tally-skip : (p q : ℕ → Bool) (m k : ℕ) → p m ≡ q m → tally p m (suc k) + tally q (suc m) k ≡ tally q m (suc k) + tally p (suc m) k
+unfolding tally
+tally-skip p q m k e = rw e (omega arith)
+
+pub skips : (was : Summary) (vs bs ws cs : List ℕ) (m k : ℕ) → moving (at vs m) ≡ false → at ws m ≡ at vs m
+    → updated was (counts vs bs m (suc k)) (counts ws cs m (suc k)) ≡ updated was (counts vs bs (suc m) k) (counts ws cs (suc m) k)
+unfolding counts rests drives _and_
+skips was vs bs ws cs m k r e =
+    let s : moving (at ws m) ≡ false = rw e r in
+    updated-ext was _ _ _ _ (tally-skip (rests vs) (rests ws) m k (rw e))
+    (λ g h. rw (at-gears vs bs m (suc k) g h, at-gears ws cs m (suc k) g h, at-gears vs bs (suc m) k g h, at-gears ws cs (suc m) k g h)
+    (tally-skip (drives (suc g) vs bs) (drives (suc g) ws cs) m k (rw (r, s))))
+    (tally-skip (changes vs bs) (changes ws cs) m k (stands-first vs bs m r ∙ sym (stands-first ws cs m s)))
+
 -- the counts of a part that ends before a standing second are the counts of its seconds in the whole: no pair of moving seconds crosses its end
 module _ (vs bs : List ℕ) (lo hi : ℕ) (l : hi ≤ length vs) (r : moving (at vs hi) ≡ false) where
   part-pair : (j : ℕ) → lo + j < hi → changes (part vs lo hi) (part bs lo hi) j ≡ changes vs bs (lo + j)
@@ -215,122 +230,113 @@ updated-right vs bs ws cs h =
     (table-up _ _ 10 0 (λ g x y. let e = at-gears ws cs 0 n g (omega arith) in settled-right _ _ (rw e (to (drives (suc g) ws cs))) ∙ e))
     (settled-right _ _ (to (changes ws cs)))
 
--- an edit that is not refused is of a trace of the longest at most
-short : (car : Vehicle) (vs hs old : List ℕ) (s : ℕ) (own : Option Fault) → edit-fault car vs hs old s own ≡ none → length vs ≤ 65535
-unfolding longest
-short car vs hs old s own e = let x = trace-in vs (taken car vs hs old s own e .trace) in omega arith
+-- ---- an edit
 
--- ---- holding and releasing
+module _ (car : Vehicle) (e : Edit) (x : Screen) where
+  -- an edit that is not refused is of a trace of the longest at most
+  short : edit-fault car e x ≡ none → length (x .speeds) ≤ 65535
+  unfolding longest
+  short ok = let n = trace-in (x .speeds) (taken car e x ok .trace) in omega arith
 
-module _ (car : Vehicle) (vs hs old : List ℕ) (s g : ℕ) where
-  quick-short : quick-fault car vs hs old s g ≡ none → length vs ≤ 65535
-  unfolding quick-fault
-  quick-short e = short car vs hs old s (own-fault car vs hs s g) e
-
-  pub quick-changed : s < length vs → Changed vs old vs (quick-card car vs hs old s g) (start vs s) (stop vs s)
-  unfolding span-lo
-  quick-changed l = record {
-    speeds = refl;
-    in-trace = stop-to vs s (omega arith);
-    rest = record { order = omega (arith, start-le vs s, stop-le vs s); before = start-before vs s; after = stop-after vs s };
-    speed-at = λ i o. refl;
-    byte-at = λ i o. card-frame car vs hs old s g i o;
-  }
-
-  module _ (was : Summary) where
-    -- brought up to date from the old and new bytes of the trip
-    pub quick-by-span : quick-fault car vs hs old s g ≡ none
-        → let lo = start vs s in let k = stop vs s - start vs s in
-        quick-summary car vs hs old s g was ≡ updated was (counts vs old lo k) (counts vs (quick-card car vs hs old s g) lo k)
-    unfolding quick-summary quick-fault
-    quick-by-span e = left-none _ _ e ∙ updated-span (quick-changed (taken car vs hs old s (own-fault car vs hs s g) e .second)) was
-
-    pub quick-by-part : quick-fault car vs hs old s g ≡ none
-        → let lo = start vs s in let hi = stop vs s in
-        quick-summary car vs hs old s g was ≡ updated was (summary (part vs lo hi) (part old lo hi)) (summary (part vs lo hi) (part (quick-card car vs hs old s g) lo hi))
-    unfolding quick-fault
-    quick-by-part e =
-        let n = stop-to vs s (le-of-lt (taken car vs hs old s (own-fault car vs hs s g) e .second)) in
-        quick-by-span e ∙ rw (counts-part vs old (start vs s) (stop vs s) n (stop-after vs s), counts-part vs (quick-card car vs hs old s g) (start vs s) (stop vs s) n (stop-after vs s))
-
-    pub quick-counts-right : was ≡ summary vs old → quick-summary car vs hs old s g was ≡ summary vs (quick-card car vs hs old s g)
-    unfolding quick-summary quick-card
-    quick-counts-right right =
-        by-fault (quick-fault car vs hs old s g)
-        (λ e. left-none _ _ e ∙ rw right (updated-right vs old vs (quick-card car vs hs old s g) (quick-short e)))
-        (λ q e. left-some _ _ e ∙ right ∙ ap (summary vs) (sym (left-some _ _ e)))
-
-    pub quick-no-count : (q : Fault) → quick-fault car vs hs old s g ≡ some q → quick-summary car vs hs old s g was ≡ was
-    unfolding quick-summary
-    quick-no-count q e = left-some _ _ e
-
--- ---- mending
-
-module _ (car : Vehicle) (vs hs old : List ℕ) (s v : ℕ) where
-  length-mended : length (mend-speeds car vs hs old s v) ≡ length vs
-  unfolding mend-speeds
-  length-mended = left-by (λ l. length l ≡ length vs) (mend-fault car vs hs old s v) vs (set vs s v) refl (λ e. length-set vs s v)
-
-  mend-short : mend-fault car vs hs old s v ≡ none → length vs ≤ 65535
-  unfolding mend-fault
-  mend-short e = short car vs hs old s (mended-fault car (set vs s v) hs s) e
-
-  pub mend-changed : s < length vs → Changed vs old (mend-speeds car vs hs old s v) (mend-card car vs hs old s v) (start vs s) (stop vs (suc s))
-  unfolding mend-lo mend-hi
-  mend-changed l =
-      let x = start-le vs s in
-      let y = stop-le vs (suc s) in
+  -- the stretch that it may change: the trips next to the second
+  edit-changed : second e < length (x .speeds) → Changed (x .speeds) (x .card) (edited car e x .speeds) (edited car e x .card) (start (x .speeds) (second e)) (stop (x .speeds) (suc (second e)))
+  edit-changed l =
+      let a = start-le (x .speeds) (second e) in
+      let b = stop-le (x .speeds) (suc (second e)) in
       record {
-        speeds = length-mended;
-        in-trace = stop-to vs (suc s) l;
-        rest = record { order = omega arith; before = start-before vs s; after = stop-after vs (suc s) };
-        speed-at = λ i o. speeds-kept car vs hs old s v i (λ e. elim o [ inl c ↦ omega arith | inr c ↦ omega arith ]);
-        byte-at = λ i o. bytes-kept car vs hs old s v i o;
+        speeds = length-edited car e x;
+        in-trace = stop-to (x .speeds) (suc (second e)) l;
+        rest = record { order = omega arith; before = start-before (x .speeds) (second e); after = stop-after (x .speeds) (suc (second e)) };
+        speed-at = λ i o. speeds-frame car e x i (λ z. elim o [ inl c ↦ omega arith | inr c ↦ omega arith ]);
+        byte-at = λ i o. card-around car e x i o;
       }
 
   -- the second after the stretch still stands
-  still-rests : moving (at (mend-speeds car vs hs old s v) (stop vs (suc s))) ≡ false
-  still-rests = let y = stop-le vs (suc s) in rw (speeds-kept car vs hs old s v (stop vs (suc s)) (omega arith)) (stop-after vs (suc s))
+  still-rests : moving (at (edited car e x .speeds) (stop (x .speeds) (suc (second e)))) ≡ false
+  still-rests =
+      let y = stop-le (x .speeds) (suc (second e)) in
+      rw (speeds-frame car e x (stop (x .speeds) (suc (second e))) (omega arith)) (stop-after (x .speeds) (suc (second e)))
 
-  module _ (was : Summary) where
-    pub mend-by-span : mend-fault car vs hs old s v ≡ none
-        → let lo = start vs s in let k = stop vs (suc s) - start vs s in
-        mend-summary car vs hs old s v was ≡ updated was (counts vs old lo k) (counts (mend-speeds car vs hs old s v) (mend-card car vs hs old s v) lo k)
-    unfolding mend-summary mend-fault
-    mend-by-span e = left-none _ _ e ∙ updated-span (mend-changed (taken car vs hs old s (mended-fault car (set vs s v) hs s) e .second)) was
+  -- where it is not refused
+  whole-counts : edit-fault car e x ≡ none → edited car e x .summary ≡ updated (x .summary) (summary (x .speeds) (x .card)) (summary (edited car e x .speeds) (edited car e x .card))
+  unfolding asked-screen
+  whole-counts ok = rw (taken-asked car e x ok)
 
-    pub mend-by-part : mend-fault car vs hs old s v ≡ none
-        → let lo = start vs s in let hi = stop vs (suc s) in
-        mend-summary car vs hs old s v was
-        ≡ updated was (summary (part vs lo hi) (part old lo hi)) (summary (part (mend-speeds car vs hs old s v) lo hi) (part (mend-card car vs hs old s v) lo hi))
-    unfolding mend-fault
-    mend-by-part e =
-        let n = stop-to vs (suc s) (taken car vs hs old s (mended-fault car (set vs s v) hs s) e .second) in
-        let l = length-mended in
-        mend-by-span e ∙ rw (
-          counts-part vs old (start vs s) (stop vs (suc s)) n (stop-after vs (suc s)),
-          counts-part (mend-speeds car vs hs old s v) (mend-card car vs hs old s v) (start vs s) (stop vs (suc s)) (rw l n) still-rests,
-        )
+  -- brought up to date from the old and new speeds and bytes of the stretch
+  pub counts-by-part : edit-fault car e x ≡ none
+      → let lo = start (x .speeds) (second e) in let hi = stop (x .speeds) (suc (second e)) in
+      edited car e x .summary
+      ≡ updated (x .summary) (summary (part (x .speeds) lo hi) (part (x .card) lo hi)) (summary (part (edited car e x .speeds) lo hi) (part (edited car e x .card) lo hi))
+  counts-by-part ok =
+      let l = taken car e x ok .in-trace in
+      let lo = start (x .speeds) (second e) in
+      let hi = stop (x .speeds) (suc (second e)) in
+      let n = stop-to (x .speeds) (suc (second e)) l in
+      let k = length-edited car e x in
+      whole-counts ok ∙ updated-span (edit-changed l) (x .summary) ∙ rw (
+        counts-part (x .speeds) (x .card) lo hi n (stop-after (x .speeds) (suc (second e))),
+        counts-part (edited car e x .speeds) (edited car e x .card) lo hi (rw k n) still-rests,
+      )
 
-    pub mend-counts-right : was ≡ summary vs old → mend-summary car vs hs old s v was ≡ summary (mend-speeds car vs hs old s v) (mend-card car vs hs old s v)
-    unfolding mend-summary mend-speeds mend-card
-    mend-counts-right right =
-        by-fault (mend-fault car vs hs old s v)
-        (λ e. left-none _ _ e ∙ rw right (updated-right vs old (mend-speeds car vs hs old s v) (mend-card car vs hs old s v) (rw length-mended (mend-short e))))
-        (λ q e. left-some _ _ e ∙ right ∙ rw (left-some vs (set vs s v) e, left-some old (mended-card car (set vs s v) hs old s) e))
+  -- and so from the counts of the seconds that the edit re-works
+  around-counts : second e < length (x .speeds) → edited car e x .summary ≡ updated (x .summary) (summary (x .speeds) (x .card)) (summary (edited car e x .speeds) (edited car e x .card))
+      → let r = around (x .speeds) (second e) in
+      edited car e x .summary ≡ updated (x .summary) (counts (x .speeds) (x .card) (r .lo) (r .hi - r .lo)) (counts (edited car e x .speeds) (edited car e x .card) (r .lo) (r .hi - r .lo))
+  unfolding around
+  around-counts l w =
+      let a = start (x .speeds) (second e) in
+      let b = stop (x .speeds) (suc (second e)) in
+      let C = edit-changed l in
+      by-order 0 a
+      (λ p.
+      let k : a ≡ suc (a - 1) = omega arith in
+      let n : b - (a - 1) ≡ suc (b - a) = let y = stop-le (x .speeds) (suc (second e)) in let z = start-le (x .speeds) (second e) in omega arith in
+      w ∙ updated-span C (x .summary)
+      ∙ rw n (sym (skips (x .summary) (x .speeds) (x .card) (edited car e x .speeds) (edited car e x .card) (a - 1) (b - a) (C .rest .before (a - 1) (sym k)) (C .speed-at (a - 1) (inl (omega arith)))
+      ∙ ap (λ (i : ℕ). updated (x .summary) (counts (x .speeds) (x .card) i (b - a)) (counts (edited car e x .speeds) (edited car e x .card) i (b - a))) (sym k))))
+      (λ p. let k : a - 1 ≡ a = omega arith in w ∙ updated-span C (x .summary) ∙ ap (λ (i : ℕ). updated (x .summary) (counts (x .speeds) (x .card) i (b - i)) (counts (edited car e x .speeds) (edited car e x .card) i (b - i))) (sym k))
 
-    pub mend-no-count : (q : Fault) → mend-fault car vs hs old s v ≡ some q → mend-summary car vs hs old s v was ≡ was
-    unfolding mend-summary
-    mend-no-count q e = left-some _ _ e
+  pub counts-right : Counted x → Counted (edited car e x)
+  counts-right right =
+      by-fault (edit-fault car e x)
+      (λ ok. whole-counts ok
+      ∙ ap (λ (m : Summary). updated m (summary (x .speeds) (x .card)) (summary (edited car e x .speeds) (edited car e x .card))) right
+      ∙ updated-right (x .speeds) (x .card) (edited car e x .speeds) (edited car e x .card) (rw (length-edited car e x) (short ok)))
+      (λ q z. rw (refused-alone car e x q z) right)
 
--- ---- a run of edits
+-- where no second is re-worked, no speed is asked for, and no byte changes
+speeds-still : (e : Edit) (vs : List ℕ) → span e vs .lo ≡ span e vs .hi → asked-speeds e vs ≡ vs
+unfolding asked-speeds span around
+speeds-still (Hold s g) vs k = refl
+speeds-still (Release s) vs k = refl
+speeds-still (Mend s v) vs k = let a = start-le vs s in let b = stop-le vs (suc s) in absurd (omega arith)
 
-pub run-counts : {car : Vehicle} {vs hs old ws ks new : List ℕ} (r : Run car vs hs old ws ks new) (was : Summary) → was ≡ summary vs old → carried r was ≡ summary ws new
-unfolding hold-summary hold-card release-summary release-card carried
-run-counts no-more was e = e
-run-counts (then-hold s g r) was e = run-counts r _ (quick-counts-right _ _ _ _ s (asked g) was e)
-run-counts (then-release s r) was e = run-counts r _ (quick-counts-right _ _ _ _ s 0 was e)
-run-counts (then-mend s v r) was e = run-counts r _ (mend-counts-right _ _ _ _ s v was e)
+card-still : (car : Vehicle) (e : Edit) (x : Screen) → span e (x .speeds) .lo ≡ span e (x .speeds) .hi → asked-screen car e x .card ≡ x .card
+unfolding asked-screen
+card-still car e x k =
+    let f = card-at car (asked-speeds e (x .speeds)) (asked-holds e (x .holds)) in
+    ap (λ (r : Span). patch (x .card) (r .lo) (r .hi) f) (span-kept e (x .speeds))
+    ∙ ap (λ (b : ℕ). patch (x .card) (span e (x .speeds) .lo) b f) (sym k)
+    ∙ patch-none (x .card) (span e (x .speeds) .lo) f
+
+pub counts-by-range : (car : Vehicle) (e : Edit) (x : Screen) → edit-fault car e x ≡ none
+    → let r = span e (x .speeds) in
+    edited car e x .summary ≡ updated (x .summary) (counts (x .speeds) (x .card) (r .lo) (r .hi - r .lo)) (counts (edited car e x .speeds) (edited car e x .card) (r .lo) (r .hi - r .lo))
+unfolding asked-screen
+counts-by-range car e x ok =
+    by-kind e (x .speeds)
+    (λ k. rw k (around-counts car e x (taken car e x ok .in-trace) (whole-counts car e x ok)))
+    (λ k.
+    let t = taken-asked car e x ok in
+    let a : edited car e x .speeds ≡ x .speeds = ap (λ (w : Screen). w .speeds) t ∙ speeds-still e (x .speeds) k in
+    let b : edited car e x .card ≡ x .card = ap (λ (w : Screen). w .card) t ∙ card-still car e x k in
+    whole-counts car e x ok ∙ rw (a, b) (updated-ext (x .summary) _ _ _ _ refl (λ g h. refl) refl))
+
+-- edits one after the other
+pub run-counts : (car : Vehicle) (es : List Edit) (x : Screen) → Counted x → Counted (after car es x)
+unfolding after
+run-counts car [] x e = e
+run-counts car (e ∷ es) x right = run-counts car es (edited car e x) (counts-right car e x right)
 
 -- ---- the seconds add up
 
@@ -395,7 +401,7 @@ module _ (vs bs : List ℕ) where
 -- so of a right card
 pub gears-shown : (car : Vehicle) (vs hs old : List ℕ) → Accepted car vs hs old → (i : ℕ) → i < length vs → moving (at vs i) ≡ true
     → (1 ≤ shown (at (card car vs hs) i)) × (shown (at (card car vs hs) i) ≤ 10)
-unfolding shown low card
+unfolding low card
 gears-shown car vs hs old A i l m =
     let n = rooms-in vs hs old (A .room) .0 in
     let C = vehicle-in car (A .vehicle) in

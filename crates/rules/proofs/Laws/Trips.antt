@@ -112,6 +112,18 @@ pub stop-standing : (vs : List ℕ) (i : ℕ) → moving (at vs i) ≡ false →
 unfolding stop
 stop-standing vs i r = ap (λ (k : ℕ). i + k) (run-none (drop i vs) (rw (run-at vs, add-zero) r)) ∙ add-zero i
 
+-- from the second after a moving one its trip ends where it ends
+pub own-trip : (vs : List ℕ) (s : ℕ) → moving (at vs s) ≡ true → stop vs (suc s) ≡ stop vs s
+own-trip vs s m =
+    let t = trip-of vs s m in
+    by-test (moving (at vs (suc s)))
+    (λ u. by-order (suc s) (stop vs s)
+    (λ h. trip-stop vs (t .0) (suc s) (omega arith) h)
+    (λ h. let e : suc s ≡ stop vs s = omega arith in clash u (rw e (t .0 .after))))
+    (λ u. by-order (suc s) (stop vs s)
+    (λ h. clash (t .0 .inside (suc s) (omega arith) h) u)
+    (λ h. let e : suc s ≡ stop vs s = omega arith in stop-standing vs (suc s) u ∙ e))
+
 -- a moving second lies in the trace
 pub moving-in : (vs : List ℕ) (i : ℕ) → moving (at vs i) ≡ true → i < length vs
 unfolding moving

@@ -53,19 +53,7 @@ module _ {p : ℕ → Bool} {i hi : ℕ} {r : Bool} (inv : Every p i hi r) where
   unfolding every _and_
   all-again h t = let z : hi - i ≡ suc (hi - suc i) = omega arith in record { same = rw add-one (rw (z, t) at (inv .same)) }
 
--- ---- whether the test holds at one of the places 1 to k, found from below
-
-pub record NoneBelow (p : ℕ → Bool) (i : ℕ) : Type 0 where
-  pub fails : (j : ℕ) → 1 ≤ j → j < i → p j ≡ false
-
-pub none-start : {p : ℕ → Bool} → NoneBelow p 1
-none-start = record { fails = λ j a b. absurd (omega arith) }
-
-pub none-again : {p : ℕ → Bool} {i : ℕ} → NoneBelow p i → p i ≡ false → NoneBelow p (i + 1)
-none-again inv t = record { fails = λ j a b. by-eq (omega arith) (λ e. rw e t) (λ l. inv .fails j a l) }
-
-pub none-ends : {p : ℕ → Bool} {i k : ℕ} → NoneBelow p i → k < i → false ≡ not (eqb (highest p k) 0)
-none-ends {p} {i} {k} inv h = rw (eq-eqb (highest p k) 0 (highest-none p k (λ j a b. inv .fails j a (omega arith))))
+-- ---- whether the test holds at one of the places 1 to k
 
 pub one-holds : (p : ℕ → Bool) (k i : ℕ) → 1 ≤ i → i ≤ k → p i ≡ true → true ≡ not (eqb (highest p k) 0)
 one-holds p k i a b t = rw (ne-eqb (highest p k) 0 (λ z. clash t (highest-above p k i (omega (arith, z)) b)))

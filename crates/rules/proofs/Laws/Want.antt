@@ -11,23 +11,24 @@ use mathlib.Core.List.{List, [], _∷_}
 use lib.Dec.{leb, eqb}
 use lib.ListN.{length, drop}
 use borrow.Author.Tests.{leb-true, le-leb, eqb-true, eqb-false, eq-eqb, ne-eqb, not-true}
+use Rattle.rules.specs.Inside.{InBounds, gear-fault}
 use Rattle.rules.specs.declared.Vehicle.{Vehicle}
-use Rattle.rules.specs.declared.Place.{Place}
+use Rattle.rules.specs.declared.Role.{Role}
 use Rattle.rules.specs.Words.{if_then_else_, _and_, _or_, at, first}
 use Rattle.rules.specs.Units.{low, moving, rise, start}
 use Rattle.rules.specs.Gears.{engine, minimum, under-nmax, over-minimum, allowed, fits, choose, is-first}
-use Rattle.rules.specs.Corrections.{here, trip-speeds, trip-holds, first-at, closing, place-at, place-of}
-use Rattle.rules.specs.Refusals.{Fault, refuse-at, _orelse_, trace-fault, room-fault, vehicle-fault, no-gear, check-number, last-check, bad, fault-of, gear-fault, span-fault, work-fault}
-use Rattle.rules.specs.Vocabulary.{InBounds, Turns, Allowed, Wanting, PassesOthers}
+use Rattle.rules.specs.Corrections.{here, trip-speeds, trip-holds, first-at, closing, role-of}
+use Rattle.rules.specs.Refusals.{Fault, refuse-at, _orelse_, trace-fault, room-fault, vehicle-fault, no-gear, bad, span-fault, work-fault}
+use Rattle.rules.specs.Vocabulary.{Turns, Allowed, Wanting, PassesOthers, role-at}
 use Rattle.rules.proofs.Laws.Words.{clash, by-test, by-order, both, and-left, and-right, or-skip, Found, first-found, first-none, none-first}
 use Rattle.rules.proofs.Laws.Trips.{start-le, moving-in}
-use Rattle.rules.proofs.Laws.Checks.{none-orelse, orelse-nothing, rooms-in, vehicle-in}
+use Rattle.rules.proofs.Laws.Checks.{none-orelse, gears-last, rooms-in, vehicle-in}
 use Rattle.rules.proofs.Laws.Cards.{first-at-is}
 use Rattle.rules.proofs.Laws.Choice.{first-choice-plainly}
 use Rattle.rules.proofs.Laws.Minimum.{minimum-most}
-use Rattle.rules.specs.declared.Place.the-variants.{First, Closing, AfterLow, Inner}
+use Rattle.rules.specs.declared.Role.the-variants.{First, Closing, AfterLow, Inner}
 
-module _ (car : Vehicle) (here : Place) (v g : ℕ) where
+module _ (car : Vehicle) (here : Role) (v g : ℕ) where
   inside-true : Turns car here v g → over-minimum car here v g and under-nmax car v g ≡ true
   unfolding _and_ _or_ over-minimum under-nmax
   inside-true I =
@@ -44,20 +45,20 @@ module _ (car : Vehicle) (here : Place) (v g : ℕ) where
 
 module _ (car : Vehicle) (vs hs : List ℕ) (i : ℕ) where
   -- only a trip's first second is one
-  place-first : is-first (place-at car vs hs i) ≡ eqb i (start vs i)
-  unfolding place-at place-of is-first
+  place-first : is-first (role-at car vs hs i) ≡ eqb i (start vs i)
+  unfolding role-at role-of is-first
   place-first =
       by-test (eqb i (start vs i)) (λ t. rw t)
       (λ t. by-test (closing (drop i vs)) (λ c. rw (t, c)) (λ c. by-test (eqb (first-at car vs hs (i - 1)) (low car)) (λ l. rw (t, c, l)) (λ l. rw (t, c, l))))
 
-  allowed-true : (g : ℕ) → Allowed car vs i g → allowed car (place-at car vs hs i) g ≡ true
+  allowed-true : (g : ℕ) → Allowed car vs i g → allowed car (role-at car vs hs i) g ≡ true
   unfolding _and_ _or_ allowed
   allowed-true g A =
       by-test (eqb g (low car))
       (λ t. rw (le-leb _ _ (A .from), t))
       (λ t. rw (le-leb _ _ (A .from), t, place-first, ne-eqb i (start vs i) (λ z. eqb-false _ _ t (A .at-first z))))
 
-  true-allowed : (g : ℕ) → g ≤ car .ng → allowed car (place-at car vs hs i) g ≡ true → Allowed car vs i g
+  true-allowed : (g : ℕ) → g ≤ car .ng → allowed car (role-at car vs hs i) g ≡ true → Allowed car vs i g
   unfolding allowed
   true-allowed g h t = record {
     from = leb-true _ _ (and-left _ _ t);
@@ -75,7 +76,7 @@ module _ (car : Vehicle) (vs hs : List ℕ) (i : ℕ) where
         let m : moving (at vs i) ≡ true = and-left _ _ t in
         let z : first-at car vs hs i ≡ 0 = eqb-true _ _ (and-right _ _ t) in
         let f = first-at-is car vs hs n i m in
-        let spot = place-at car vs hs i in
+        let spot = role-at car vs hs i in
         by-test (eqb (at hs i) 0)
         (λ h.
         let c : choose car spot (at vs i) (rise vs i) ≡ 0 = sym (rw h at f) ∙ z in
@@ -93,7 +94,7 @@ module _ (car : Vehicle) (vs hs : List ℕ) (i : ℕ) where
     wanting-bad W =
         let m = W .moves in
         let f = first-at-is car vs hs n i m in
-        let spot = place-at car vs hs i in
+        let spot = role-at car vs hs i in
         let d = rise vs i in
         let c : choose car spot (at vs i) d ≡ 0 =
         first-choice-plainly car spot (at vs i) d C .choice-none (λ g l.
@@ -105,7 +106,7 @@ module _ (car : Vehicle) (vs hs : List ℕ) (i : ℕ) where
 pub never-wanting : (car : Vehicle) (vs hs : List ℕ) (i g : ℕ) → Allowed car vs i g → Turns car AfterLow (at vs i) g → Wanting car vs hs i → ⊥
 never-wanting car vs hs i g A I W =
     W .no-gear-there g A (record {
-      from = λ n. le-trans (mul-le-mul-left 1000 (minimum-most car (place-at car vs hs i) g)) (I .from n);
+      from = λ n. le-trans (mul-le-mul-left 1000 (minimum-most car (role-at car vs hs i) g)) (I .from n);
       to = I .to;
     })
 
@@ -119,9 +120,9 @@ spot-of i (some f) = f .spot
 module _ (car : Vehicle) (vs hs old : List ℕ) (P : PassesOthers car vs hs old) where
   -- where the other checks pass, the tenth decides
   tenth : work-fault car vs hs old ≡ refuse-at 10 (first (bad no-gear car vs hs 0) 0 (length vs))
-  unfolding work-fault span-fault gear-fault last-check fault-of check-number
+  unfolding work-fault gear-fault
   tenth =
-      none-orelse _ _ (P .one) ∙ none-orelse _ _ (P .two) ∙ none-orelse _ _ (P .three) ∙ none-orelse _ _ (P .four-to-nine) ∙ orelse-nothing _ ∙ rw sub-zero
+      none-orelse _ _ (P .one) ∙ none-orelse _ _ (P .two) ∙ none-orelse _ _ (P .three) ∙ gears-last car vs hs 0 (length vs) ∙ none-orelse _ _ (P .four-to-nine) ∙ rw sub-zero
 
   -- a second at which it is refused is wanting
   refused-wanting : (i : ℕ) → work-fault car vs hs old ≡ some (record { no = 10; spot = i }) → Wanting car vs hs i

@@ -13,6 +13,7 @@ use lib.Seq.{getD-drop}
 use lib.Dec.{leb, eqb}
 use lib.IntN.{ℤ, pos, negsuc, natAbs, _+ℤ_, _-ℤ_, +ℤ-negℤ-cancel}
 use borrow.Author.Tests.{le-leb, le-ltb, ltb-false, eqb-true, eq-eqb, not-false}
+use Rattle.rules.specs.Inside.{InBounds}
 use Rattle.rules.specs.declared.Vehicle.{Vehicle}
 use Rattle.rules.specs.Words.{_and_, within, at, every, table}
 use Rattle.rules.specs.Units.{ratio-of, bad-field, longest, fastest}
@@ -20,11 +21,11 @@ use Rattle.rules.specs.Refusals.{refuse-at, when, vehicle-fault, speed, 
 use Rattle.rules.specs.Groups.{got}
 use Rattle.rules.specs.Forms.{value, checked, bounded, _then_, seen, RowTakes, row, many, counted}
 use Rattle.rules.specs.Job.{version, profile, gearbox, numbers, point, curve, seconds, trace, points-of, vehicle-of, parts-of, vehicle, holds, Job, packed, fields, stages, job, job-read}
-use Rattle.rules.specs.Write.{job-from, job-bytes, holds-fault, job-fault, version-fault, profile-field, margin-field, lower-field, fields-fault, checks-fault, short-fault, write-fault, written, cleared}
-use Rattle.rules.specs.Vocabulary.{Bytes, InBounds}
+use Rattle.rules.specs.Write.{job-bytes, checks-fault, write-fault}
+use Rattle.rules.specs.Vocabulary.{Bytes, job-fault, job-from, cleared}
 use Rattle.rules.proofs.Laws.Words.{by-test, and-fails, both, none-first, length-table, at-table}
-use Rattle.rules.proofs.Laws.Vehicle.{low-plainly, every-at, every-all, in-bounds}
-use Rattle.rules.proofs.Laws.Checks.{driven, orelse-none, none-orelse, refuse-none, when-none, none-when, trace-in}
+use Rattle.rules.proofs.Laws.Vehicle.{low-plainly, bounds-in, no-profile, no-margins, same-bounds}
+use Rattle.rules.proofs.Laws.Checks.{driven, orelse-none, none-orelse, refuse-none, when-none, none-when, trace-in, rooms-in}
 use Rattle.rules.proofs.Laws.Forms.{says-now, reads-whole, whole-says}
 use Rattle.rules.proofs.Laws.Takes.{in-range, All, many-takes, counted-takes, only-if-takes, takes-only-if, bounded-takes, _also_}
 use Rattle.rules.proofs.Laws.Gathers.{holds-take}
@@ -43,57 +44,26 @@ pub record Writable (v : ℕ) (car : Vehicle) (vs hs : List ℕ) : Type 0 where
   pub speeds-in : (i : ℕ) → i < length vs → at vs i ≤ fastest
   pub holds-in : (i : ℕ) → i < length vs → at hs i ≤ car .ng
 
--- no field is refused of either two
-pub lower-none : (f g : Option ℕ) → lower-field f g ≡ none → (f ≡ none) × (g ≡ none)
-unfolding lower-field
-lower-none none g e = (refl, e)
-lower-none (some f) none e = let z : _≡_ {A = ℕ} 0 1 = cc in absurd (omega arith)
-lower-none (some f) (some g) e = let z : _≡_ {A = ℕ} 0 1 = cc in absurd (omega arith)
-
--- a margin is refused of version 1 exactly where there is one
-no-margin : (v : ℕ) (car : Vehicle) → margin-field v car ≡ none → leb 2 v ≡ false → (i : ℕ) → i < car .points → at (car .m) i ≡ 0
-unfolding margin-field refuse-at
-no-margin v car e l i h =
-    let t = when-none 3 _ 12 (ap (refuse-at 3) e) in
-    let all : every (λ k. eqb (at (car .m) k) 0) 0 (car .points) ≡ true = not-false _ (and-fails (not (leb 2 v)) _ (rw l) t) in
-    eqb-true _ _ (every-at (λ k. eqb (at (car .m) k) 0) (car .points) 0 all i (omega arith) (omega arith))
-
-pub margin-none : (v : ℕ) (car : Vehicle) → (leb 2 v ≡ false → (i : ℕ) → i < car .points → at (car .m) i ≡ 0) → margin-field v car ≡ none
-unfolding margin-field when _and_
-margin-none v car h =
-    by-test (leb 2 v) (λ l. rw l)
-    (λ l. rw (l, every-all (λ k. eqb (at (car .m) k) 0) (car .points) 0 (λ i a b. eq-eqb _ _ (h l i (omega arith)))))
-
--- a profile is refused of versions 1 and 2 exactly where it is not 0
-no-profile : (v : ℕ) (car : Vehicle) → profile-field v car ≡ none → leb 3 v ≡ false → car .profile ≡ 0
-unfolding profile-field refuse-at
-no-profile v car e l = eqb-true _ _ (not-false _ (and-fails (not (leb 3 v)) _ (rw l) (when-none 3 _ 1 (ap (refuse-at 3) e))))
-
-pub profile-none : (v : ℕ) (car : Vehicle) → (leb 3 v ≡ false → car .profile ≡ 0) → profile-field v car ≡ none
-unfolding profile-field when _and_
-profile-none v car h = by-test (leb 3 v) (λ l. rw l) (λ l. rw (l, eq-eqb _ _ (h l)))
-
 pub writable : (v : ℕ) (car : Vehicle) (vs hs : List ℕ) → checks-fault v car vs hs ≡ none → Writable v car vs hs
-unfolding checks-fault version-fault holds-fault fields-fault seconds-fault checks fault-of bad
+unfolding checks-fault seconds-fault checks fault-of bad
 writable v car vs hs e =
     let one = orelse-none _ _ e in
     let a = orelse-none _ _ (one .1) in
     let b = orelse-none _ _ (a .1) in
     let c = orelse-none _ _ (b .1) in
-    let fields = lower-none _ _ (refuse-none 3 _ (c .0)) in
-    let own = lower-none _ _ (fields .0) in
+    let fields = refuse-none 3 _ (c .0) in
     let four = orelse-none _ _ (c .1) in
     let five = orelse-none _ _ (four .1) in
     let six = orelse-none _ _ (five .1) in
     let seven = orelse-none _ _ (six .1) in
     record {
       known = not-false _ (when-none 14 _ 0 (one .0));
-      bounds = in-bounds car (own .0);
-      plain = no-profile v car (own .1);
-      unmarked = no-margin v car (fields .1);
+      bounds = bounds-in v car fields;
+      plain = no-profile v car fields;
+      unmarked = no-margins v car fields;
       some-second = trace-in vs (a .0) .0;
       not-long = trace-in vs (a .0) .1;
-      even = eqb-true _ _ (not-false _ (when-none 2 _ 0 (b .0)));
+      even = rooms-in vs hs hs (b .0) .0;
       speeds-in = λ i h. ltb-false _ _ (none-first (bad speed car vs hs 0) (length vs - 0) 0 (refuse-none _ _ (four .0)) i (omega arith) (omega arith));
       holds-in = λ i h. driven car (at hs i) (none-first (bad over-ng car vs hs 0) (length vs - 0) 0 (refuse-none _ _ (seven .0)) i (omega arith) (omega arith)) .0;
     }
@@ -134,17 +104,17 @@ table-later l zero lo = refl
 table-later l (suc k) lo = rw (getD-drop 1 l lo 0, one-more lo, table-later l k (suc lo))
 
 -- the columns of points are those that they are of
-column-n : (k : ℕ) (ns ps ms : List ℕ) → map (λ x. x .0) (points-of k ns ps ms) ≡ table (at ns) 0 k
+pub column-n : (k : ℕ) (ns ps ms : List ℕ) → map (λ x. x .0) (points-of k ns ps ms) ≡ table (at ns) 0 k
 unfolding points-of table
 column-n zero ns ps ms = refl
 column-n (suc k) ns ps ms = rw (column-n k (drop 1 ns) (drop 1 ps) (drop 1 ms), table-later ns k 0)
 
-column-p : (k : ℕ) (ns ps ms : List ℕ) → map (λ x. x .1 .0) (points-of k ns ps ms) ≡ table (at ps) 0 k
+pub column-p : (k : ℕ) (ns ps ms : List ℕ) → map (λ x. x .1 .0) (points-of k ns ps ms) ≡ table (at ps) 0 k
 unfolding points-of table
 column-p zero ns ps ms = refl
 column-p (suc k) ns ps ms = rw (column-p k (drop 1 ns) (drop 1 ps) (drop 1 ms), table-later ps k 0)
 
-column-m : (k : ℕ) (ns ps ms : List ℕ) → map (λ x. x .1 .1) (points-of k ns ps ms) ≡ table (at ms) 0 k
+pub column-m : (k : ℕ) (ns ps ms : List ℕ) → map (λ x. x .1 .1) (points-of k ns ps ms) ≡ table (at ms) 0 k
 unfolding points-of table
 column-m zero ns ps ms = refl
 column-m (suc k) ns ps ms = rw (column-m k (drop 1 ns) (drop 1 ps) (drop 1 ms), table-later ms k 0)
@@ -156,17 +126,13 @@ pub shifted : (z : ℤ) → natAbs z ≤ 5000 → (pos (natAbs (z +ℤ pos 5000)
 shifted (pos m) h = (refl, omega arith)
 shifted (negsuc m) h = let k : suc m ≤ 5000 = h in rw (le-ltb 5000 (suc m) k) (refl, omega arith)
 
-shifted-back : (z : ℤ) → natAbs z ≤ 5000 → pos (natAbs (z +ℤ pos 5000)) -ℤ pos 5000 ≡ z
+pub shifted-back : (z : ℤ) → natAbs z ≤ 5000 → pos (natAbs (z +ℤ pos 5000)) -ℤ pos 5000 ≡ z
 shifted-back z h = ap (λ (x : ℤ). x -ℤ pos 5000) (shifted z h .0) ∙ +ℤ-negℤ-cancel z (pos 5000)
 
 module _ (car : Vehicle) (b : InBounds car) where
-  pub cleared-is : vehicle-of (parts-of car) ≡ cleared car
-  unfolding vehicle-of parts-of cleared
-  cleared-is = rw (length-table (at (car .ratio)) 0 (car .ng), points-many (car .points) (car .n) (car .p) (car .m), column-n (car .points) (car .n) (car .p) (car .m), column-p (car .points) (car .n) (car .p) (car .m), column-m (car .points) (car .n) (car .p) (car .m), shifted-back (car .f1) (b .f1-in))
-
   pub same-parts : parts-of (cleared car) ≡ parts-of car
-  unfolding parts-of
-  same-parts = rw (← cleared-is) (parts-back (parts-of car) refl)
+  unfolding parts-of cleared
+  same-parts = parts-back (parts-of car) refl
 
   ratio-small : (i : ℕ) → i < car .ng → at (car .ratio) i ≤ 65535
   unfolding ratio-of
@@ -210,8 +176,8 @@ module _ (car : Vehicle) (b : InBounds car) where
       (λ i h. only-if-takes (leb 2 v) 0 value (at (car .m) i) (omega (arith, b .m-to i h)) (λ l. none-marked l i h)))
 
   pub vehicle-takes : (v : ℕ) → (leb 3 v ≡ false → car .profile ≡ 0) → (leb 2 v ≡ false → (i : ℕ) → i < car .points → at (car .m) i ≡ 0) → vehicle v .Takes (cleared car)
-  unfolding vehicle seen
-  vehicle-takes v plain none-marked = (rw same-parts (parts-take v plain none-marked), rw same-parts cleared-is)
+  unfolding vehicle seen cleared
+  vehicle-takes v plain none-marked = (rw same-parts (parts-take v plain none-marked), rw same-parts refl)
 
 -- ---- a job that passes checks 1 to 9
 
@@ -258,7 +224,7 @@ vehicle-plain v car t l = takes-only-if (leb 3 v) 0 (bounded 0 1 3 1) (car .prof
 -- so its own version takes it where it passes the working's checks
 pub read-passes : (bytes : List ℕ) (a b : ℕ) {j : Job} {end : ℕ} → job-read bytes a b ≡ got j end → job-fault (j .vehicle) (j .speeds) (j .holds) ≡ none
     → checks-fault (j .version) (j .vehicle) (j .speeds) (j .holds) ≡ none
-unfolding job-read job seen stages fields _then_ version bounded checked job-fault checks-fault version-fault fields-fault lower-field vehicle-fault refuse-at
+unfolding job-read job seen stages fields _then_ version bounded checked job-fault checks-fault vehicle-fault bad-field refuse-at
 read-passes bytes a b {j} e ok =
     let t = says-now e (whole-says (job-sound a b) bytes) .0 .0 in
     let one = orelse-none _ _ ok in
@@ -267,25 +233,16 @@ read-passes bytes a b {j} e ok =
     none-orelse _ _ (none-when 14 _ 0 (rw (t .0 .1)))
     ∙ none-orelse _ _ (one .0)
     ∙ none-orelse _ _ (two .0)
-    ∙ none-orelse _ _ (rw (refuse-none 3 (bad-field (j .vehicle)) (three .0), profile-none (j .version) (j .vehicle) (vehicle-plain (j .version) (j .vehicle) (t .1 .0)), margin-none (j .version) (j .vehicle) (vehicle-unmarked (j .version) (j .vehicle) (t .1 .0))))
+    ∙ none-orelse _ _ (rw (same-bounds (j .version) (j .vehicle) (vehicle-plain (j .version) (j .vehicle) (t .1 .0)) (vehicle-unmarked (j .version) (j .vehicle) (t .1 .0))) (three .0))
     ∙ three .1
 
 -- ---- and where there is room
 
--- room is not short
-roomy : (bytes room : List ℕ) → short-fault bytes room ≡ none → length bytes ≤ length room
-unfolding short-fault
-roomy bytes room e = ltb-false _ _ (when-none 17 _ _ e)
-
-pub enough-room : (bytes room : List ℕ) → length bytes ≤ length room → short-fault bytes room ≡ none
-unfolding short-fault
-enough-room bytes room h = none-when 17 _ _ (le-ltb _ _ h)
-
 -- where nothing is refused the job is written
-pub write-none : (v : ℕ) (car : Vehicle) (vs hs room : List ℕ) → write-fault v car vs hs room ≡ none → (checks-fault v car vs hs ≡ none) × (written v car vs hs room ≡ job-bytes v car vs hs)
-unfolding write-fault written left
-write-none v car vs hs room e = (orelse-none _ _ e .0, rw e)
+pub write-none : (v : ℕ) (car : Vehicle) (vs hs room : List ℕ) → write-fault v car vs hs room ≡ none → (checks-fault v car vs hs ≡ none) × (length (job-bytes v car vs hs) ≤ length room)
+unfolding write-fault
+write-none v car vs hs room e = (orelse-none _ _ e .0, ltb-false _ _ (when-none 17 _ _ (orelse-none _ _ e .1)))
 
 pub none-write : (v : ℕ) (car : Vehicle) (vs hs room : List ℕ) → checks-fault v car vs hs ≡ none → length (job-bytes v car vs hs) ≤ length room → write-fault v car vs hs room ≡ none
 unfolding write-fault
-none-write v car vs hs room e h = none-orelse _ _ e ∙ enough-room (job-bytes v car vs hs) room h
+none-write v car vs hs room e h = none-orelse _ _ e ∙ none-when 17 _ _ (le-ltb _ _ h)

@@ -12,56 +12,8 @@ use Rattle.cards.proofs.Reworking.{ready, worked}
 use Rattle.cards.proofs.rework.rework.Statement.{statement}
 use Rattle.cards.proofs.rework.rework.Tie as tie
 
-add-after : tie.Need-add-after
-add-after c = search needs
-
-mul-work-trip : tie.Need-mul-work-trip
-mul-work-trip c = search needs
-
-sub-work-trip : tie.Need-sub-work-trip
-sub-work-trip c = search needs
-
-part-work-trip-start : tie.Need-part-work-trip-start
-part-work-trip-start c = search needs
-
-part-work-trip-end : tie.Need-part-work-trip-end
-part-work-trip-end c = search needs
-
-sub-work-trip-2 : tie.Need-sub-work-trip-2
-sub-work-trip-2 c = search needs
-
-part-work-trip-start-2 : tie.Need-part-work-trip-start-2
-part-work-trip-start-2 c = search needs
-
-part-work-trip-end-2 : tie.Need-part-work-trip-end-2
-part-work-trip-end-2 c = search needs
-
-sub-work-trip-3 : tie.Need-sub-work-trip-3
-sub-work-trip-3 c = search needs
-
-part-work-trip-start-3 : tie.Need-part-work-trip-start-3
-part-work-trip-start-3 c = search needs
-
-part-work-trip-end-3 : tie.Need-part-work-trip-end-3
-part-work-trip-end-3 c = search needs
-
 work-trip-requires : tie.Need-work-trip-requires
 work-trip-requires c κs = let P = c .before .before .before .before .before .before .pre .0 in (P, ready (c .before .before .before .before .before .before .pre .1) (P .lent .has .counts) (c .before .before .before .before .before .before .pre .2 (P .car) (P .lent)))
-
-slice-read-first : tie.Need-slice-read-first
-slice-read-first c = search needs
-
-add-card : tie.Need-add-card
-add-card c = search needs
-
-sub-card : tie.Need-sub-card
-sub-card c = search needs
-
-slice-write-card : tie.Need-slice-write-card
-slice-write-card c = search needs
-
-same-length : tie.Need-same-length
-same-length c = search needs
 
 returns : tie.Need-returns
 returns c = λ car L.
@@ -78,21 +30,21 @@ pub rework-spec : {M : Type 1} → statement M
 rework-spec =
     tie.close
     (tie.spec
-    add-after
-    mul-work-trip
-    sub-work-trip
-    part-work-trip-start
-    part-work-trip-end
-    sub-work-trip-2
-    part-work-trip-start-2
-    part-work-trip-end-2
-    sub-work-trip-3
-    part-work-trip-start-3
-    part-work-trip-end-3
+    (λ c. search needs)
+    (λ c. search needs)
+    (λ c. search needs)
+    (λ c. search needs)
+    (λ c. search needs)
+    (λ c. search needs)
+    (λ c. search needs)
+    (λ c. search needs)
+    (λ c. search needs)
+    (λ c. search needs)
+    (λ c. search needs)
     work-trip-requires
-    slice-read-first
-    add-card
-    sub-card
-    slice-write-card
-    same-length
+    (λ c. search needs)
+    (λ c. search needs)
+    (λ c. search needs)
+    (λ c. search needs)
+    (λ c. search needs)
     returns)

@@ -18,9 +18,6 @@ trip-stop-requires c κs = let A = c .before .before .before .pre .1 .0 in omega
 slice-write-card : tie.Need-slice-write-card
 slice-write-card c = let A = c .before .before .before .before .before .pre .1 .0 in omega (arith, A .in-trace, A .range .room)
 
-same-length : tie.Need-same-length
-same-length c = search needs
-
 returns : tie.Need-returns
 returns c =
     let s = c .before .before .before .before .before in
@@ -34,9 +31,6 @@ rework-requires c κs =
     let A = s .pre .1 .0 in
     let some : stop (s .args .speeds .now) (s .args .i + 1) ≡ s .args .i + 1 → ⊥ = λ e. c .before .if1 .left (c .before .before .trip-stop .ensures ∙ e) in
     (P, rw (c .before .before .trip-stop .ensures) (follows A some (P .car) (s .pre .1 .1 (P .car) (P .lent))), λ car L. rw (c .before .before .trip-stop .ensures) (follows-fit A some car (s .pre .1 .1 car L)))
-
-same-length-2 : tie.Need-same-length-2
-same-length-2 c = search needs
 
 returns-2 : tie.Need-returns-2
 returns-2 c =
@@ -52,8 +46,8 @@ stretch-spec =
     add-a
     trip-stop-requires
     slice-write-card
-    same-length
+    (λ c. search needs)
     returns
     rework-requires
-    same-length-2
+    (λ c. search needs)
     returns-2)

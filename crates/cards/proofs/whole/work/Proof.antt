@@ -29,23 +29,11 @@ counts-at c = record { numbers = sym (c .numbers-of .ensures) }
 parts-at : (c : tie.After-derate) → Of (λ car vs hs old. Lent car (c .before .before .before .before .numbers-of .result) (car .ratio) (car .n) (c .derate .result)) (c .before .before .before .before .before)
 parts-at c = its-parts (counts-at (c .before .before .before .before)) (opened-at (c .before .before .before .before .before)) (c .derate .ensures)
 
-check-opening-requires : tie.Need-check-opening-requires
-check-opening-requires c κs = search needs
-
-enum-told : tie.Need-enum-told
-enum-told c = search needs
-
-enum-told-2 : tie.Need-enum-told-2
-enum-told-2 c = search needs
-
 returns : tie.Need-returns
 returns c =
     let s = c .before .before .before .before .before .before in
     work-opening (s .args .t1) (s .args .speeds .now) (s .args .holds .now) (s .args .card .now)
     (c .before .before .check-opening .ensures _ _ _ refl refl refl) (c .enum-told2 .given .1)
-
-numbers-of-requires : tie.Need-numbers-of-requires
-numbers-of-requires c κs = search needs
 
 derate-requires : tie.Need-derate-requires
 derate-requires c κs = derates _ (opened-at (c .before .before .before .before) .bounds)
@@ -53,51 +41,42 @@ derate-requires c κs = derates _ (opened-at (c .before .before .before .before)
 check-span-requires : tie.Need-check-span-requires
 check-span-requires c κs =
     let O = opened-at (c .before .before .before .before .before .before .before .before .before) in
-    (record { car = _; lent = parts-at (c .before .before .before .before) }, spanned (counts-at (c .before .before .before .before .before .before .before .before)) O (omega arith) (omega arith), whole-resting O)
-
-enum-told-3 : tie.Need-enum-told-3
-enum-told-3 c = search needs
-
-enum-told-4 : tie.Need-enum-told-4
-enum-told-4 c = search needs
+    (record { car = _; lent = parts-at (c .before .before .before .before) }, spanned (counts-at (c .before .before .before .before .before .before .before .before)) O (omega arith) (omega arith), omega arith, whole-resting O 0)
 
 returns-2 : tie.Need-returns-2
 returns-2 c =
     let O = opened-at (c .before .before .before .before .before .before .before .before .before .before .before .before) in
-    work-span O (no-edit O _ 0 _ (c .before .before .check-span .ensures _ (parts-at (c .before .before .before .before .before .before .before)))) (c .enum-told4 .given .1)
+    work-span O (no-edit O _ 0 0 _ (c .before .before .check-span .ensures _ (parts-at (c .before .before .before .before .before .before .before)))) (c .enum-told4 .given .1)
 
 sweep-requires : tie.Need-sweep-requires
 sweep-requires c κs =
     let O = opened-at (c .before .before .before .before .before .before .before .before .before .before .before .before .before .before .before .before .before) in
     let L = parts-at (c .before .before .before .before .before .before .before .before .before .before .before .before) in (
       record { car = _; lent = L },
-      work-range O _ (no-edit O _ 0 _ (c .before .before .before .before .before .before .before .check-span .ensures _ L)) (c .before .before .before .before .before .enum-told3 .given .1),
-      λ car M. work-passes O car (no-edit O car 0 _ (c .before .before .before .before .before .before .before .check-span .ensures car M)) (c .before .before .before .before .before .enum-told3 .given .1),
+      work-range O _ (no-edit O _ 0 0 _ (c .before .before .before .before .before .before .before .check-span .ensures _ L)) (c .before .before .before .before .before .enum-told3 .given .1),
+      λ car M. work-passes O car (no-edit O car 0 0 _ (c .before .before .before .before .before .before .before .check-span .ensures car M)) (c .before .before .before .before .before .enum-told3 .given .1),
     )
-
-same-length : tie.Need-same-length
-same-length c = search needs
 
 returns-3 : tie.Need-returns-3
 returns-3 c =
     let O = opened-at (c .before .before .before .before .before .before .before .before .before .before .before .before .before .before .before .before .before .before .before .before) in
     let L = parts-at (c .before .before .before .before .before .before .before .before .before .before .before .before .before .before .before) in
-    work-done O (no-edit O _ 0 _ (c .before .before .before .before .before .before .before .before .before .before .check-span .ensures _ L)) (c .before .before .before .before .before .before .before .before .enum-told3 .given .1) (c .before .before .sweep .ensures _ L)
+    work-done O (no-edit O _ 0 0 _ (c .before .before .before .before .before .before .before .before .before .before .check-span .ensures _ L)) (c .before .before .before .before .before .before .before .before .enum-told3 .given .1) (c .before .before .sweep .ensures _ L)
 
 pub work-spec : {M : Type 1} → statement M
 work-spec =
     tie.close
     (tie.spec
-    check-opening-requires
-    enum-told
-    enum-told-2
+    (λ c κs. search needs)
+    (λ c. search needs)
+    (λ c. search needs)
     returns
-    numbers-of-requires
+    (λ c κs. search needs)
     derate-requires
     check-span-requires
-    enum-told-3
-    enum-told-4
+    (λ c. search needs)
+    (λ c. search needs)
     returns-2
     sweep-requires
-    same-length
+    (λ c. search needs)
     returns-3)

@@ -14,38 +14,8 @@ Inv-loop speeds span most₀ i₀ most i = (span .lo < i) × AtMost (gap-at spee
 abbrev μ-loop : tie.MeasureT-loop
 μ-loop speeds span most₀ i₀ most i = span .hi - i
 
-add-i : tie.Need-add-i Inv-loop μ-loop
-add-i c = search needs
-
 loop-holds : tie.Need-loop-holds Inv-loop μ-loop
 loop-holds c = let a = c .before .before .args in (omega arith, each-none (λ j. gap-at (a .speeds .now) j ≤ 0) (a .span .lo + 1))
-
-sub-gap : tie.Need-sub-gap Inv-loop μ-loop
-sub-gap c = search needs
-
-mul-gap : tie.Need-mul-gap Inv-loop μ-loop
-mul-gap c = search needs
-
-shared-slice-read-gap : tie.Need-shared-slice-read-gap Inv-loop μ-loop
-shared-slice-read-gap c = search needs
-
-mul-gap-2 : tie.Need-mul-gap-2 Inv-loop μ-loop
-mul-gap-2 c = search needs
-
-shared-slice-read-gap-2 : tie.Need-shared-slice-read-gap-2 Inv-loop μ-loop
-shared-slice-read-gap-2 c = search needs
-
-gap-requires : tie.Need-gap-requires Inv-loop μ-loop
-gap-requires c κs = search needs
-
-larger-requires : tie.Need-larger-requires Inv-loop μ-loop
-larger-requires c κs = search needs
-
-add-i-2 : tie.Need-add-i-2 Inv-loop μ-loop
-add-i-2 c = search needs
-
-loop-less : tie.Need-loop-less Inv-loop μ-loop
-loop-less c = search needs
 
 loop-again : tie.Need-loop-again Inv-loop μ-loop
 loop-again c =
@@ -62,16 +32,16 @@ steepest-spec =
     (tie.spec
     Inv-loop
     μ-loop
-    add-i
+    (λ c. search needs)
     loop-holds
-    sub-gap
-    mul-gap
-    shared-slice-read-gap
-    mul-gap-2
-    shared-slice-read-gap-2
-    gap-requires
-    larger-requires
-    add-i-2
-    loop-less
+    (λ c. search needs)
+    (λ c. search needs)
+    (λ c. search needs)
+    (λ c. search needs)
+    (λ c. search needs)
+    (λ c κs. search needs)
+    (λ c κs. search needs)
+    (λ c. search needs)
+    (λ c. search needs)
     loop-again
     returns)

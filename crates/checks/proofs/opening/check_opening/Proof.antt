@@ -1,28 +1,19 @@
 -- `checks::opening::check_opening` meets its contract. One line for each return.
 -- Assumes nothing.
+use Rattle.rules.specs.Units.{bad-field}
+use Rattle.rules.specs.Refusals.{vehicle-fault}
 use Rattle.checks.proofs.Rows.{opening-lengths, opening-vehicle}
 use borrow.Author.Needs.{needs}
 use Rattle.checks.proofs.opening.check_opening.Statement.{statement}
 use Rattle.checks.proofs.opening.check_opening.Tie as tie
-
-check-lengths-requires : tie.Need-check-lengths-requires
-check-lengths-requires c κs = search needs
-
-enum-told : tie.Need-enum-told
-enum-told c = search needs
-
-enum-told-2 : tie.Need-enum-told-2
-enum-told-2 c = search needs
 
 returns : tie.Need-returns
 returns c vs hs old l h o =
     let s = c .before .before .before in
     opening-lengths vs hs old (s .args .vehicle) (c .before .before .check-lengths .ensures vs hs old l h o) (c .enum-told2 .given .1)
 
-check-vehicle-requires : tie.Need-check-vehicle-requires
-check-vehicle-requires c κs = search needs
-
 returns-2 : tie.Need-returns-2
+unfolding vehicle-fault bad-field
 returns-2 c vs hs old l h o =
     let p = c .before in
     opening-vehicle vs hs old (p .before .before .before .args .vehicle) (c .check-vehicle .result)
@@ -32,9 +23,9 @@ pub check-opening-spec : {M : Type 1} → statement M
 check-opening-spec =
     tie.close
     (tie.spec
-    check-lengths-requires
-    enum-told
-    enum-told-2
+    (λ c κs. search needs)
+    (λ c. search needs)
+    (λ c. search needs)
     returns
-    check-vehicle-requires
+    (λ c κs. search needs)
     returns-2)

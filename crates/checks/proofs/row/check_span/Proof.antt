@@ -2,31 +2,22 @@
 -- Assumes nothing.
 use mathlib.Core.Path.{sym, _∙_}
 use borrow.Author.Needs.{needs}
-use Rattle.rules.specs.Refusals.{span-fault}
-use Rattle.rules.proofs.Laws.Checks.{none-orelse}
+use Rattle.rules.proofs.Laws.Checks.{none-orelse, gears-last}
 use Rattle.checks.proofs.Rows.{said-first, said-none}
 use Rattle.checks.proofs.row.check_span.Statement.{statement}
 use Rattle.checks.proofs.row.check_span.Tie as tie
 
-check-seconds-requires : tie.Need-check-seconds-requires
-check-seconds-requires c κs = search needs
-
-enum-told : tie.Need-enum-told
-enum-told c = search needs
-
-enum-told-2 : tie.Need-enum-told-2
-enum-told-2 c = search needs
-
 returns : tie.Need-returns
-unfolding span-fault
-returns c = λ car L. said-first _ (c .before .before .check-seconds .ensures car (L .has)) (c .enum-told2 .given .1)
+returns c = λ car L. said-first _ (c .before .before .check-seconds .ensures car (L .has)) (c .enum-told2 .given .1) ∙ sym (gears-last car _ _ _ _)
 
 check-gears-requires : tie.Need-check-gears-requires
-check-gears-requires c κs = let s = c .before .before .before .before .before in (s .pre .0, s .pre .1, s .pre .2, λ car H. sym (said-none (c .before .before .check-seconds .ensures car H) (c .enum-told .given .1)))
+check-gears-requires c κs = let s = c .before .before .before .before .before in (s .pre .0, s .pre .1, s .pre .2, s .pre .3, λ car H. sym (said-none (c .before .before .check-seconds .ensures car H) (c .enum-told .given .1)))
 
 returns-2 : tie.Need-returns-2
-unfolding span-fault
-returns-2 c = λ car L. c .check-gears .ensures car L ∙ sym (none-orelse _ _ (said-none (c .before .before .before .check-seconds .ensures car (L .has)) (c .before .enum-told .given .1)))
+returns-2 c =
+    λ car L. c .check-gears .ensures car L
+    ∙ sym (none-orelse _ _ (said-none (c .before .before .before .check-seconds .ensures car (L .has)) (c .before .enum-told .given .1)))
+    ∙ sym (gears-last car _ _ _ _)
 
 pub check-span-spec : {M : Type 1} → statement M
-check-span-spec = tie.close (tie.spec check-seconds-requires enum-told enum-told-2 returns check-gears-requires returns-2)
+check-span-spec = tie.close (tie.spec (λ c κs. search needs) (λ c. search needs) (λ c. search needs) returns check-gears-requires returns-2)

@@ -4,51 +4,44 @@ use Prim.Native.Nat.{ℕ, _+_}
 use native.Mathlib.Omega.{arith}
 use mathlib.Core.Path.{_≡_, ap, _∙_}
 use mathlib.Core.Bool.{Bool}
-use lib.ListN.{length, set, length-set}
+use lib.ListN.{length, set}
 use borrow.Author.Needs.{needs}
 use Rattle.rules.specs.Words.{at}
 use Rattle.rules.specs.Units.{moving}
+use Rattle.checks.specs.Asked.{speeds-with}
+use Rattle.checks.proofs.Through.{length-speeds}
 use Rattle.checks.proofs.Scans.{not-so, so}
 use Rattle.checks.proofs.Tests.{ends-standing, ends-first, ends-last, ends-between}
 use Rattle.checks.proofs.seconds.end_moving.Statement.{statement}
 use Rattle.checks.proofs.seconds.end_moving.Tie as tie
 
-speed-at-requires : tie.Need-speed-at-requires
-speed-at-requires c κs = search needs
-
-moving-requires : tie.Need-moving-requires
-moving-requires c κs = search needs
-
 -- what `moving` said, it said of the second
-said-here : (c : tie.After-moving) → c .moving .result ≡ moving (at (set (c .before .before .before .args .speeds .now) (c .before .before .before .args .sample .second) (c .before .before .before .args .sample .speed)) (c .before .before .before .args .i))
+said-here : (c : tie.After-moving) → c .moving .result ≡ moving (at (set (c .before .before .before .args .speeds .now) (c .before .before .before .args .asked .second) (c .before .before .before .args .asked .speed)) (c .before .before .before .args .i))
 said-here c = c .moving .ensures ∙ ap moving (c .before .speed-at .ensures)
 
 returns : tie.Need-returns
 returns c = λ car hs lo.
     let a = c .before .before .before .before .args in
-    ends-standing car (set (a .speeds .now) (a .sample .second) (a .sample .speed)) hs lo (a .i) (not-so (said-here (c .before)) (c .if1 .taken))
+    ends-standing car (speeds-with (a .asked) (a .speeds .now)) hs lo (a .i) (not-so (said-here (c .before)) (c .if1 .taken))
 
 returns-2 : tie.Need-returns-2
 returns-2 c = λ car hs lo.
     let a = c .before .before .before .before .before .args in
-    ends-first car (set (a .speeds .now) (a .sample .second) (a .sample .speed)) hs lo (a .i) (so (said-here (c .before .before)) (c .before .if1 .left)) (omega arith)
-
-add-if3 : tie.Need-add-if3
-add-if3 c = search needs
+    ends-first car (speeds-with (a .asked) (a .speeds .now)) hs lo (a .i) (so (said-here (c .before .before)) (c .before .if1 .left)) (omega arith)
 
 returns-3 : tie.Need-returns-3
 returns-3 c = λ car hs lo.
     let a = c .before .before .before .before .before .before .args in
-    let vs = set (a .speeds .now) (a .sample .second) (a .sample .speed) in
-    let l : length vs ≡ length (a .speeds .now) = length-set (a .speeds .now) (a .sample .second) (a .sample .speed) in
+    let vs = speeds-with (a .asked) (a .speeds .now) in
+    let l : length vs ≡ length (a .speeds .now) = length-speeds (a .asked) (a .speeds .now) in
     ends-last car vs hs lo (a .i) (so (said-here (c .before .before .before)) (c .before .before .if1 .left)) (λ z. omega arith) (omega arith)
 
 returns-4 : tie.Need-returns-4
 returns-4 c = λ car hs lo.
     let a = c .before .before .before .before .before .before .args in
-    let vs = set (a .speeds .now) (a .sample .second) (a .sample .speed) in
-    let l : length vs ≡ length (a .speeds .now) = length-set (a .speeds .now) (a .sample .second) (a .sample .speed) in
+    let vs = speeds-with (a .asked) (a .speeds .now) in
+    let l : length vs ≡ length (a .speeds .now) = length-speeds (a .asked) (a .speeds .now) in
     ends-between car vs hs lo (a .i) (so (said-here (c .before .before .before)) (c .before .before .if1 .left)) (λ z. omega arith) (λ z. omega arith)
 
 pub end-moving-spec : {M : Type 1} → statement M
-end-moving-spec = tie.close (tie.spec speed-at-requires moving-requires returns returns-2 add-if3 returns-3 returns-4)
+end-moving-spec = tie.close (tie.spec (λ c κs. search needs) (λ c κs. search needs) returns returns-2 (λ c. search needs) returns-3 returns-4)

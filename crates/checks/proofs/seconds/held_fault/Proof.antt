@@ -14,9 +14,6 @@ use Rattle.checks.proofs.Tests.{held-over, held-standing, held-over-rev
 use Rattle.checks.proofs.seconds.held_fault.Statement.{statement}
 use Rattle.checks.proofs.seconds.held_fault.Tie as tie
 
-not-driven-requires : tie.Need-not-driven-requires
-not-driven-requires c κs = search needs
-
 returns : tie.Need-returns
 returns c = λ car H vs hs lo i e h. held-over H vs hs lo i h (sym (c .if1 .taken) ∙ c .before .not-driven .ensures .1 car (H .counts))
 
@@ -24,15 +21,9 @@ returns c = λ car H vs hs lo i e h. held-over H vs hs lo i h (sym (c .if1 .take
 driven : (c : tie.Else1) (car : Vehicle) → Has car (c .before .before .args .k) (c .before .before .args .ratio .now) → false ≡ not-driven car (c .before .before .args .held)
 driven c car H = sym (c .if1 .left) ∙ c .before .not-driven .ensures .1 car (H .counts)
 
-moving-requires : tie.Need-moving-requires
-moving-requires c κs = search needs
-
 returns-2 : tie.Need-returns-2
 returns-2 c = λ car H vs hs lo i e h.
     held-standing H vs hs lo i h (λ z. omega arith) (driven (c .before .before) car H) (ap moving e ∙ not-so (c .before .moving .ensures) (c .if2 .taken))
-
-top-requires : tie.Need-top-requires
-top-requires c κs = search needs
 
 engine-requires : tie.Need-engine-requires
 engine-requires c κs =
@@ -48,4 +39,4 @@ returns-4 c = λ car H vs hs lo i e h.
     held-good H vs hs lo i h (λ z. omega arith) (driven (c .before .before .before .before .before) car H) (ap moving e ∙ so (c .before .before .before .before .moving .ensures) (c .before .before .before .if2 .left)) (rw e (omega arith))
 
 pub held-fault-spec : {M : Type 1} → statement M
-held-fault-spec = tie.close (tie.spec not-driven-requires returns moving-requires returns-2 top-requires engine-requires returns-3 returns-4)
+held-fault-spec = tie.close (tie.spec (λ c κs. search needs) returns (λ c κs. search needs) returns-2 (λ c κs. search needs) engine-requires returns-3 returns-4)

@@ -10,16 +10,13 @@ use Rattle.checks.proofs.seconds.hold_at.Tie as tie
 returns : tie.Need-returns
 returns c =
     let a = c .before .before .args in
-    let e : a .i ≡ a .hold .second = omega arith in
-    rw e (sym (getD-set-same (a .holds .now) (a .hold .second) (a .hold .gear) 0 (omega arith)))
-
-shared-slice-read-result : tie.Need-shared-slice-read-result
-shared-slice-read-result c = search needs
+    let e : a .i ≡ a .asked .second = omega arith in
+    rw e (sym (getD-set-same (a .holds .now) (a .asked .second) (a .asked .gear) 0 (omega arith)))
 
 returns-2 : tie.Need-returns-2
 returns-2 c =
     let a = c .before .before .before .args in
-    sym (getD-set-other (a .holds .now) (a .hold .second) (a .i) (a .hold .gear) 0 (λ z. omega arith))
+    sym (getD-set-other (a .holds .now) (a .asked .second) (a .i) (a .asked .gear) 0 (λ z. omega arith))
 
 pub hold-at-spec : {M : Type 1} → statement M
-hold-at-spec = tie.close (tie.spec returns shared-slice-read-result returns-2)
+hold-at-spec = tie.close (tie.spec returns (λ c. search needs) returns-2)

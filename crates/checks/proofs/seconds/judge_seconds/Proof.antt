@@ -4,46 +4,34 @@ use Prim.Native.Nat.{ℕ, _-_}
 use native.Mathlib.Omega.{arith}
 use mathlib.Core.Path.{_≡_, sym, _∙_}
 use mathlib.Core.Logic.{⊎-elim}
-use lib.ListN.{set}
 use borrow.Author.Needs.{needs}
 use Rattle.rules.specs.declared.Vehicle.{Vehicle}
 use Rattle.rules.specs.Refusals.{checks, seconds-fault}
 use Rattle.gears.specs.Parts.{Has}
 use Rattle.gears.proofs.Parts.{built, built-has}
 use Rattle.checks.specs.Checks.{fault-no}
+use Rattle.checks.specs.Asked.{speeds-with, holds-with}
 use Rattle.checks.proofs.OnePass.{Kept, begin, lower, no-lower, done, table-rises}
 use Rattle.checks.proofs.seconds.judge_seconds.Statement.{statement}
 use Rattle.checks.proofs.seconds.judge_seconds.Tie as tie
 
 abbrev Inv-loop : tie.InvT-loop
-Inv-loop k ratio speeds holds sample hold span best₀ place₀ i₀ best place i =
-    Kept (λ car. Has car k ratio) checks (set speeds (sample .second) (sample .speed)) (set holds (hold .second) (hold .gear)) (span .lo) (span .hi) i best place
+Inv-loop k ratio speeds holds asked span best₀ place₀ i₀ best place i =
+    Kept (λ car. Has car k ratio) checks (speeds-with asked speeds) (holds-with asked holds) (span .lo) (span .hi) i best place
 
 abbrev μ-loop : tie.MeasureT-loop
-μ-loop k ratio speeds holds sample hold span best₀ place₀ i₀ best place i = span .hi - i
+μ-loop k ratio speeds holds asked span best₀ place₀ i₀ best place i = span .hi - i
 
 loop-holds : tie.Need-loop-holds Inv-loop μ-loop
 loop-holds c = begin _ _ (omega arith)
-
-hold-at-requires : tie.Need-hold-at-requires Inv-loop μ-loop
-hold-at-requires c κs = search needs
-
-fault-at-requires : tie.Need-fault-at-requires Inv-loop μ-loop
-fault-at-requires c κs = search needs
-
-add-i : tie.Need-add-i Inv-loop μ-loop
-add-i c = search needs
-
-loop-less : tie.Need-loop-less Inv-loop μ-loop
-loop-less c = search needs
 
 loop-again : tie.Need-loop-again Inv-loop μ-loop
 loop-again c =
     let s = c .before .before .before .before .before .before .before .before in
     let a = s .args in
     let l = c .before .before .before .before .before .loop in
-    let vs = set (a .speeds .now) (a .sample .second) (a .sample .speed) in
-    let hs = set (a .holds .now) (a .hold .second) (a .hold .gear) in
+    let vs = speeds-with (a .asked) (a .speeds .now) in
+    let hs = holds-with (a .asked) (a .holds .now) in
     let is : (car : Vehicle) → Has car (a .k) (a .ratio .now) → c .before .fault-at .result ≡ fault-no car vs hs (a .span .lo) (l .i) checks =
     λ car H. c .before .fault-at .ensures car H hs (sym (c .before .before .hold-at .ensures)) in
     let one = built (a .k) (a .ratio .now) in
@@ -53,12 +41,9 @@ loop-again c =
     (λ w. no-lower _ _ table-rises (l .inv) one is-one is (omega arith) (omega arith) (omega arith) (omega arith))
     (c .if2 .came)
 
-answer-of-requires : tie.Need-answer-of-requires Inv-loop μ-loop
-answer-of-requires c κs = search needs
-
 returns : tie.Need-returns Inv-loop μ-loop
 unfolding seconds-fault
 returns c = λ car H. c .answer-of .ensures ∙ done _ _ (c .before .before .before .loop .inv) (omega arith) car H
 
 pub judge-seconds-spec : {M : Type 1} → statement M
-judge-seconds-spec = tie.close (tie.spec Inv-loop μ-loop loop-holds hold-at-requires fault-at-requires add-i loop-less loop-again answer-of-requires returns)
+judge-seconds-spec = tie.close (tie.spec Inv-loop μ-loop loop-holds (λ c κs. search needs) (λ c κs. search needs) (λ c. search needs) (λ c. search needs) loop-again (λ c κs. search needs) returns)

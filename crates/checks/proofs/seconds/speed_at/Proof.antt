@@ -10,19 +10,13 @@ use Rattle.checks.proofs.seconds.speed_at.Tie as tie
 returns : tie.Need-returns
 returns c =
     let a = c .before .before .args in
-    let e : a .i ≡ a .sample .second = omega arith in
-    rw e (sym (getD-set-same (a .speeds .now) (a .sample .second) (a .sample .speed) 0 (omega arith)))
-
-mul-result : tie.Need-mul-result
-mul-result c = search needs
-
-shared-slice-read-result : tie.Need-shared-slice-read-result
-shared-slice-read-result c = search needs
+    let e : a .i ≡ a .asked .second = omega arith in
+    rw e (sym (getD-set-same (a .speeds .now) (a .asked .second) (a .asked .speed) 0 (omega arith)))
 
 returns-2 : tie.Need-returns-2
 returns-2 c =
     let a = c .before .before .before .args in
-    sym (getD-set-other (a .speeds .now) (a .sample .second) (a .i) (a .sample .speed) 0 (λ z. omega arith))
+    sym (getD-set-other (a .speeds .now) (a .asked .second) (a .i) (a .asked .speed) 0 (λ z. omega arith))
 
 pub speed-at-spec : {M : Type 1} → statement M
-speed-at-spec = tie.close (tie.spec returns mul-result shared-slice-read-result returns-2)
+speed-at-spec = tie.close (tie.spec returns (λ c. search needs) (λ c. search needs) returns-2)

@@ -2,9 +2,9 @@
 -- Assumes nothing.
 use Prim.Native.Nat.{ℕ}
 use mathlib.Core.List.{List}
-use lib.ListN.{set}
 use native.Mathlib.Omega.{arith}
 use borrow.Author.Needs.{needs}
+use Rattle.checks.specs.Asked.{speeds-with}
 use Rattle.checks.proofs.Tests.{step-out, step-large, step-small}
 use Rattle.checks.proofs.seconds.step_over.Statement.{statement}
 use Rattle.checks.proofs.seconds.step_over.Tie as tie
@@ -12,29 +12,17 @@ use Rattle.checks.proofs.seconds.step_over.Tie as tie
 returns : tie.Need-returns
 returns c = λ car hs.
     let a = c .before .before .args in
-    step-out car (set (a .speeds .now) (a .sample .second) (a .sample .speed)) hs (a .lo) (a .i) (omega arith)
-
-sub-speed-at : tie.Need-sub-speed-at
-sub-speed-at c = search needs
-
-speed-at-requires : tie.Need-speed-at-requires
-speed-at-requires c κs = search needs
-
-speed-at-requires-2 : tie.Need-speed-at-requires-2
-speed-at-requires-2 c κs = search needs
-
-gap-requires : tie.Need-gap-requires
-gap-requires c κs = search needs
+    step-out car (speeds-with (a .asked) (a .speeds .now)) hs (a .lo) (a .i) (omega arith)
 
 returns-2 : tie.Need-returns-2
 returns-2 c = λ car hs.
     let a = c .before .before .before .before .before .before .args in
-    step-large car (set (a .speeds .now) (a .sample .second) (a .sample .speed)) hs (a .lo) (a .i) (omega arith) (omega arith)
+    step-large car (speeds-with (a .asked) (a .speeds .now)) hs (a .lo) (a .i) (omega arith) (omega arith)
 
 returns-3 : tie.Need-returns-3
 returns-3 c = λ car hs.
     let a = c .before .before .before .before .before .before .args in
-    step-small car (set (a .speeds .now) (a .sample .second) (a .sample .speed)) hs (a .lo) (a .i) (omega arith) (omega arith)
+    step-small car (speeds-with (a .asked) (a .speeds .now)) hs (a .lo) (a .i) (omega arith) (omega arith)
 
 pub step-over-spec : {M : Type 1} → statement M
-step-over-spec = tie.close (tie.spec returns sub-speed-at speed-at-requires speed-at-requires-2 gap-requires returns-2 returns-3)
+step-over-spec = tie.close (tie.spec returns (λ c. search needs) (λ c κs. search needs) (λ c κs. search needs) (λ c κs. search needs) returns-2 returns-3)

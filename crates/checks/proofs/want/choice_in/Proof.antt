@@ -1,8 +1,9 @@
 -- `checks::want::choice_in` meets its contract: what is handed on is what the second is, with the speed that follows.
 -- Assumes nothing.
 use native.Mathlib.Omega.{arith}
-use lib.ListN.{set, length-set}
 use borrow.Author.Needs.{needs}
+use Rattle.checks.specs.Asked.{holds-with}
+use Rattle.checks.proofs.Through.{length-speeds, length-holds}
 use Rattle.checks.proofs.Dry.{one-aligned, one-paced, way-choice}
 use Rattle.checks.proofs.want.choice_in.Statement.{statement}
 use Rattle.checks.proofs.want.choice_in.Tie as tie
@@ -11,37 +12,25 @@ speed-at-requires : tie.Need-speed-at-requires
 speed-at-requires c κs =
     let s = c .before .before in
     let a = s .args in
-    omega (arith, s .pre .1 .until, s .pre .1 .trip .inside, length-set (a .speeds .now) (a .sample .second) (a .sample .speed))
+    omega (arith, s .pre .1 .until, s .pre .1 .trip .inside, length-speeds (a .asked) (a .speeds .now))
 
 add-speed-at : tie.Need-add-speed-at
 add-speed-at c =
     let s = c .before .before .before in
     let a = s .args in
-    omega (arith, s .pre .1 .until, s .pre .1 .trip .inside, length-set (a .speeds .now) (a .sample .second) (a .sample .speed))
+    omega (arith, s .pre .1 .until, s .pre .1 .trip .inside, length-speeds (a .asked) (a .speeds .now))
 
 speed-at-requires-2 : tie.Need-speed-at-requires-2
 speed-at-requires-2 c κs =
     let s = c .before .before .before in
     let a = s .args in
-    omega (arith, s .pre .1 .until, s .pre .1 .trip .inside, length-set (a .speeds .now) (a .sample .second) (a .sample .speed))
+    omega (arith, s .pre .1 .until, s .pre .1 .trip .inside, length-speeds (a .asked) (a .speeds .now))
 
 hold-at-requires : tie.Need-hold-at-requires
 hold-at-requires c κs = let W = c .before .before .before .before .pre .1 in omega (arith, W .until, W .trip .inside, W .rooms)
 
 sub-run-left : tie.Need-sub-run-left
 sub-run-left c = let W = c .before .before .before .before .before .pre .1 in omega (arith, W .since)
-
-run-left-requires : tie.Need-run-left-requires
-run-left-requires c = search needs
-
-slice-aggregate-first-choices : tie.Need-slice-aggregate-first-choices
-slice-aggregate-first-choices c = search needs
-
-slice-aggregate-first-choices-2 : tie.Need-slice-aggregate-first-choices-2
-slice-aggregate-first-choices-2 c = search needs
-
-slice-aggregate-first-choices-3 : tie.Need-slice-aggregate-first-choices-3
-slice-aggregate-first-choices-3 c = search needs
 
 first-choices-requires : tie.Need-first-choices-requires
 first-choices-requires c κs =
@@ -51,14 +40,11 @@ first-choices-requires c κs =
       one-aligned _ _ _ _,
     )
 
-array-read-result : tie.Need-array-read-result
-array-read-result c = search needs
-
 returns : tie.Need-returns
 returns c = λ car L last.
     let s = c .before .before .before .before .before .before .before .before .before .before .before in
     let a = s .args in
-    way-choice (s .pre .1) car (set (a .holds .now) (a .hold .second) (a .hold .gear)) (length-set (a .holds .now) (a .hold .second) (a .hold .gear)) last
+    way-choice (s .pre .1) car (holds-with (a .asked) (a .holds .now)) (length-holds (a .asked) (a .holds .now)) last
     (c .before .before .before .before .before .before .before .before .speed-at .ensures)
     (c .before .before .before .before .before .before .before .speed-at2 .ensures)
     (c .before .before .before .before .before .before .hold-at .ensures)
@@ -74,10 +60,10 @@ choice-in-spec =
     speed-at-requires-2
     hold-at-requires
     sub-run-left
-    run-left-requires
-    slice-aggregate-first-choices
-    slice-aggregate-first-choices-2
-    slice-aggregate-first-choices-3
+    (λ c. search needs)
+    (λ c. search needs)
+    (λ c. search needs)
+    (λ c. search needs)
     first-choices-requires
-    array-read-result
+    (λ c. search needs)
     returns)

@@ -18,47 +18,17 @@ Inv-loop k ratio ng j₀ j = (j₀ ≡ low-in k) × (low-in k ≤ j) × Each (Fo
 abbrev μ-loop : tie.MeasureT-loop
 μ-loop k ratio ng j₀ j = ng - j
 
-cast-ng : tie.Need-cast-ng Inv-loop μ-loop
-cast-ng c = search needs
-
-lowest-requires : tie.Need-lowest-requires Inv-loop μ-loop
-lowest-requires c κs = search needs
-
 loop-holds : tie.Need-loop-holds Inv-loop μ-loop
 loop-holds c =
     let a = c .before .before .args in
     let o = c .lowest .ensures in
     (o, omega (arith, o), rw o (each-none (Follows (a .k) (a .ratio .now)) (low-in (a .k))))
 
-add-hands-on : tie.Need-add-hands-on Inv-loop μ-loop
-add-hands-on c = search needs
-
-sub-hands-on : tie.Need-sub-hands-on Inv-loop μ-loop
-sub-hands-on c = search needs
-
-mul-hands-on : tie.Need-mul-hands-on Inv-loop μ-loop
-mul-hands-on c = search needs
-
-element-copy-out-hands-on : tie.Need-element-copy-out-hands-on Inv-loop μ-loop
-element-copy-out-hands-on c = search needs
-
-mul-hands-on-2 : tie.Need-mul-hands-on-2 Inv-loop μ-loop
-mul-hands-on-2 c = search needs
-
-element-copy-out-hands-on-2 : tie.Need-element-copy-out-hands-on-2 Inv-loop μ-loop
-element-copy-out-hands-on-2 c = search needs
-
 hands-on-requires : tie.Need-hands-on-requires Inv-loop μ-loop
 hands-on-requires c κs = record { from = omega (arith, c .before .before .before .loop .inv .1); rated-from = c .before .before .before .before .before .before .pre .rated-from }
 
 returns : tie.Need-returns Inv-loop μ-loop
 returns c = λ e. clash e refl
-
-add-j : tie.Need-add-j Inv-loop μ-loop
-add-j c = search needs
-
-loop-less : tie.Need-loop-less Inv-loop μ-loop
-loop-less c = search needs
 
 loop-again : tie.Need-loop-again Inv-loop μ-loop
 loop-again c =
@@ -70,4 +40,4 @@ returns-2 : tie.Need-returns-2 Inv-loop μ-loop
 returns-2 c = λ e g a b. c .before .loop .inv .2 g a (omega arith)
 
 pub covered-spec : {M : Type 1} → statement M
-covered-spec = tie.close (tie.spec Inv-loop μ-loop cast-ng lowest-requires loop-holds add-hands-on sub-hands-on mul-hands-on element-copy-out-hands-on mul-hands-on-2 element-copy-out-hands-on-2 hands-on-requires returns add-j loop-less loop-again returns-2)
+covered-spec = tie.close (tie.spec Inv-loop μ-loop (λ c. search needs) (λ c κs. search needs) loop-holds (λ c. search needs) (λ c. search needs) (λ c. search needs) (λ c. search needs) (λ c. search needs) (λ c. search needs) hands-on-requires returns (λ c. search needs) (λ c. search needs) loop-again returns-2)

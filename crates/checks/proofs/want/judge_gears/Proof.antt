@@ -4,7 +4,6 @@ use Prim.Native.Nat.{_+_, _-_, _≤_, _<_}
 use native.Mathlib.Omega.{arith}
 use mathlib.Core.Path.{_≡_, refl, sym, _∙_}
 use mathlib.Core.Bool.{false}
-use lib.ListN.{set, length-set}
 use borrow.Author.Needs.{needs}
 use Rattle.rules.specs.declared.Vehicle.{Vehicle}
 use Rattle.rules.specs.Words.{at, first}
@@ -13,6 +12,8 @@ use Rattle.rules.specs.Refusals.{said, no-gear, bad}
 use Rattle.rules.proofs.Laws.Trips.{stop-le, stop-after}
 use Rattle.rules.proofs.Laws.Walk.{Left, start, stops, ends, again}
 use Rattle.gears.specs.Parts.{Lent}
+use Rattle.checks.specs.Asked.{speeds-with, holds-with}
+use Rattle.checks.proofs.Through.{length-speeds}
 use Rattle.checks.proofs.Tests.{gear-standing}
 use Rattle.checks.proofs.Wanting.{wanted, not-wanted}
 use Rattle.checks.proofs.Dry.{passes-over, stop-by, ahead}
@@ -20,25 +21,25 @@ use Rattle.checks.proofs.want.judge_gears.Statement.{statement}
 use Rattle.checks.proofs.want.judge_gears.Tie as tie
 
 abbrev Inv-loop : tie.InvT-loop
-Inv-loop k ratio n p speeds holds sample hold span a₀ a =
-    (span .lo < a) × (a ≤ span .hi) × (moving (at (set speeds (sample .second) (sample .speed)) (a - 1)) ≡ false) × ((car : Vehicle) → Lent car k ratio n p
-    → let q = bad no-gear car (set speeds (sample .second) (sample .speed)) (set holds (hold .second) (hold .gear)) (span .lo) in Left q a (span .hi) (first q (span .lo) (span .hi - span .lo)))
+Inv-loop k ratio n p speeds holds asked span a₀ a =
+    (span .lo < a) × (a ≤ span .hi) × (moving (at (speeds-with asked speeds) (a - 1)) ≡ false) × ((car : Vehicle) → Lent car k ratio n p
+    → let q = bad no-gear car (speeds-with asked speeds) (holds-with asked holds) (span .lo) in Left q a (span .hi) (first q (span .lo) (span .hi - span .lo)))
 
 abbrev μ-loop : tie.MeasureT-loop
-μ-loop k ratio n p speeds holds sample hold span a₀ a = span .hi - a
+μ-loop k ratio n p speeds holds asked span a₀ a = span .hi - a
 
 -- where the trip that begins at second a ends, inside the span
-inside : (c : tie.After-stop-with Inv-loop μ-loop) → c .stop-with .result < c .before .before .before .before .before .before .before .args .span .hi
+inside : (c : tie.After-stop-asked Inv-loop μ-loop) → c .stop-asked .result < c .before .before .before .before .before .before .before .args .span .hi
 inside c =
     let s = c .before .before .before .before .before .before .before in
     let l = c .before .before .before .loop in
-    rw (c .stop-with .ensures) (stop-by (s .pre .1) (l .inv .0) (omega arith) (l .inv .2))
+    rw (c .stop-asked .ensures) (stop-by (s .pre .1) (l .inv .0) (omega arith) (l .inv .2))
 
 add-a : tie.Need-add-a Inv-loop μ-loop
 add-a c =
     let s = c .before .before .before in
     let a = s .args in
-    omega (arith, s .pre .1 .rest .some, s .pre .1 .inside, length-set (a .speeds .now) (a .sample .second) (a .sample .speed))
+    omega (arith, s .pre .1 .rest .some, s .pre .1 .inside, length-speeds (a .asked) (a .speeds .now))
 
 loop-holds : tie.Need-loop-holds Inv-loop μ-loop
 loop-holds c =
@@ -47,18 +48,18 @@ loop-holds c =
     let x : s .args .span .lo + 1 - 1 ≡ s .args .span .lo = omega arith in
     (omega arith, omega (arith, rest .some), rw x (rest .first), λ car L. again (start refl) (rest .some) (sym (gear-standing car _ _ _ _ (rest .first))))
 
-stop-with-requires : tie.Need-stop-with-requires Inv-loop μ-loop
-stop-with-requires c κs =
+stop-asked-requires : tie.Need-stop-asked-requires Inv-loop μ-loop
+stop-asked-requires c κs =
     let s = c .before .before .before .before .before .before in
     let a = s .args in
-    omega (arith, s .pre .1 .inside, length-set (a .speeds .now) (a .sample .second) (a .sample .speed))
+    omega (arith, s .pre .1 .inside, length-speeds (a .asked) (a .speeds .now))
 
 wanting-requires : tie.Need-wanting-requires Inv-loop μ-loop
 wanting-requires c κs =
     let s = c .before .before .before .before .before .before .before in
     let l = c .before .before .before .loop in
     let a = s .args in
-    (s .pre .0, rw (c .stop-with .ensures) (ahead (s .pre .1) (l .inv .0) (omega arith) (l .inv .2)), s .pre .1 .rooms ∙ length-set (a .speeds .now) (a .sample .second) (a .sample .speed))
+    (s .pre .0, rw (c .stop-asked .ensures) (ahead (s .pre .1) (l .inv .0) (omega arith) (l .inv .2)), s .pre .1 .rooms ∙ length-speeds (a .asked) (a .speeds .now))
 
 returns : tie.Need-returns Inv-loop μ-loop
 unfolding said
@@ -67,7 +68,7 @@ returns c = λ car L.
     let l = c .before .before .before .before .before .loop in
     let F = c .before .wanting .ensures car L (a .span .lo) in
     let h = inside (c .before .before) in
-    wanted car (set (a .speeds .now) (a .sample .second) (a .sample .speed)) (set (a .holds .now) (a .hold .second) (a .hold .gear)) (a .span .lo) (a .span .hi) (c .before .wanting .result)
+    wanted car (speeds-with (a .asked) (a .speeds .now)) (holds-with (a .asked) (a .holds .now)) (a .span .lo) (a .span .hi) (c .before .wanting .result)
     (stops (passes-over (l .inv .3 car L) (c .before .wanting .result) (F .from) (omega arith) (F .fails)) (omega arith) (F .holds (c .if2 .taken)))
 
 add-a-2 : tie.Need-add-a-2 Inv-loop μ-loop
@@ -75,23 +76,23 @@ add-a-2 c =
     let s = c .before .before .before .before .before .before .before .before .before in
     let a = s .args in
     let h = inside (c .before .before) in
-    omega (arith, s .pre .1 .inside, length-set (a .speeds .now) (a .sample .second) (a .sample .speed))
+    omega (arith, s .pre .1 .inside, length-speeds (a .asked) (a .speeds .now))
 
 loop-less : tie.Need-loop-less Inv-loop μ-loop
 loop-less c =
     let a = c .before .before .before .before .before .before .before .before .before .args in
     let l = c .before .before .before .before .before .loop in
     let h = inside (c .before .before) in
-    omega (arith, c .before .before .stop-with .ensures, stop-le (set (a .speeds .now) (a .sample .second) (a .sample .speed)) (l .a))
+    omega (arith, c .before .before .stop-asked .ensures, stop-le (speeds-with (a .asked) (a .speeds .now)) (l .a))
 
 loop-again : tie.Need-loop-again Inv-loop μ-loop
 loop-again c =
     let a = c .before .before .before .before .before .before .before .before .before .args in
     let l = c .before .before .before .before .before .loop in
-    let b = c .before .before .stop-with .result in
+    let b = c .before .before .stop-asked .result in
     let h = inside (c .before .before) in
-    let from : l .a ≤ b = rw (c .before .before .stop-with .ensures) (stop-le (set (a .speeds .now) (a .sample .second) (a .sample .speed)) (l .a)) in
-    let rest : moving (at (set (a .speeds .now) (a .sample .second) (a .sample .speed)) b) ≡ false = rw (c .before .before .stop-with .ensures) (stop-after (set (a .speeds .now) (a .sample .second) (a .sample .speed)) (l .a)) in
+    let from : l .a ≤ b = rw (c .before .before .stop-asked .ensures) (stop-le (speeds-with (a .asked) (a .speeds .now)) (l .a)) in
+    let rest : moving (at (speeds-with (a .asked) (a .speeds .now)) b) ≡ false = rw (c .before .before .stop-asked .ensures) (stop-after (speeds-with (a .asked) (a .speeds .now)) (l .a)) in
     let x : b + 1 - 1 ≡ b = omega arith in (
       omega (arith, l .inv .0),
       omega arith,
@@ -105,7 +106,7 @@ returns-2 : tie.Need-returns-2 Inv-loop μ-loop
 unfolding said
 returns-2 c = λ car L.
     let a = c .before .before .before .before .before .before .args in
-    not-wanted car (set (a .speeds .now) (a .sample .second) (a .sample .speed)) (set (a .holds .now) (a .hold .second) (a .hold .gear)) (a .span .lo) (a .span .hi) (ends (c .before .before .loop .inv .3 car L) (omega arith))
+    not-wanted car (speeds-with (a .asked) (a .speeds .now)) (holds-with (a .asked) (a .holds .now)) (a .span .lo) (a .span .hi) (ends (c .before .before .loop .inv .3 car L) (omega arith))
 
 pub judge-gears-spec : {M : Type 1} → statement M
-judge-gears-spec = tie.close (tie.spec Inv-loop μ-loop add-a loop-holds stop-with-requires wanting-requires returns add-a-2 loop-less loop-again returns-2)
+judge-gears-spec = tie.close (tie.spec Inv-loop μ-loop add-a loop-holds stop-asked-requires wanting-requires returns add-a-2 loop-less loop-again returns-2)

@@ -3,23 +3,24 @@
 use Prim.Native.Nat.{_-_, _≤_}
 use native.Mathlib.Omega.{arith}
 use mathlib.Core.Path.{sym, _∙_}
-use lib.ListN.{set, length-set}
 use borrow.Author.Needs.{needs}
 use Rattle.rules.specs.declared.Vehicle.{Vehicle}
 use Rattle.gears.specs.Parts.{Lent}
+use Rattle.checks.specs.Asked.{speeds-with, holds-with}
+use Rattle.checks.proofs.Through.{length-speeds}
 use Rattle.checks.proofs.Dry.{Dry, dry-start, dry-more, dry-stops, dry-ends}
 use Rattle.checks.proofs.want.wanting.Statement.{statement}
 use Rattle.checks.proofs.want.wanting.Tie as tie
 
 abbrev Inv-loop : tie.InvT-loop
-Inv-loop k ratio n p speeds holds sample hold trip a b run before₀ i₀ before i =
-    (trip .lo ≤ i) × (i ≤ trip .hi) × ((car : Vehicle) → Lent car k ratio n p → Dry car (set speeds (sample .second) (sample .speed)) (set holds (hold .second) (hold .gear)) (trip .lo) i before)
+Inv-loop k ratio n p speeds holds asked trip a b run before₀ i₀ before i =
+    (trip .lo ≤ i) × (i ≤ trip .hi) × ((car : Vehicle) → Lent car k ratio n p → Dry car (speeds-with asked speeds) (holds-with asked holds) (trip .lo) i before)
 
 abbrev μ-loop : tie.MeasureT-loop
-μ-loop k ratio n p speeds holds sample hold trip a b run before₀ i₀ before i = trip .hi - i
+μ-loop k ratio n p speeds holds asked trip a b run before₀ i₀ before i = trip .hi - i
 
-closing-with-requires : tie.Need-closing-with-requires Inv-loop μ-loop
-closing-with-requires c κs = c .before .before .pre .1
+closing-asked-requires : tie.Need-closing-asked-requires Inv-loop μ-loop
+closing-asked-requires c κs = c .before .before .pre .1
 
 loop-holds : tie.Need-loop-holds Inv-loop μ-loop
 loop-holds c = (omega arith, c .before .before .before .pre .1 .order, λ car L. dry-start)
@@ -29,7 +30,7 @@ choice-in-requires c κs =
     let s = c .before .before .before .before .before in
     let l = c .before .loop in
     let a = s .args in
-    (s .pre .0, record { trip = s .pre .1; rooms = s .pre .2 ∙ sym (length-set (a .speeds .now) (a .sample .second) (a .sample .speed)); since = l .inv .0; until = omega arith; closes = c .before .before .closing-with .ensures })
+    (s .pre .0, record { trip = s .pre .1; rooms = s .pre .2 ∙ sym (length-speeds (a .asked) (a .speeds .now)); since = l .inv .0; until = omega arith; closes = c .before .before .closing-asked .ensures })
 
 returns : tie.Need-returns Inv-loop μ-loop
 returns c = λ car L lo.
@@ -42,10 +43,7 @@ add-i : tie.Need-add-i Inv-loop μ-loop
 add-i c =
     let s = c .before .before .before .before .before .before .before in
     let a = s .args in
-    omega (arith, s .pre .1 .inside, length-set (a .speeds .now) (a .sample .second) (a .sample .speed))
-
-loop-less : tie.Need-loop-less Inv-loop μ-loop
-loop-less c = search needs
+    omega (arith, s .pre .1 .inside, length-speeds (a .asked) (a .speeds .now))
 
 loop-again : tie.Need-loop-again Inv-loop μ-loop
 loop-again c =
@@ -63,11 +61,11 @@ wanting-spec =
     (tie.spec
     Inv-loop
     μ-loop
-    closing-with-requires
+    closing-asked-requires
     loop-holds
     choice-in-requires
     returns
     add-i
-    loop-less
+    (λ c. search needs)
     loop-again
     returns-2)

@@ -5,33 +5,18 @@ use mathlib.Core.Path.{_≡_, _∙_}
 use Rattle.rules.specs.Refusals.{left}
 use Rattle.cycles.specs.Cycle.{cycle, low, medium, high, extra-high}
 use Rattle.cycles.specs.Parts.{fill-room}
-use Rattle.cycles.proofs.Ways.{passed, untouched, written}
+use Rattle.cycles.proofs.FillingEnds.{passed, untouched, written}
 use Rattle.cycles.proofs.Stretches.{accepted-room}
 use borrow.Author.Needs.{needs}
 use Rattle.cycles.proofs.filling.fill.Statement.{statement}
 use Rattle.cycles.proofs.filling.fill.Tie as tie
 
-check-requires : tie.Need-check-requires
-check-requires c κs = search needs
-
-enum-told : tie.Need-enum-told
-enum-told c = search needs
-
-enum-told-2 : tie.Need-enum-told-2
-enum-told-2 c = search needs
-
 returns : tie.Need-returns
 unfolding fill-room
 returns c = let said = c .before .before .check .ensures in (said, untouched said _ _ (c .enum-told2 .given .1))
 
-slice-aggregate-copy-in : tie.Need-slice-aggregate-copy-in
-slice-aggregate-copy-in c = search needs
-
 copy-in-requires : tie.Need-copy-in-requires
 copy-in-requires c κs = accepted-room _ _ (passed (c .before .before .before .before .check .ensures) (c .before .before .enum-told .given .1))
-
-same-length : tie.Need-same-length
-same-length c = search needs
 
 returns-2 : tie.Need-returns-2
 unfolding fill-room cycle low medium high extra-high
@@ -44,11 +29,11 @@ pub fill-spec : {M : Type 1} → statement M
 fill-spec =
     tie.close
     (tie.spec
-    check-requires
-    enum-told
-    enum-told-2
+    (λ c κs. search needs)
+    (λ c. search needs)
+    (λ c. search needs)
     returns
-    slice-aggregate-copy-in
+    (λ c. search needs)
     copy-in-requires
-    same-length
+    (λ c. search needs)
     returns-2)

@@ -9,9 +9,6 @@ use borrow.Author.Needs.{needs}
 use Rattle.cycles.proofs.parts.part_of.Statement.{statement}
 use Rattle.cycles.proofs.parts.part_of.Tie as tie
 
-stretch-of-requires : tie.Need-stretch-of-requires
-stretch-of-requires c κs = search needs
-
 -- where the part stands is known, and in the room
 there : (c : tie.After-stretch-of) → c .stretch-of .result .first + c .stretch-of .result .count ≤ length (now (c .before .before .args .room))
 there c = rw (c .stretch-of .ensures) (in-room (c .before .before .args .part) (length (now (c .before .before .args .room))))
@@ -21,12 +18,6 @@ add-end c = let h = there (c .before) in search needs
 
 mul-result : tie.Need-mul-result
 mul-result c = let h = there (c .before) in search needs
-
-sub-result : tie.Need-sub-result
-sub-result c = search needs
-
-part-result-start : tie.Need-part-result-start
-part-result-start c = search needs
 
 part-result-end : tie.Need-part-result-end
 part-result-end c = let h = there (c .before) in search needs
@@ -38,10 +29,10 @@ pub part-of-spec : {M : Type 1} → statement M
 part-of-spec =
     tie.close
     (tie.spec
-    stretch-of-requires
+    (λ c κs. search needs)
     add-end
     mul-result
-    sub-result
-    part-result-start
+    (λ c. search needs)
+    (λ c. search needs)
     part-result-end
     returns)

@@ -3,30 +3,15 @@
 use native.Mathlib.Omega.{arith}
 use mathlib.Core.Path.{_≡_, sym, ap, _∙_}
 use Rattle.rules.specs.Refusals.{said}
-use Rattle.cycles.proofs.Ways.{passed}
+use Rattle.cycles.proofs.FillingEnds.{passed}
 use Rattle.cycles.proofs.Stretches.{ordered, stretch-part, no-stretch}
 use borrow.Author.Needs.{needs}
 use Rattle.cycles.proofs.parts.stretch_of.Statement.{statement}
 use Rattle.cycles.proofs.parts.stretch_of.Tie as tie
 
-check-requires : tie.Need-check-requires
-check-requires c κs = search needs
-
-enum-told : tie.Need-enum-told
-enum-told c = search needs
-
-enum-told-2 : tie.Need-enum-told-2
-enum-told-2 c = search needs
-
 returns : tie.Need-returns
 unfolding said
 returns c = sym (no-stretch _ _ (sym (c .before .before .check .ensures) ∙ ap said (c .enum-told2 .given .1)))
-
-first-second-requires : tie.Need-first-second-requires
-first-second-requires c κs = search needs
-
-last-second-requires : tie.Need-last-second-requires
-last-second-requires c κs = search needs
 
 add-t6 : tie.Need-add-t6
 add-t6 c = omega (arith, ordered (c .before .before .before .before .before .args .part) .1, c .last-second .ensures)
@@ -43,12 +28,12 @@ pub stretch-of-spec : {M : Type 1} → statement M
 stretch-of-spec =
     tie.close
     (tie.spec
-    check-requires
-    enum-told
-    enum-told-2
+    (λ c κs. search needs)
+    (λ c. search needs)
+    (λ c. search needs)
     returns
-    first-second-requires
-    last-second-requires
+    (λ c κs. search needs)
+    (λ c κs. search needs)
     add-t6
     sub-t7
     returns-2)

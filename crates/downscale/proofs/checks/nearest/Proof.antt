@@ -8,18 +8,6 @@ use borrow.Author.Needs.{needs}
 use Rattle.downscale.proofs.checks.nearest.Statement.{statement}
 use Rattle.downscale.proofs.checks.nearest.Tie as tie
 
-mul-result : tie.Need-mul-result
-mul-result c = search needs
-
-add-result : tie.Need-add-result
-add-result c = search needs
-
-mul-result-2 : tie.Need-mul-result-2
-mul-result-2 c = search needs
-
-div-result : tie.Need-div-result
-div-result c = search needs
-
 cast-result : tie.Need-cast-result
 unfolding nearest
 cast-result c = let h = nearest-most (c .args .whole) (c .pre .0) (c .args .sum) 65535 (c .pre .2) in record { fits = omega arith }
@@ -30,4 +18,4 @@ returns c = refl
 
 pub nearest-spec : {M : Type 1} → statement M
 nearest-spec =
-    tie.close (tie.spec mul-result add-result mul-result-2 div-result cast-result returns)
+    tie.close (tie.spec (λ c. search needs) (λ c. search needs) (λ c. search needs) (λ c. search needs) cast-result returns)

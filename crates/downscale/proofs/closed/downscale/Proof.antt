@@ -7,10 +7,10 @@ use mathlib.Core.Option.{none}
 use lib.ListN.{length}
 use denote.Ref.{now}
 use Rattle.cycles.specs.Cycle.{cycle}
-use Rattle.cycles.proofs.Ways.{passed, untouched, written}
+use Rattle.cycles.proofs.FillingEnds.{passed, untouched, written}
 use Rattle.cycles.proofs.Table.{length-cycle}
 use Rattle.downscale.specs.Steps.{down-fault, down-room}
-use Rattle.downscale.proofs.Whole.{accepted-factor, accepted-length, filled-cycle, rise-draws, fall-draws, drawn-whole}
+use Rattle.downscale.proofs.ScaledRoom.{accepted-factor, accepted-length, filled-cycle, rise-draws, fall-draws, drawn-whole}
 use borrow.Author.Needs.{needs}
 use Rattle.downscale.proofs.closed.downscale.Statement.{statement}
 use Rattle.downscale.proofs.closed.downscale.Tie as tie
@@ -33,37 +33,19 @@ filled-is q = q .fill .ensures .1 ∙ filled-cycle _ (length-fine (q .before .be
 filled-length : (q : tie.After-fill) → length (q .fill .last .1 .0) ≡ 1801
 filled-length q = ap length (filled-is q) ∙ length-cycle
 
-check-requires : tie.Need-check-requires
-check-requires c κs = search needs
-
-enum-told : tie.Need-enum-told
-enum-told c = search needs
-
-enum-told-2 : tie.Need-enum-told-2
-enum-told-2 c = search needs
-
 returns : tie.Need-returns
 unfolding down-room
 returns c = let said = c .before .before .check .ensures in (said, untouched said _ _ (c .enum-told2 .given .1))
-
-fill-requires : tie.Need-fill-requires
-fill-requires c κs = search needs
 
 draw-requires : tie.Need-draw-requires
 draw-requires c κs =
     let p = c .before .before .before .before .before in
     (rise-draws _ (factor-fine p), omega arith, omega (arith, filled-length (c .before .before .before)))
 
-mul-draw : tie.Need-mul-draw
-mul-draw c = search needs
-
 draw-requires-2 : tie.Need-draw-requires-2
 draw-requires-2 c κs =
     let p = c .before .before .before .before .before .before .before .before .before in
     (fall-draws _ (factor-fine p), omega arith, omega (arith, c .before .before .before .draw .ensures .size, filled-length (c .before .before .before .before .before .before .before)))
-
-same-length : tie.Need-same-length
-same-length c = search needs
 
 returns-2 : tie.Need-returns-2
 unfolding down-room
@@ -77,13 +59,13 @@ pub downscale-spec : {M : Type 1} → statement M
 downscale-spec =
     tie.close
     (tie.spec
-    check-requires
-    enum-told
-    enum-told-2
+    (λ c κs. search needs)
+    (λ c. search needs)
+    (λ c. search needs)
     returns
-    fill-requires
+    (λ c κs. search needs)
     draw-requires
-    mul-draw
+    (λ c. search needs)
     draw-requires-2
-    same-length
+    (λ c. search needs)
     returns-2)

@@ -21,26 +21,14 @@ abbrev μ-loop : tie.MeasureT-loop
 loop-holds : tie.Need-loop-holds Inv-loop μ-loop
 loop-holds c = (le-refl _, c .before .pre .1, begin _ _ _)
 
-mul-drawn : tie.Need-mul-drawn Inv-loop μ-loop
-mul-drawn c = search needs
-
 slice-read-drawn : tie.Need-slice-read-drawn Inv-loop μ-loop
 slice-read-drawn c = omega (arith, c .before .before .loop .inv .2 .size)
 
 drawn-requires : tie.Need-drawn-requires Inv-loop μ-loop
 drawn-requires c κs = c .before .before .before .before .pre .0
 
-mul-room : tie.Need-mul-room Inv-loop μ-loop
-mul-room c = search needs
-
 slice-write-room : tie.Need-slice-write-room Inv-loop μ-loop
 slice-write-room c = omega (arith, c .before .before .before .loop .inv .2 .size)
-
-add-i : tie.Need-add-i Inv-loop μ-loop
-add-i c = search needs
-
-loop-less : tie.Need-loop-less Inv-loop μ-loop
-loop-less c = search needs
 
 loop-again : tie.Need-loop-again Inv-loop μ-loop
 loop-again c =
@@ -65,13 +53,13 @@ draw-spec =
     Inv-loop
     μ-loop
     loop-holds
-    mul-drawn
+    (λ c. search needs)
     slice-read-drawn
     drawn-requires
-    mul-room
+    (λ c. search needs)
     slice-write-room
-    add-i
-    loop-less
+    (λ c. search needs)
+    (λ c. search needs)
     loop-again
     same-length
     returns)

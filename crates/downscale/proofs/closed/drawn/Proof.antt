@@ -13,9 +13,6 @@ sum-most : (c : tie.Start) → (c .args .whole - c .args .parts) * c .args .spee
 unfolding drawn
 sum-most c = drawn-most (c .args .whole) (c .args .parts) (c .args .rest) (c .pre .parts) (c .args .speed) 65535 (omega arith) (c .pre .speed)
 
-sub-nearest : tie.Need-sub-nearest
-sub-nearest c = search needs
-
 mul-nearest : tie.Need-mul-nearest
 mul-nearest c = let h = sum-most c in search needs
 
@@ -34,4 +31,4 @@ returns c = c .nearest .ensures
 
 pub drawn-spec : {M : Type 1} → statement M
 drawn-spec =
-    tie.close (tie.spec sub-nearest mul-nearest mul-nearest-2 add-nearest nearest-requires returns)
+    tie.close (tie.spec (λ c. search needs) mul-nearest mul-nearest-2 add-nearest nearest-requires returns)

@@ -42,9 +42,6 @@ slice-write-room c = let h = c .before .before .before .before .loop .inv in ome
 add-i-2 : tie.Need-add-i-2 Inv-loop μ-loop
 add-i-2 c = let h = c .before .before .before .before .loop .inv .in-cycle in search needs
 
-loop-less : tie.Need-loop-less Inv-loop μ-loop
-loop-less c = search needs
-
 loop-again : tie.Need-loop-again Inv-loop μ-loop
 loop-again c = again (c .before .before .before .before .loop .inv) (omega arith) refl (c .before .step-on .ensures) _ (c .nearest .ensures)
 
@@ -69,7 +66,7 @@ add-steps-spec =
     mul-room
     slice-write-room
     add-i-2
-    loop-less
+    (λ c. search needs)
     loop-again
     same-length
     returns)

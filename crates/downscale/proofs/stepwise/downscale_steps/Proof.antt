@@ -7,9 +7,9 @@ use mathlib.Core.Option.{none}
 use lib.ListN.{length}
 use denote.Ref.{now}
 use Rattle.cycles.specs.Cycle.{cycle}
-use Rattle.cycles.proofs.Ways.{passed, untouched, written}
+use Rattle.cycles.proofs.FillingEnds.{passed, untouched, written}
 use Rattle.downscale.specs.Steps.{down-fault, down-room}
-use Rattle.downscale.proofs.Whole.{accepted-factor, accepted-length, filled-cycle, rise-begins, peak-is, fall-begins, stepped-whole}
+use Rattle.downscale.proofs.ScaledRoom.{accepted-factor, accepted-length, filled-cycle, rise-begins, peak-is, fall-begins, stepped-whole}
 use borrow.Author.Needs.{needs}
 use Rattle.downscale.proofs.stepwise.downscale_steps.Statement.{statement}
 use Rattle.downscale.proofs.stepwise.downscale_steps.Tie as tie
@@ -33,33 +33,15 @@ filled-is q = q .fill .ensures .1 ∙ filled-cycle _ (length-fine (q .before .be
 peak-there : (q : tie.After-add-steps) → let f = q .before .before .before .before .before .before .before .before .before .before .args .factor in q .add-steps .result ≡ (1000 - f) * 1313 + f * 600
 peak-there q = peak-is _ (factor-fine (q .before .before .before .before .before .before)) (q .add-steps .ensures .0)
 
-check-requires : tie.Need-check-requires
-check-requires c κs = search needs
-
-enum-told : tie.Need-enum-told
-enum-told c = search needs
-
-enum-told-2 : tie.Need-enum-told-2
-enum-told-2 c = search needs
-
 returns : tie.Need-returns
 unfolding down-room
 returns c = let said = c .before .before .check .ensures in (said, untouched said _ _ (c .enum-told2 .given .1))
 
-fill-requires : tie.Need-fill-requires
-fill-requires c κs = search needs
-
 sub-add-steps : tie.Need-sub-add-steps
 sub-add-steps c = let f = factor-fine (c .before .before .before .before .before) in omega arith
 
-mul-add-steps : tie.Need-mul-add-steps
-mul-add-steps c = search needs
-
 add-steps-requires : tie.Need-add-steps-requires
 add-steps-requires c κs = rise-begins _ (factor-fine (c .before .before .before .before .before)) (filled-is (c .before .before .before))
-
-mul-add-steps-2 : tie.Need-mul-add-steps-2
-mul-add-steps-2 c = search needs
 
 sub-add-steps-2 : tie.Need-sub-add-steps-2
 sub-add-steps-2 c =
@@ -79,9 +61,6 @@ add-steps-requires-2 c κs =
     let q = c .before .before .before in
     fall-begins _ (factor-fine (q .before .before .before .before .before .before)) (filled-is (q .before .before .before .before)) (q .add-steps .ensures .1) (peak-there q)
 
-same-length : tie.Need-same-length
-same-length c = search needs
-
 returns-2 : tie.Need-returns-2
 unfolding down-room
 returns-2 c =
@@ -94,17 +73,17 @@ pub downscale-steps-spec : {M : Type 1} → statement M
 downscale-steps-spec =
     tie.close
     (tie.spec
-    check-requires
-    enum-told
-    enum-told-2
+    (λ c κs. search needs)
+    (λ c. search needs)
+    (λ c. search needs)
     returns
-    fill-requires
+    (λ c κs. search needs)
     sub-add-steps
-    mul-add-steps
+    (λ c. search needs)
     add-steps-requires
-    mul-add-steps-2
+    (λ c. search needs)
     sub-add-steps-2
     mul-add-steps-3
     add-steps-requires-2
-    same-length
+    (λ c. search needs)
     returns-2)

@@ -16,14 +16,5 @@ mul-result c = let h = product c in search needs
 add-result : tie.Need-add-result
 add-result c = let h = product c in search needs
 
-mul-result-2 : tie.Need-mul-result-2
-mul-result-2 c = search needs
-
-sub-result : tie.Need-sub-result
-sub-result c = search needs
-
-returns : tie.Need-returns
-returns c = search needs
-
 pub step-on-spec : {M : Type 1} → statement M
-step-on-spec = tie.close (tie.spec mul-result add-result mul-result-2 sub-result returns)
+step-on-spec = tie.close (tie.spec mul-result add-result (λ c. search needs) (λ c. search needs) (λ c. search needs))

@@ -12,20 +12,11 @@ use Rattle.exports.proofs.fields.in_bounds.Tie as tie
 float-to-bits-exponent : tie.Need-float-to-bits-exponent
 float-to-bits-exponent c = no-nan (c .args .x) (c .pre .0 .number)
 
-exponent-requires : tie.Need-exponent-requires
-exponent-requires c κs = search needs
-
 returns : tie.Need-returns
 returns c =
     let s = c .before .before in
     let e = c .before .exponent .ensures in
     sym (beyond (s .args .field) (s .args .x) (s .pre .1) (s .pre .0) (omega arith))
-
-scaled-requires : tie.Need-scaled-requires
-scaled-requires c κs = search needs
-
-within-requires : tie.Need-within-requires
-within-requires c κs = search needs
 
 returns-2 : tie.Need-returns-2
 unfolding in-bounds units
@@ -39,8 +30,8 @@ in-bounds-spec =
     tie.close
     (tie.spec
     float-to-bits-exponent
-    exponent-requires
+    (λ c κs. search needs)
     returns
-    scaled-requires
-    within-requires
+    (λ c κs. search needs)
+    (λ c κs. search needs)
     returns-2)

@@ -11,9 +11,6 @@ whole-requires : tie.Need-whole-requires
 unfolding F0
 whole-requires c κs = (c .pre .f0-in, f0-plain)
 
-thousandths-requires : tie.Need-thousandths-requires
-thousandths-requires c κs = search needs
-
 whole-requires-2 : tie.Need-whole-requires-2
 unfolding F2
 whole-requires-2 c κs = (c .before .before .pre .f2-in, f2-plain)
@@ -26,4 +23,4 @@ returns c =
     record { f0-is = c .before .before .whole .ensures; f1-is = rw f (toZ-ofZ (f1-short (s .args .c .f1) (s .pre .f1-in))); f2-is = c .whole2 .ensures }
 
 pub in-units-spec : {M : Type 1} → statement M
-in-units-spec = tie.close (tie.spec whole-requires thousandths-requires whole-requires-2 returns)
+in-units-spec = tie.close (tie.spec whole-requires (λ c κs. search needs) whole-requires-2 returns)

@@ -10,9 +10,6 @@ use Rattle.exports.proofs.floats.scaled.Tie as tie
 float-to-bits-bits : tie.Need-float-to-bits-bits
 float-to-bits-bits c = no-nan (c .args .x) (c .pre .number)
 
-size-of-requires : tie.Need-size-of-requires
-size-of-requires c κs = search needs
-
 cast-size : tie.Need-cast-size
 cast-size c = record { sfits = omega arith }
 
@@ -36,4 +33,4 @@ returns-2 c =
 
 pub scaled-spec : {M : Type 1} → statement M
 scaled-spec =
-    tie.close (tie.spec float-to-bits-bits size-of-requires cast-size returns sub-result returns-2)
+    tie.close (tie.spec float-to-bits-bits (λ c κs. search needs) cast-size returns sub-result returns-2)

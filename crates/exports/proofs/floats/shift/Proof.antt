@@ -8,19 +8,13 @@ use borrow.Author.Needs.{needs}
 use Rattle.exports.proofs.floats.shift.Statement.{statement}
 use Rattle.exports.proofs.floats.shift.Tie as tie
 
-exponent-requires : tie.Need-exponent-requires
-exponent-requires c κs = search needs
-
 returns : tie.Need-returns
 unfolding shift
 returns c = (rw (eq-eqb _ 0 (sym (c .before .exponent .ensures .0) ∙ c .if1 .taken)), omega arith)
-
-sub-result : tie.Need-sub-result
-sub-result c = search needs
 
 returns-2 : tie.Need-returns-2
 unfolding shift
 returns-2 c = (rw (ne-eqb _ 0 (λ e. c .if1 .left (c .before .exponent .ensures .0 ∙ e)), c .before .exponent .ensures .0), omega arith)
 
 pub shift-spec : {M : Type 1} → statement M
-shift-spec = tie.close (tie.spec exponent-requires returns sub-result returns-2)
+shift-spec = tie.close (tie.spec (λ c κs. search needs) returns (λ c. search needs) returns-2)

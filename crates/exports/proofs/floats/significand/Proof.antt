@@ -8,22 +8,13 @@ use borrow.Author.Needs.{needs}
 use Rattle.exports.proofs.floats.significand.Statement.{statement}
 use Rattle.exports.proofs.floats.significand.Tie as tie
 
-cast-digits : tie.Need-cast-digits
-cast-digits c = search needs
-
-exponent-requires : tie.Need-exponent-requires
-exponent-requires c κs = search needs
-
 returns : tie.Need-returns
 unfolding significand mantissa
 returns c = (rw (eq-eqb _ 0 (sym (c .before .exponent .ensures .0) ∙ c .if1 .taken)), omega arith)
-
-add-result : tie.Need-add-result
-add-result c = search needs
 
 returns-2 : tie.Need-returns-2
 unfolding significand mantissa
 returns-2 c = (rw (ne-eqb _ 0 (λ e. c .if1 .left (c .before .exponent .ensures .0 ∙ e))), omega arith)
 
 pub significand-spec : {M : Type 1} → statement M
-significand-spec = tie.close (tie.spec cast-digits exponent-requires returns add-result returns-2)
+significand-spec = tie.close (tie.spec (λ c. search needs) (λ c κs. search needs) returns (λ c. search needs) returns-2)

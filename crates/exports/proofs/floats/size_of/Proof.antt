@@ -9,14 +9,8 @@ use borrow.Author.Needs.{needs}
 use Rattle.exports.proofs.floats.size_of.Statement.{statement}
 use Rattle.exports.proofs.floats.size_of.Tie as tie
 
-significand-requires : tie.Need-significand-requires
-significand-requires c κs = search needs
-
 mul-product : tie.Need-mul-product
 mul-product c = let m = product-low (c .before .args .scale) (c .significand .result) (omega arith) (omega arith) in omega arith
-
-shift-requires : tie.Need-shift-requires
-shift-requires c κs = search needs
 
 returns : tie.Need-returns
 returns c =
@@ -30,25 +24,10 @@ mul-result : tie.Need-mul-result
 mul-result c =
     let m = product-low (c .before .before .before .args .scale) (c .before .before .significand .result) (omega arith) (omega arith) in omega arith
 
-cast-result : tie.Need-cast-result
-cast-result c = search needs
-
-shl-result : tie.Need-shl-result
-shl-result c = search needs
-
 add-result : tie.Need-add-result
 add-result c =
     let m = product-low (c .before .before .before .args .scale) (c .before .before .significand .result) (omega arith) (omega arith) in
     let n = sum-low (c .before .before .before .args .scale * c .before .before .significand .result) (c .before .shift .result) m (omega arith) in omega arith
-
-add-result-2 : tie.Need-add-result-2
-add-result-2 c = search needs
-
-cast-result-2 : tie.Need-cast-result-2
-cast-result-2 c = search needs
-
-shr-result : tie.Need-shr-result
-shr-result c = search needs
 
 returns-2 : tie.Need-returns-2
 unfolding size-of
@@ -63,15 +42,15 @@ pub size-of-spec : {M : Type 1} → statement M
 size-of-spec =
     tie.close
     (tie.spec
-    significand-requires
+    (λ c κs. search needs)
     mul-product
-    shift-requires
+    (λ c κs. search needs)
     returns
     mul-result
-    cast-result
-    shl-result
+    (λ c. search needs)
+    (λ c. search needs)
     add-result
-    add-result-2
-    cast-result-2
-    shr-result
+    (λ c. search needs)
+    (λ c. search needs)
+    (λ c. search needs)
     returns-2)

@@ -1,22 +1,10 @@
 -- `exports::records::coefficients_at` meets its contract: a fault is handed up, the three floats come judged.
 -- Assumes nothing.
 use Rattle.exports.specs.Fields.{F0, F1, F2}
-use Rattle.exports.proofs.Ways.{f0-stops, f1-stops, f2-stops, three-come}
+use Rattle.exports.proofs.RecordAnswers.{f0-stops, f1-stops, f2-stops, three-come}
 use borrow.Author.Needs.{needs}
 use Rattle.exports.proofs.records.coefficients_at.Statement.{statement}
 use Rattle.exports.proofs.records.coefficients_at.Tie as tie
-
-judged-at-requires : tie.Need-judged-at-requires
-judged-at-requires c κs = search needs
-
-enum-known-a : tie.Need-enum-known-a
-enum-known-a c = search needs
-
-enum-told : tie.Need-enum-told
-enum-told c = search needs
-
-next-requires : tie.Need-next-requires
-next-requires c κs = search needs
 
 returns : tie.Need-returns
 unfolding F0
@@ -26,18 +14,6 @@ returns c =
     let g = c .before .enum-told .given .1 in
     (rw (c .next .ensures, g) (f0-stops (s .args .bytes .now) (s .args .spot) (s .args .at) (rw g at (r .ensures .0))), rw (c .next .ensures, g) (λ found t. tt))
 
-judged-at-requires-2 : tie.Need-judged-at-requires-2
-judged-at-requires-2 c κs = search needs
-
-enum-known-b : tie.Need-enum-known-b
-enum-known-b c = search needs
-
-enum-told-2 : tie.Need-enum-told-2
-enum-told-2 c = search needs
-
-next-requires-2 : tie.Need-next-requires-2
-next-requires-2 c κs = search needs
-
 returns-2 : tie.Need-returns-2
 unfolding F0 F1
 returns-2 c =
@@ -46,18 +22,6 @@ returns-2 c =
     let r = c .before .before .before .judged-at2 in
     let g = c .before .enum-told2 .given .1 in
     (rw (c .next2 .ensures, g) (f1-stops (s .args .bytes .now) (s .args .spot) (s .args .at) (rw (c₁ .before .a .given .1) at (c₁ .before .before .before .judged-at .ensures .0)) (rw g at (r .ensures .0))), rw (c .next2 .ensures, g) (λ found t. tt))
-
-judged-at-requires-3 : tie.Need-judged-at-requires-3
-judged-at-requires-3 c κs = search needs
-
-enum-known-c : tie.Need-enum-known-c
-enum-known-c c = search needs
-
-enum-told-3 : tie.Need-enum-told-3
-enum-told-3 c = search needs
-
-next-requires-3 : tie.Need-next-requires-3
-next-requires-3 c κs = search needs
 
 returns-3 : tie.Need-returns-3
 unfolding F0 F1 F2
@@ -87,19 +51,19 @@ pub coefficients-at-spec : {M : Type 1} → statement M
 coefficients-at-spec =
     tie.close
     (tie.spec
-    judged-at-requires
-    enum-known-a
-    enum-told
-    next-requires
+    (λ c κs. search needs)
+    (λ c. search needs)
+    (λ c. search needs)
+    (λ c κs. search needs)
     returns
-    judged-at-requires-2
-    enum-known-b
-    enum-told-2
-    next-requires-2
+    (λ c κs. search needs)
+    (λ c. search needs)
+    (λ c. search needs)
+    (λ c κs. search needs)
     returns-2
-    judged-at-requires-3
-    enum-known-c
-    enum-told-3
-    next-requires-3
+    (λ c κs. search needs)
+    (λ c. search needs)
+    (λ c. search needs)
+    (λ c κs. search needs)
     returns-3
     returns-4)

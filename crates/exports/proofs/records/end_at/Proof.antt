@@ -1,7 +1,7 @@
 -- `exports::records::end_at` meets its contract: one law for each `return`.
 -- Assumes nothing.
 use borrow.Author.Tests.{not-true, not-false}
-use Rattle.exports.proofs.Ways.{end-lacks-coefficients, end-lacks-mass, end-comes}
+use Rattle.exports.proofs.RecordAnswers.{end-lacks-coefficients, end-lacks-mass, end-comes}
 use Rattle.exports.proofs.records.end_at.Statement.{statement}
 use Rattle.exports.proofs.records.end_at.Tie as tie
 

@@ -7,7 +7,7 @@ use borrow.Author.Tests.{le-ltb}
 use lib.Ieee.Bits.{nanBits-above}
 use Rattle.exports.specs.Floats.{float-of}
 use Rattle.exports.specs.Bits.{exponent}
-use Rattle.exports.proofs.Ways.{comes, float-short, float-bad, float-good}
+use Rattle.exports.proofs.RecordAnswers.{comes, float-short, float-bad, float-good}
 use borrow.Author.Needs.{needs}
 use Rattle.exports.proofs.records.float_at.Statement.{statement}
 use Rattle.exports.proofs.records.float_at.Tie as tie
@@ -17,19 +17,10 @@ returns c =
     let s = c .before .before in
     (float-short (s .args .bytes .now) (s .args .spot) (s .args .at) (omega arith), tt)
 
-add-if2 : tie.Need-add-if2
-add-if2 c = search needs
-
 returns-2 : tie.Need-returns-2
 returns-2 c =
     let s = c .before .before .before in
     (float-short (s .args .bytes .now) (s .args .spot) (s .args .at) (omega arith), tt)
-
-bits-at-requires : tie.Need-bits-at-requires
-bits-at-requires c κs = search needs
-
-exponent-requires : tie.Need-exponent-requires
-exponent-requires c κs = search needs
 
 returns-3 : tie.Need-returns-3
 returns-3 c =
@@ -45,9 +36,6 @@ float-from-bits-t12 c =
     let l : b % 2147483648 ≤ 2139095040 = omega arith in
     rw (nanBits-above, le-ltb 2139095040 (b % 2147483648) l) tt
 
-add-t8 : tie.Need-add-t8
-add-t8 c = search needs
-
 returns-4 : tie.Need-returns-4
 unfolding float-of
 returns-4 c =
@@ -62,11 +50,11 @@ float-at-spec =
     tie.close
     (tie.spec
     returns
-    add-if2
+    (λ c. search needs)
     returns-2
-    bits-at-requires
-    exponent-requires
+    (λ c κs. search needs)
+    (λ c κs. search needs)
     returns-3
     float-from-bits-t12
-    add-t8
+    (λ c. search needs)
     returns-4)

@@ -2,20 +2,11 @@
 -- Assumes nothing.
 use mathlib.Core.Path.{sym, _∙_, ap}
 use borrow.Author.Tests.{not-true, not-false}
-use Rattle.exports.specs.Stages.{told, Comes}
-use Rattle.exports.proofs.Ways.{judged-stops, judged-out, judged-good}
+use Rattle.exports.specs.Answers.{float-as, Comes}
+use Rattle.exports.proofs.RecordAnswers.{judged-stops, judged-out, judged-good}
 use borrow.Author.Needs.{needs}
 use Rattle.exports.proofs.records.judged_at.Statement.{statement}
 use Rattle.exports.proofs.records.judged_at.Tie as tie
-
-float-at-requires : tie.Need-float-at-requires
-float-at-requires c κs = search needs
-
-enum-known-number : tie.Need-enum-known-number
-enum-known-number c = search needs
-
-enum-told : tie.Need-enum-told
-enum-told c = search needs
 
 returns : tie.Need-returns
 returns c =
@@ -48,9 +39,9 @@ pub judged-at-spec : {M : Type 1} → statement M
 judged-at-spec =
     tie.close
     (tie.spec
-    float-at-requires
-    enum-known-number
-    enum-told
+    (λ c κs. search needs)
+    (λ c. search needs)
+    (λ c. search needs)
     returns
     in-bounds-requires
     returns-2

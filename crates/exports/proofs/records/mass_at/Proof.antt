@@ -1,22 +1,10 @@
 -- `exports::records::mass_at` meets its contract: a fault is handed up, a float comes judged.
 -- Assumes nothing.
 use Rattle.exports.specs.Fields.{TM}
-use Rattle.exports.proofs.Ways.{mass-stops, mass-comes}
+use Rattle.exports.proofs.RecordAnswers.{mass-stops, mass-comes}
 use borrow.Author.Needs.{needs}
 use Rattle.exports.proofs.records.mass_at.Statement.{statement}
 use Rattle.exports.proofs.records.mass_at.Tie as tie
-
-judged-at-requires : tie.Need-judged-at-requires
-judged-at-requires c κs = search needs
-
-enum-known-m : tie.Need-enum-known-m
-enum-known-m c = search needs
-
-enum-told : tie.Need-enum-told
-enum-told c = search needs
-
-next-requires : tie.Need-next-requires
-next-requires c κs = search needs
 
 returns : tie.Need-returns
 unfolding TM
@@ -36,4 +24,4 @@ returns-2 c =
 
 pub mass-at-spec : {M : Type 1} → statement M
 mass-at-spec =
-    tie.close (tie.spec judged-at-requires enum-known-m enum-told next-requires returns returns-2)
+    tie.close (tie.spec (λ c κs. search needs) (λ c. search needs) (λ c. search needs) (λ c κs. search needs) returns returns-2)

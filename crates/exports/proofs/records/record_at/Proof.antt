@@ -2,7 +2,7 @@
 -- Assumes nothing.
 use native.Mathlib.Omega.{arith}
 use mathlib.Core.Path.{_∙_}
-use Rattle.exports.proofs.Ways.{no-kind, kind-0, kind-1-twice, kind-1, kind-2-twice, kind-2, kind-unknown}
+use Rattle.exports.proofs.RecordAnswers.{no-kind, kind-0, kind-1-twice, kind-1, kind-2-twice, kind-2, kind-unknown}
 use borrow.Author.Needs.{needs}
 use Rattle.exports.proofs.records.record_at.Statement.{statement}
 use Rattle.exports.proofs.records.record_at.Tie as tie
@@ -11,15 +11,6 @@ returns : tie.Need-returns
 returns c =
     let s = c .before .before in
     (no-kind (s .args .bytes .now) (s .args .found) (s .args .spot) (omega arith), tt)
-
-shared-slice-read-kind : tie.Need-shared-slice-read-kind
-shared-slice-read-kind c = search needs
-
-add-end-at : tie.Need-add-end-at
-add-end-at c = search needs
-
-end-at-requires : tie.Need-end-at-requires
-end-at-requires c κs = search needs
 
 returns-2 : tie.Need-returns-2
 returns-2 c =
@@ -31,12 +22,6 @@ returns-3 c =
     let s = c .before .before .before .before .before .before in
     (kind-1-twice (s .args .bytes .now) (s .args .found) (s .args .spot) (omega arith) (c .before .if3 .taken) (c .if4 .taken), tt)
 
-add-coefficients-at : tie.Need-add-coefficients-at
-add-coefficients-at c = search needs
-
-coefficients-at-requires : tie.Need-coefficients-at-requires
-coefficients-at-requires c κs = search needs
-
 returns-4 : tie.Need-returns-4
 returns-4 c =
     let s = c .before .before .before .before .before .before .before in
@@ -46,12 +31,6 @@ returns-5 : tie.Need-returns-5
 returns-5 c =
     let s = c .before .before .before .before .before .before .before in
     (kind-2-twice (s .args .bytes .now) (s .args .found) (s .args .spot) (omega arith) (c .before .if5 .taken) (c .if6 .taken), tt)
-
-add-mass-at : tie.Need-add-mass-at
-add-mass-at c = search needs
-
-mass-at-requires : tie.Need-mass-at-requires
-mass-at-requires c κs = search needs
 
 returns-6 : tie.Need-returns-6
 returns-6 c =
@@ -68,16 +47,16 @@ record-at-spec =
     tie.close
     (tie.spec
     returns
-    shared-slice-read-kind
-    add-end-at
-    end-at-requires
+    (λ c. search needs)
+    (λ c. search needs)
+    (λ c κs. search needs)
     returns-2
     returns-3
-    add-coefficients-at
-    coefficients-at-requires
+    (λ c. search needs)
+    (λ c κs. search needs)
     returns-4
     returns-5
-    add-mass-at
-    mass-at-requires
+    (λ c. search needs)
+    (λ c κs. search needs)
     returns-6
     returns-7)

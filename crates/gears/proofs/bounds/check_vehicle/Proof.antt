@@ -7,10 +7,10 @@ use mir.Val.{toZ, ofZ}
 use mir.Facts.{toZ-ofZ}
 use mathlib.Core.Bool.{true}
 use native.Mathlib.Omega.{arith}
-use lib.Dec.{leb, lit<}
+use lib.Dec.{leb, eqb, lit<}
 use borrow.Author.Tests.{le-leb, lt-leb, not-true, not-false}
-use Rattle.rules.specs.Words.{_and_, within}
-use Rattle.rules.specs.Units.{bounds, low}
+use Rattle.rules.specs.Words.{_and_, _or_, within}
+use Rattle.rules.specs.Units.{bounds}
 use Rattle.rules.specs.declared.Vehicle.{Vehicle}
 use Rattle.rules.proofs.Laws.Vehicle.{within-lo, within-hi}
 use Rattle.rules.proofs.Laws.Words.{and-right}
@@ -29,70 +29,67 @@ its-curve : {car : Vehicle} → CurveOf car (car .n) (car .p) (car .m) (car .mar
 its-curve = record { speeds = refl; powers = refl; margins = refl; margin-is = refl }
 
 -- where a test has not refused, the fields so far are in bounds
-good-1 : (c : tie.Else1) → let a = c .before .before .args .t1 in leb (a .profile) 1 and within (1 + a .profile + 1) 10 (a .ng) ≡ true
+good-1 : (c : tie.Else1) → let a = c .before .before .args .t1 in leb (a .profile) 1 and (leb 3 (c .before .before .args .version) or eqb (a .profile) 0) and within (2 + a .profile) 10 (a .ng) ≡ true
 good-1 c = sym (c .before .gears-good .ensures) ∙ not-false (c .before .gears-good .result) (c .if1 .left)
 
-passed-1 : (c : tie.Else1) → Passed (c .before .before .args .t1) 1
-unfolding bounds low
+passed-1 : (c : tie.Else1) → Passed (c .before .before .args .version) (c .before .before .args .t1) 1
+unfolding bounds
 passed-1 c = passed-more passed-none (lit< tt) (good-1 c)
 
-passed-2 : (c : tie.Else2) → Passed (c .before .before .before .before .before .before .args .t1) 2
+passed-2 : (c : tie.Else2) → Passed (c .before .before .before .before .before .before .args .version) (c .before .before .before .before .before .before .args .t1) 2
 unfolding bounds
 passed-2 c = passed-more (passed-1 (c .before .before .before .before)) (lit< tt) (sym (c .before .ratios-good .ensures _ refl) ∙ not-false (c .before .ratios-good .result) (c .if2 .left))
 
-passed-3 : (c : tie.Else3) → Passed (c .before .before .before .before .before .before .before .before .args .t1) 3
+passed-3 : (c : tie.Else3) → Passed (c .before .before .before .before .before .before .before .before .args .version) (c .before .before .before .before .before .before .before .before .args .t1) 3
 unfolding bounds
 passed-3 c = passed-more (passed-2 (c .before .before)) (lit< tt) (sym (c .before .within .ensures) ∙ not-false (c .before .within .result) (c .if3 .left))
 
-passed-4 : (c : tie.Else4) → Passed (c .before .before .before .before .before .before .before .before .before .before .args .t1) 4
+passed-4 : (c : tie.Else4) → Passed (c .before .before .before .before .before .before .before .before .before .before .args .version) (c .before .before .before .before .before .before .before .before .before .before .args .t1) 4
 unfolding bounds
 passed-4 c = passed-more (passed-3 (c .before .before)) (lit< tt) (sym (c .before .above .ensures) ∙ not-false (c .before .above .result) (c .if4 .left))
 
-passed-5 : (c : tie.Else5) → Passed (c .before .before .before .before .before .before .before .before .before .before .before .before .args .t1) 5
+passed-5 : (c : tie.Else5) → Passed (c .before .before .before .before .before .before .before .before .before .before .before .before .args .version) (c .before .before .before .before .before .before .before .before .before .before .before .before .args .t1) 5
 unfolding bounds
 passed-5 c = passed-more (passed-4 (c .before .before)) (lit< tt) (sym (c .before .within2 .ensures) ∙ not-false (c .before .within2 .result) (c .if5 .left))
 
-passed-6 : (c : tie.Else6) → Passed (c .before .before .before .before .before .before .before .before .before .before .before .before .before .args .t1) 6
+passed-6 : (c : tie.Else6) → Passed (c .before .before .before .before .before .before .before .before .before .before .before .before .before .args .version) (c .before .before .before .before .before .before .before .before .before .before .before .before .before .args .t1) 6
 unfolding bounds
 passed-6 c = passed-more (passed-5 (c .before)) (lit< tt) (le-leb _ _ (c .if6 .left))
 
-passed-7 : (c : tie.Else7) → Passed (c .before .before .before .before .before .before .before .before .before .before .before .before .before .before .before .before .args .t1) 7
+passed-7 : (c : tie.Else7) → Passed (c .before .before .before .before .before .before .before .before .before .before .before .before .before .before .before .before .args .version) (c .before .before .before .before .before .before .before .before .before .before .before .before .before .before .before .before .args .t1) 7
 unfolding bounds
 passed-7 c = passed-more (passed-6 (c .before .before .before)) (lit< tt) (rw (f1-back (c .before .before)) at (sym (c .before .f1-good .ensures) ∙ not-false (c .before .f1-good .result) (c .if7 .left)))
 
-passed-8 : (c : tie.Else8) → Passed (c .before .before .before .before .before .before .before .before .before .before .before .before .before .before .before .before .before .args .t1) 8
+passed-8 : (c : tie.Else8) → Passed (c .before .before .before .before .before .before .before .before .before .before .before .before .before .before .before .before .before .args .version) (c .before .before .before .before .before .before .before .before .before .before .before .before .before .before .before .before .before .args .t1) 8
 unfolding bounds
 passed-8 c = passed-more (passed-7 (c .before)) (lit< tt) (le-leb _ _ (c .if8 .left))
 
-passed-9 : (c : tie.Else9) → Passed (c .before .before .before .before .before .before .before .before .before .before .before .before .before .before .before .before .before .before .before .args .t1) 9
+passed-9 : (c : tie.Else9) → Passed (c .before .before .before .before .before .before .before .before .before .before .before .before .before .before .before .before .before .before .before .args .version) (c .before .before .before .before .before .before .before .before .before .before .before .before .before .before .before .before .before .before .before .args .t1) 9
 unfolding bounds
 passed-9 c = passed-more (passed-8 (c .before .before)) (lit< tt) (sym (c .before .within3 .ensures) ∙ not-false (c .before .within3 .result) (c .if9 .left))
 
-passed-10 : (c : tie.Else10) → Passed (c .before .before .before .before .before .before .before .before .before .before .before .before .before .before .before .before .before .before .before .before .args .t1) 10
+passed-10 : (c : tie.Else10) → Passed (c .before .before .before .before .before .before .before .before .before .before .before .before .before .before .before .before .before .before .before .before .args .version) (c .before .before .before .before .before .before .before .before .before .before .before .before .before .before .before .before .before .before .before .before .args .t1) 10
 unfolding bounds
 passed-10 c = passed-more (passed-9 (c .before)) (lit< tt) (le-leb _ _ (c .if10 .left))
 
 good-11 : (c : tie.Else11) → within 2 64 (c .before .before .before .before .before .before .before .before .before .before .before .before .before .before .before .before .before .before .before .before .before .before .args .t1 .points) ≡ true
 good-11 c = sym (c .before .within4 .ensures) ∙ not-false (c .before .within4 .result) (c .if11 .left)
 
-passed-11 : (c : tie.Else11) → Passed (c .before .before .before .before .before .before .before .before .before .before .before .before .before .before .before .before .before .before .before .before .before .before .args .t1) 11
+passed-11 : (c : tie.Else11) → Passed (c .before .before .before .before .before .before .before .before .before .before .before .before .before .before .before .before .before .before .before .before .before .before .args .version) (c .before .before .before .before .before .before .before .before .before .before .before .before .before .before .before .before .before .before .before .before .before .before .args .t1) 11
 unfolding bounds
 passed-11 c = passed-more (passed-10 (c .before .before)) (lit< tt) (good-11 c)
 
-passed-12 : (c : tie.Else12) → Passed (c .before .before .before .before .before .before .before .before .before .before .before .before .before .before .before .before .before .before .before .before .before .before .before .before .before .before .before .before .args .t1) 12
+passed-12 : (c : tie.Else12) → Passed (c .before .before .before .before .before .before .before .before .before .before .before .before .before .before .before .before .before .before .before .before .before .before .before .before .before .before .before .before .args .version) (c .before .before .before .before .before .before .before .before .before .before .before .before .before .before .before .before .before .before .before .before .before .before .before .before .before .before .before .before .args .t1) 12
 unfolding bounds
 passed-12 c = passed-more (passed-11 (c .before .before .before .before .before .before)) (lit< tt) (sym (c .before .points-good .ensures _ its-curve) ∙ not-false (c .before .points-good .result) (c .if12 .left))
 
-passed-13 : (c : tie.Else13) → Passed (c .before .before .before .before .before .before .before .before .before .before .before .before .before .before .before .before .before .before .before .before .before .before .before .before .before .before .before .before .before .before .before .before .args .t1) 13
+passed-13 : (c : tie.Else13) → Passed (c .before .before .before .before .before .before .before .before .before .before .before .before .before .before .before .before .before .before .before .before .before .before .before .before .before .before .before .before .before .before .before .before .args .version) (c .before .before .before .before .before .before .before .before .before .before .before .before .before .before .before .before .before .before .before .before .before .before .before .before .before .before .before .before .before .before .before .before .args .t1) 13
 unfolding bounds
 passed-13 c = passed-more (passed-12 (c .before .before .before .before)) (lit< tt) (sym (c .before .ends-good .ensures) ∙ not-false (c .before .ends-good .result) (c .if13 .left))
 
-gears-good-requires : tie.Need-gears-good-requires
-gears-good-requires c κs = search needs
-
 returns : tie.Need-returns
-unfolding bounds low
-returns c = refused-here passed-none (lit< tt) (sym (c .before .gears-good .ensures) ∙ not-true (c .before .gears-good .result) (c .if1 .taken))
+unfolding bounds
+returns c = refused-here (passed-none {v = c .before .before .args .version} {car = c .before .before .args .t1}) (lit< tt) (sym (c .before .gears-good .ensures) ∙ not-true (c .before .gears-good .result) (c .if1 .taken))
 
 ratios-good-requires : tie.Need-ratios-good-requires
 ratios-good-requires c κs = within-hi _ _ _ (and-right _ _ (good-1 (c .before .before)))
@@ -101,22 +98,13 @@ returns-2 : tie.Need-returns-2
 unfolding bounds
 returns-2 c = refused-here (passed-1 (c .before .before .before .before)) (lit< tt) (sym (c .before .ratios-good .ensures _ refl) ∙ not-true (c .before .ratios-good .result) (c .if2 .taken))
 
-within-requires : tie.Need-within-requires
-within-requires c κs = search needs
-
 returns-3 : tie.Need-returns-3
 unfolding bounds
 returns-3 c = refused-here (passed-2 (c .before .before)) (lit< tt) (sym (c .before .within .ensures) ∙ not-true (c .before .within .result) (c .if3 .taken))
 
-above-requires : tie.Need-above-requires
-above-requires c κs = search needs
-
 returns-4 : tie.Need-returns-4
 unfolding bounds
 returns-4 c = refused-here (passed-3 (c .before .before)) (lit< tt) (sym (c .before .above .ensures) ∙ not-true (c .before .above .result) (c .if4 .taken))
-
-within-requires-2 : tie.Need-within-requires-2
-within-requires-2 c κs = search needs
 
 returns-5 : tie.Need-returns-5
 unfolding bounds
@@ -126,9 +114,6 @@ returns-6 : tie.Need-returns-6
 unfolding bounds
 returns-6 c = refused-here (passed-5 (c .before)) (lit< tt) (lt-leb _ _ (c .if6 .taken))
 
-f1-good-requires : tie.Need-f1-good-requires
-f1-good-requires c κs = search needs
-
 returns-7 : tie.Need-returns-7
 unfolding bounds
 returns-7 c = refused-here (passed-6 (c .before .before .before)) (lit< tt) (rw (f1-back (c .before .before)) at (sym (c .before .f1-good .ensures) ∙ not-true (c .before .f1-good .result) (c .if7 .taken)))
@@ -137,9 +122,6 @@ returns-8 : tie.Need-returns-8
 unfolding bounds
 returns-8 c = refused-here (passed-7 (c .before)) (lit< tt) (lt-leb _ _ (c .if8 .taken))
 
-within-requires-3 : tie.Need-within-requires-3
-within-requires-3 c κs = search needs
-
 returns-9 : tie.Need-returns-9
 unfolding bounds
 returns-9 c = refused-here (passed-8 (c .before .before)) (lit< tt) (sym (c .before .within3 .ensures) ∙ not-true (c .before .within3 .result) (c .if9 .taken))
@@ -147,9 +129,6 @@ returns-9 c = refused-here (passed-8 (c .before .before)) (lit< tt) (sym (c .bef
 returns-10 : tie.Need-returns-10
 unfolding bounds
 returns-10 c = refused-here (passed-9 (c .before)) (lit< tt) (lt-leb _ _ (c .if10 .taken))
-
-within-requires-4 : tie.Need-within-requires-4
-within-requires-4 c κs = search needs
 
 returns-11 : tie.Need-returns-11
 unfolding bounds
@@ -179,24 +158,24 @@ pub check-vehicle-spec : {M : Type 1} → statement M
 check-vehicle-spec =
     tie.close
     (tie.spec
-    gears-good-requires
+    (λ c κs. search needs)
     returns
     ratios-good-requires
     returns-2
-    within-requires
+    (λ c κs. search needs)
     returns-3
-    above-requires
+    (λ c κs. search needs)
     returns-4
-    within-requires-2
+    (λ c κs. search needs)
     returns-5
     returns-6
-    f1-good-requires
+    (λ c κs. search needs)
     returns-7
     returns-8
-    within-requires-3
+    (λ c κs. search needs)
     returns-9
     returns-10
-    within-requires-4
+    (λ c κs. search needs)
     returns-11
     points-good-requires
     returns-12

@@ -6,21 +6,9 @@ use borrow.Author.Needs.{needs}
 use Rattle.gears.proofs.bounds.ends_good.Statement.{statement}
 use Rattle.gears.proofs.bounds.ends_good.Tie as tie
 
-element-copy-out-if1 : tie.Need-element-copy-out-if1
-element-copy-out-if1 c = search needs
-
 returns : tie.Need-returns
 unfolding _and_
 returns c = rw (lt-leb _ _ (c .if1 .taken))
-
-sub-last : tie.Need-sub-last
-sub-last c = search needs
-
-mul-result : tie.Need-mul-result
-mul-result c = search needs
-
-element-copy-out-result : tie.Need-element-copy-out-result
-element-copy-out-result c = search needs
 
 returns-2 : tie.Need-returns-2
 unfolding _and_
@@ -29,4 +17,4 @@ returns-2 c = rw (le-leb _ _ (c .before .if1 .left))
 pub ends-good-spec : {M : Type 1} → statement M
 ends-good-spec =
     tie.close
-    (tie.spec element-copy-out-if1 returns sub-last mul-result element-copy-out-result returns-2)
+    (tie.spec (λ c. search needs) returns (λ c. search needs) (λ c. search needs) (λ c. search needs) returns-2)

@@ -1,4 +1,4 @@
--- `gears::bounds::margin_good` meets its contract: the two tests of a point's margin, one after the other.
+-- `gears::bounds::margin_good` meets its contract: the tests of a point's margin, one after the other.
 -- Assumes nothing.
 use borrow.Author.Needs.{needs}
 use borrow.Author.Tests.{le-leb, lt-leb}
@@ -10,12 +10,13 @@ returns : tie.Need-returns
 unfolding _and_
 returns c = rw (lt-leb _ _ (c .if1 .taken))
 
-add-result : tie.Need-add-result
-add-result c = search needs
-
 returns-2 : tie.Need-returns-2
 unfolding _and_
-returns-2 c = rw (le-leb _ _ (c .if1 .left))
+returns-2 c = rw (le-leb _ _ (c .before .if1 .left), lt-leb _ _ (c .if2 .taken))
+
+returns-3 : tie.Need-returns-3
+unfolding _and_
+returns-3 c = rw (le-leb _ _ (c .before .before .if1 .left), le-leb _ _ (c .before .if2 .left)) (c .placed .ensures)
 
 pub margin-good-spec : {M : Type 1} → statement M
-margin-good-spec = tie.close (tie.spec returns add-result returns-2)
+margin-good-spec = tie.close (tie.spec returns (λ c. search needs) returns-2 (λ c κs. search needs) returns-3)

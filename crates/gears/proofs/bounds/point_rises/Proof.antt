@@ -11,27 +11,9 @@ returns : tie.Need-returns
 unfolding _or_
 returns c = rw (eq-eqb _ _ (c .if1 .taken))
 
-mul-x : tie.Need-mul-x
-mul-x c = search needs
-
-element-copy-out-x : tie.Need-element-copy-out-x
-element-copy-out-x c = search needs
-
-sub-lower : tie.Need-sub-lower
-sub-lower c = search needs
-
-mul-lower : tie.Need-mul-lower
-mul-lower c = search needs
-
-element-copy-out-lower : tie.Need-element-copy-out-lower
-element-copy-out-lower c = search needs
-
 returns-2 : tie.Need-returns-2
 unfolding _or_
 returns-2 c = rw (ne-eqb _ _ (c .before .before .before .if1 .left)) (rise-none _ _ (c .if2 .taken))
-
-sub-result : tie.Need-sub-result
-sub-result c = search needs
 
 returns-3 : tie.Need-returns-3
 unfolding _or_
@@ -42,11 +24,11 @@ point-rises-spec =
     tie.close
     (tie.spec
     returns
-    mul-x
-    element-copy-out-x
-    sub-lower
-    mul-lower
-    element-copy-out-lower
+    (λ c. search needs)
+    (λ c. search needs)
+    (λ c. search needs)
+    (λ c. search needs)
+    (λ c. search needs)
     returns-2
-    sub-result
+    (λ c. search needs)
     returns-3)

@@ -14,25 +14,16 @@ use Rattle.gears.proofs.bounds.points_good.Statement.{statement}
 use Rattle.gears.proofs.bounds.points_good.Tie as tie
 
 abbrev Inv-loop : tie.InvT-loop
-Inv-loop n p m margin points end k₀ k = (k ≤ end) × ((car : Vehicle) → CurveOf car n p m margin → Every (point-good car) k end (every (point-good car) 0 points))
+Inv-loop n p m margin points version end k₀ k = (k ≤ end) × ((car : Vehicle) → CurveOf car n p m margin → Every (point-good version car) k end (every (point-good version car) 0 points))
 
 abbrev μ-loop : tie.MeasureT-loop
-μ-loop n p m margin points end k₀ k = end - k
+μ-loop n p m margin points version end k₀ k = end - k
 
 loop-holds : tie.Need-loop-holds Inv-loop μ-loop
 loop-holds c = (omega arith, λ car C. all-start (omega arith))
 
-point-good-requires : tie.Need-point-good-requires Inv-loop μ-loop
-point-good-requires c κs = search needs
-
 returns : tie.Need-returns Inv-loop μ-loop
 returns c = λ car C. all-stops (c .before .before .before .loop .inv .1 car C) (omega arith) (sym (c .before .point-good .ensures car C) ∙ not-true (c .before .point-good .result) (c .if1 .taken))
-
-add-k : tie.Need-add-k Inv-loop μ-loop
-add-k c = search needs
-
-loop-less : tie.Need-loop-less Inv-loop μ-loop
-loop-less c = search needs
 
 loop-again : tie.Need-loop-again Inv-loop μ-loop
 loop-again c = (omega arith, λ car C. all-again (c .before .before .before .loop .inv .1 car C) (omega arith) (sym (c .before .point-good .ensures car C) ∙ not-false (c .before .point-good .result) (c .if1 .left)))
@@ -47,9 +38,9 @@ points-good-spec =
     Inv-loop
     μ-loop
     loop-holds
-    point-good-requires
+    (λ c κs. search needs)
     returns
-    add-k
-    loop-less
+    (λ c. search needs)
+    (λ c. search needs)
     loop-again
     returns-2)

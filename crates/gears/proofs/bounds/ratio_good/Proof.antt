@@ -10,18 +10,6 @@ use borrow.Author.Needs.{needs}
 use Rattle.gears.proofs.bounds.ratio_good.Statement.{statement}
 use Rattle.gears.proofs.bounds.ratio_good.Tie as tie
 
-sub-x : tie.Need-sub-x
-sub-x c = search needs
-
-mul-x : tie.Need-mul-x
-mul-x c = search needs
-
-element-copy-out-x : tie.Need-element-copy-out-x
-element-copy-out-x c = search needs
-
-within-requires : tie.Need-within-requires
-within-requires c κs = search needs
-
 returns : tie.Need-returns
 unfolding ratio-good ratio-of _and_
 returns c = λ car e. rw (e, ← c .before .within .ensures, not-true (c .before .within .result) (c .if1 .taken))
@@ -29,15 +17,6 @@ returns c = λ car e. rw (e, ← c .before .within .ensures, not-true (c .before
 returns-2 : tie.Need-returns-2
 unfolding ratio-good ratio-of _and_ _or_
 returns-2 c = λ car e. rw (e, ← c .before .before .within .ensures, not-false (c .before .before .within .result) (c .before .if1 .left), eq-eqb _ _ (c .if2 .taken))
-
-sub-result : tie.Need-sub-result
-sub-result c = search needs
-
-mul-result : tie.Need-mul-result
-mul-result c = search needs
-
-element-copy-out-result : tie.Need-element-copy-out-result
-element-copy-out-result c = search needs
 
 returns-3 : tie.Need-returns-3
 unfolding ratio-good ratio-of _and_ _or_
@@ -49,13 +28,13 @@ pub ratio-good-spec : {M : Type 1} → statement M
 ratio-good-spec =
     tie.close
     (tie.spec
-    sub-x
-    mul-x
-    element-copy-out-x
-    within-requires
+    (λ c. search needs)
+    (λ c. search needs)
+    (λ c. search needs)
+    (λ c κs. search needs)
     returns
     returns-2
-    sub-result
-    mul-result
-    element-copy-out-result
+    (λ c. search needs)
+    (λ c. search needs)
+    (λ c. search needs)
     returns-3)

@@ -21,17 +21,8 @@ abbrev μ-loop : tie.MeasureT-loop
 loop-holds : tie.Need-loop-holds Inv-loop μ-loop
 loop-holds c = (omega arith, omega arith, λ car e. all-start (omega arith))
 
-ratio-good-requires : tie.Need-ratio-good-requires Inv-loop μ-loop
-ratio-good-requires c κs = search needs
-
 returns : tie.Need-returns Inv-loop μ-loop
 returns c = λ car e. all-stops (c .before .before .before .loop .inv .2 car e) (omega arith) (sym (c .before .ratio-good .ensures car e) ∙ not-true (c .before .ratio-good .result) (c .if1 .taken))
-
-add-g : tie.Need-add-g Inv-loop μ-loop
-add-g c = search needs
-
-loop-less : tie.Need-loop-less Inv-loop μ-loop
-loop-less c = search needs
 
 loop-again : tie.Need-loop-again Inv-loop μ-loop
 loop-again c = (omega arith, omega arith, λ car e. all-again (c .before .before .before .loop .inv .2 car e) (omega arith) (sym (c .before .ratio-good .ensures car e) ∙ not-false (c .before .ratio-good .result) (c .if1 .left)))
@@ -46,9 +37,9 @@ ratios-good-spec =
     Inv-loop
     μ-loop
     loop-holds
-    ratio-good-requires
+    (λ c κs. search needs)
     returns
-    add-g
-    loop-less
+    (λ c. search needs)
+    (λ c. search needs)
     loop-again
     returns-2)

@@ -18,32 +18,8 @@ abbrev μ-loop : tie.MeasureT-loop
 loop-holds : tie.Need-loop-holds Inv-loop μ-loop
 loop-holds c = (omega arith, begun _ _ _)
 
-mul-derated : tie.Need-mul-derated Inv-loop μ-loop
-mul-derated c = search needs
-
-element-copy-out-derated : tie.Need-element-copy-out-derated Inv-loop μ-loop
-element-copy-out-derated c = search needs
-
-mul-derated-2 : tie.Need-mul-derated-2 Inv-loop μ-loop
-mul-derated-2 c = search needs
-
-element-copy-out-derated-2 : tie.Need-element-copy-out-derated-2 Inv-loop μ-loop
-element-copy-out-derated-2 c = search needs
-
 derated-requires : tie.Need-derated-requires Inv-loop μ-loop
 derated-requires c κs = let l = c .before .before .before in l .before .pre .left (l .loop .i) (omega arith)
-
-mul-powers : tie.Need-mul-powers Inv-loop μ-loop
-mul-powers c = search needs
-
-array-write-powers : tie.Need-array-write-powers Inv-loop μ-loop
-array-write-powers c = search needs
-
-add-i : tie.Need-add-i Inv-loop μ-loop
-add-i c = search needs
-
-loop-less : tie.Need-loop-less Inv-loop μ-loop
-loop-less c = search needs
 
 loop-again : tie.Need-loop-again Inv-loop μ-loop
 loop-again c = let l = c .before .before .before .before in (omega arith, goes-on _ _ _ (l .loop .i) (l .loop .inv .1) (c .derated .ensures))
@@ -62,14 +38,14 @@ derate-spec =
     Inv-loop
     μ-loop
     loop-holds
-    mul-derated
-    element-copy-out-derated
-    mul-derated-2
-    element-copy-out-derated-2
+    (λ c. search needs)
+    (λ c. search needs)
+    (λ c. search needs)
+    (λ c. search needs)
     derated-requires
-    mul-powers
-    array-write-powers
-    add-i
-    loop-less
+    (λ c. search needs)
+    (λ c. search needs)
+    (λ c. search needs)
+    (λ c. search needs)
     loop-again
     returns)

@@ -7,15 +7,6 @@ use borrow.Author.Needs.{needs}
 use Rattle.gears.proofs.curve.derated.Statement.{statement}
 use Rattle.gears.proofs.curve.derated.Tie as tie
 
-sub-result : tie.Need-sub-result
-sub-result c = search needs
-
-sub-result-2 : tie.Need-sub-result-2
-sub-result-2 c = search needs
-
-cast-result : tie.Need-cast-result
-cast-result c = search needs
-
 mul-result : tie.Need-mul-result
 mul-result c =
     let rest : 100 - c .args .margin - c .args .m ≤ 100 = omega arith in
@@ -23,8 +14,5 @@ mul-result c =
     let most : c .args .p * (100 - c .args .margin - c .args .m) ≤ 65535 * 100 = mul-le-mul small rest in
     omega arith
 
-returns : tie.Need-returns
-returns c = search needs
-
 pub derated-spec : {M : Type 1} → statement M
-derated-spec = tie.close (tie.spec sub-result sub-result-2 cast-result mul-result returns)
+derated-spec = tie.close (tie.spec (λ c. search needs) (λ c. search needs) (λ c. search needs) mul-result (λ c. search needs))

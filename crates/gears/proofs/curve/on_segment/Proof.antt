@@ -44,36 +44,6 @@ past c =
 abbrev q : tie.After-signed-power2 → E
 q c = lit (pos 1000) ⊗ p1 (c .before .before .before .before) ⊗ w (c .before .before) ⊕ climb c ⊗ past c
 
-mul-signed : tie.Need-mul-signed
-mul-signed c = search needs
-
-element-copy-out-signed : tie.Need-element-copy-out-signed
-element-copy-out-signed c = search needs
-
-signed-requires : tie.Need-signed-requires
-signed-requires c κs = search needs
-
-mul-signed-power : tie.Need-mul-signed-power
-mul-signed-power c = search needs
-
-element-copy-out-signed-power : tie.Need-element-copy-out-signed-power
-element-copy-out-signed-power c = search needs
-
-signed-power-requires : tie.Need-signed-power-requires
-signed-power-requires c κs = search needs
-
-add-signed : tie.Need-add-signed
-add-signed c = search needs
-
-mul-signed-2 : tie.Need-mul-signed-2
-mul-signed-2 c = search needs
-
-element-copy-out-signed-2 : tie.Need-element-copy-out-signed-2
-element-copy-out-signed-2 c = search needs
-
-signed-requires-2 : tie.Need-signed-requires-2
-signed-requires-2 c κs = search needs
-
 sub-w : tie.Need-sub-w
 sub-w c = fits (w c) tt
 
@@ -83,23 +53,8 @@ mul-q c = fits (lit (pos 1000) ⊗ p1 (c .before .before)) tt
 mul-q-2 : tie.Need-mul-q-2
 mul-q-2 c = fits (lit (pos 1000) ⊗ p1 (c .before .before) ⊗ w c) tt
 
-add-signed-power : tie.Need-add-signed-power
-add-signed-power c = search needs
-
-mul-signed-power-2 : tie.Need-mul-signed-power-2
-mul-signed-power-2 c = search needs
-
-element-copy-out-signed-power-2 : tie.Need-element-copy-out-signed-power-2
-element-copy-out-signed-power-2 c = search needs
-
-signed-power-requires-2 : tie.Need-signed-power-requires-2
-signed-power-requires-2 c κs = search needs
-
 sub-q : tie.Need-sub-q
 sub-q c = fits (climb c) tt
-
-cast-q : tie.Need-cast-q
-cast-q c = search needs
 
 mul-q-3 : tie.Need-mul-q-3
 mul-q-3 c = fits (lit (pos 1000) ⊗ n1 (c .before .before .before .before .before .before)) tt
@@ -124,25 +79,25 @@ pub on-segment-spec : {M : Type 1} → statement M
 on-segment-spec =
     tie.close
     (tie.spec
-    mul-signed
-    element-copy-out-signed
-    signed-requires
-    mul-signed-power
-    element-copy-out-signed-power
-    signed-power-requires
-    add-signed
-    mul-signed-2
-    element-copy-out-signed-2
-    signed-requires-2
+    (λ c. search needs)
+    (λ c. search needs)
+    (λ c κs. search needs)
+    (λ c. search needs)
+    (λ c. search needs)
+    (λ c κs. search needs)
+    (λ c. search needs)
+    (λ c. search needs)
+    (λ c. search needs)
+    (λ c κs. search needs)
     sub-w
     mul-q
     mul-q-2
-    add-signed-power
-    mul-signed-power-2
-    element-copy-out-signed-power-2
-    signed-power-requires-2
+    (λ c. search needs)
+    (λ c. search needs)
+    (λ c. search needs)
+    (λ c κs. search needs)
     sub-q
-    cast-q
+    (λ c. search needs)
     mul-q-3
     sub-q-2
     mul-q-4

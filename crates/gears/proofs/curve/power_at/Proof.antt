@@ -1,13 +1,14 @@
--- `gears::curve::power_at` meets its contract: the engine speed lies on the curve, and the segment found is read.
+-- `gears::curve::power_at` meets its contract: the engine speed lies on the curve, and the segment given is read.
 -- Assumes nothing.
 use native.Mathlib.Omega.{arith}
 use mathlib.Core.Path.{_≡_, _∙_}
-use borrow.Author.Needs.{needs}
 use Rattle.rules.specs.Gears.{power-speed}
 use Rattle.rules.specs.declared.Vehicle.{Vehicle}
 use Rattle.gears.specs.Parts.{Lent}
+use Rattle.gears.specs.Choosing.{segment-in, turned}
 use Rattle.gears.proofs.Parts.{ng-of}
-use Rattle.gears.proofs.Powers.{speed-is, power-is, turning-curve, turning-segment}
+use Rattle.gears.proofs.Powers.{speed-is, power-is, turning-segment}
+use borrow.Author.Needs.{needs}
 use Rattle.gears.proofs.curve.power_at.Statement.{statement}
 use Rattle.gears.proofs.curve.power_at.Tie as tie
 
@@ -16,22 +17,20 @@ speed : (c : tie.After-power-speed) → let s = c .before .before in (car : Vehi
     → c .power-speed .result ≡ power-speed car (s .args .v) (s .args .g)
 speed c car L = let s = c .before .before in speed-is L (s .args .v) (s .args .g) (c .power-speed .ensures) (c .before .engine .ensures)
 
+-- the segment is that of this speed
+found : (c : tie.After-power-speed) → let s = c .before .before in s .args .s ≡ segment-in (s .args .n .now) (s .args .k .points) (c .power-speed .result)
+unfolding turned
+found c = rw (c .power-speed .ensures, c .before .engine .ensures) (c .before .before .pre .2)
+
 engine-requires : tie.Need-engine-requires
 engine-requires c κs = let L = c .pre .0 .lent in record { from = c .pre .1 .from; to = omega (arith, c .pre .1 .to, ng-of (L .has .counts), L .bounds .ng-to) }
 
-power-speed-requires : tie.Need-power-speed-requires
-power-speed-requires c κs = search needs
-
-segment-requires : tie.Need-segment-requires
-segment-requires c κs = let s = c .before .before in let L = s .pre .0 .lent in turning-curve L _ _ (s .pre .1) (speed c (s .pre .0 .car) L)
-
 on-segment-requires : tie.Need-on-segment-requires
-on-segment-requires c κs = let s = c .before .before .before in let L = s .pre .0 .lent in turning-segment L _ _ (s .pre .1) (speed (c .before) (s .pre .0 .car) L) (c .segment .ensures)
+on-segment-requires c κs = let s = c .before .before in let L = s .pre .0 .lent in turning-segment L _ _ (s .pre .1) (speed c (s .pre .0 .car) L) (found c)
 
 returns : tie.Need-returns
-returns c = λ car L. c .on-segment .ensures ∙ power-is L _ _ (c .before .before .before .before .pre .1) (speed (c .before .before) car L) (c .before .segment .ensures)
+returns c = λ car L. c .on-segment .ensures ∙ power-is L _ _ (c .before .before .before .pre .1) (speed (c .before) car L) (found (c .before))
 
 pub power-at-spec : {M : Type 1} → statement M
 power-at-spec =
-    tie.close
-    (tie.spec engine-requires power-speed-requires segment-requires on-segment-requires returns)
+    tie.close (tie.spec engine-requires (λ c κs. search needs) on-segment-requires returns)

@@ -7,11 +7,8 @@ use mir.Facts.{toZ-pos}
 use Rattle.gears.proofs.curve.signed.Statement.{statement}
 use Rattle.gears.proofs.curve.signed.Tie as tie
 
-cast-result : tie.Need-cast-result
-cast-result c = search needs
-
 returns : tie.Need-returns
 returns c = record { same = toZ-pos w64 (omega arith); most = omega arith }
 
 pub signed-spec : {M : Type 1} → statement M
-signed-spec = tie.close (tie.spec cast-result returns)
+signed-spec = tie.close (tie.spec (λ c. search needs) returns)

@@ -15,32 +15,14 @@ Inv-loop ratio v ng most g₀ g = (1 ≤ g) × (g ≤ suc ng) × LeftFrom ratio 
 abbrev μ-loop : tie.MeasureT-loop
 μ-loop ratio v ng most g₀ g = suc ng - g
 
-cast-ng : tie.Need-cast-ng Inv-loop μ-loop
-cast-ng c = search needs
-
-top-requires : tie.Need-top-requires Inv-loop μ-loop
-top-requires c κs = search needs
-
-lowest-requires : tie.Need-lowest-requires Inv-loop μ-loop
-lowest-requires c κs = search needs
-
 loop-holds : tie.Need-loop-holds Inv-loop μ-loop
 loop-holds c =
     let l = c .lowest .ensures in
     let b = c .before .before .before .pre .low-to in
     (omega (arith, l), omega (arith, l, b), start (omega (arith, l, b)))
 
-engine-requires : tie.Need-engine-requires Inv-loop μ-loop
-engine-requires c κs = search needs
-
 returns : tie.Need-returns Inv-loop μ-loop
 returns c = λ car H. floor-here H _ (c .before .before .before .before .before .top .ensures) (c .before .before .before .before .lowest .ensures) (c .before .before .before .loop .g) (c .before .before .before .loop .inv .2) (c .before .before .loop-test .taken) (rw (c .before .engine .ensures) at (c .if1 .taken))
-
-add-g : tie.Need-add-g Inv-loop μ-loop
-add-g c = search needs
-
-loop-less : tie.Need-loop-less Inv-loop μ-loop
-loop-less c = search needs
 
 loop-again : tie.Need-loop-again Inv-loop μ-loop
 loop-again c = (omega arith, omega arith, again (c .before .before .before .loop .inv .2) (omega arith) (lt-leb _ _ (rw (c .before .engine .ensures) at (c .if1 .left))))
@@ -54,13 +36,13 @@ floor-spec =
     (tie.spec
     Inv-loop
     μ-loop
-    cast-ng
-    top-requires
-    lowest-requires
+    (λ c. search needs)
+    (λ c κs. search needs)
+    (λ c κs. search needs)
     loop-holds
-    engine-requires
+    (λ c κs. search needs)
     returns
-    add-g
-    loop-less
+    (λ c. search needs)
+    (λ c. search needs)
     loop-again
     returns-2)

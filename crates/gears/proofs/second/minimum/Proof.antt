@@ -15,29 +15,8 @@ use Rattle.gears.proofs.second.minimum.Tie as tie
 low-is : (c : tie.After-lowest) (car : Vehicle) → Counts car (c .before .before .before .args .k) → low car ≡ c .lowest .result
 low-is c car C = low-of C ∙ sym (c .lowest .ensures)
 
-wide-requires : tie.Need-wide-requires
-wide-requires c κs = search needs
-
-wide-requires-2 : tie.Need-wide-requires-2
-wide-requires-2 c κs = search needs
-
-lowest-requires : tie.Need-lowest-requires
-lowest-requires c κs = search needs
-
 sub-match : tie.Need-sub-match
 sub-match c = omega (arith, c .lowest .ensures, c .before .before .before .pre .from)
-
-next-minimum-requires : tie.Need-next-minimum-requires
-next-minimum-requires c κs = search needs
-
-sub-result : tie.Need-sub-result
-sub-result c = search needs
-
-add-result : tie.Need-add-result
-add-result c = search needs
-
-add-result-2 : tie.Need-add-result-2
-add-result-2 c = search needs
 
 returns : tie.Need-returns
 returns c = (λ car C. rw (minimum-one car _ (c .before .before .before .before .args .g) (rw (low-is (c .before) car C) (c .match .keys1)), idle-of C) (c .before .before .before .wide .ensures .0), search needs)
@@ -57,14 +36,14 @@ pub minimum-spec : {M : Type 1} → statement M
 minimum-spec =
     tie.close
     (tie.spec
-    wide-requires
-    wide-requires-2
-    lowest-requires
+    (λ c κs. search needs)
+    (λ c κs. search needs)
+    (λ c κs. search needs)
     sub-match
-    next-minimum-requires
-    sub-result
-    add-result
-    add-result-2
+    (λ c κs. search needs)
+    (λ c. search needs)
+    (λ c. search needs)
+    (λ c. search needs)
     returns
     returns-2
     returns-3)

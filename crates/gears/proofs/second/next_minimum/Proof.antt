@@ -6,39 +6,6 @@ use Rattle.gears.proofs.Parts.{idle-of}
 use Rattle.gears.proofs.second.next_minimum.Statement.{statement}
 use Rattle.gears.proofs.second.next_minimum.Tie as tie
 
-wide-requires : tie.Need-wide-requires
-wide-requires c κs = search needs
-
-enum-told : tie.Need-enum-told
-enum-told c = search needs
-
-mul-result : tie.Need-mul-result
-mul-result c = search needs
-
-add-result : tie.Need-add-result
-add-result c = search needs
-
-enum-told-2 : tie.Need-enum-told-2
-enum-told-2 c = search needs
-
-enum-told-3 : tie.Need-enum-told-3
-enum-told-3 c = search needs
-
-mul-result-2 : tie.Need-mul-result-2
-mul-result-2 c = search needs
-
-add-result-2 : tie.Need-add-result-2
-add-result-2 c = search needs
-
-enum-told-4 : tie.Need-enum-told-4
-enum-told-4 c = search needs
-
-mul-result-3 : tie.Need-mul-result-3
-mul-result-3 c = search needs
-
-add-result-3 : tie.Need-add-result-3
-add-result-3 c = search needs
-
 returns : tie.Need-returns
 unfolding next-minimum
 returns c = (λ car C. rw (c .enum-told .given .1, idle-of C, c .before .before .wide .ensures .0), search needs)
@@ -59,17 +26,17 @@ pub next-minimum-spec : {M : Type 1} → statement M
 next-minimum-spec =
     tie.close
     (tie.spec
-    wide-requires
-    enum-told
-    mul-result
-    add-result
-    enum-told-2
-    enum-told-3
-    mul-result-2
-    add-result-2
-    enum-told-4
-    mul-result-3
-    add-result-3
+    (λ c κs. search needs)
+    (λ c. search needs)
+    (λ c. search needs)
+    (λ c. search needs)
+    (λ c. search needs)
+    (λ c. search needs)
+    (λ c. search needs)
+    (λ c. search needs)
+    (λ c. search needs)
+    (λ c. search needs)
+    (λ c. search needs)
     returns
     returns-2
     returns-3

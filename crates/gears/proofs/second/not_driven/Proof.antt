@@ -29,9 +29,6 @@ returns-2 : tie.Need-returns-2
 unfolding not-driven _and_ _or_
 returns-2 c = (λ e. omega arith, λ car K. rw (ng-of K, le-ltb _ _ (c .before .if1 .left), le-ltb 0 (c .before .before .before .args .gear) (omega arith)))
 
-lowest-requires : tie.Need-lowest-requires
-lowest-requires c κs = search needs
-
 returns-3 : tie.Need-returns-3
 returns-3 c = (
   λ e. omega arith,
@@ -42,4 +39,4 @@ returns-3 c = (
 )
 
 pub not-driven-spec : {M : Type 1} → statement M
-not-driven-spec = tie.close (tie.spec returns returns-2 lowest-requires returns-3)
+not-driven-spec = tie.close (tie.spec returns returns-2 (λ c κs. search needs) returns-3)

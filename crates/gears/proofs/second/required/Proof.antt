@@ -44,20 +44,11 @@ outer s = lit (pos 9000000) ⊗ f0 s ⊕ mass s ⊕ v s ⊗ inner s
 abbrev power : tie.Start → E
 power s = v s ⊗ outer s
 
-cast-v : tie.Need-cast-v
-cast-v c = search needs
-
-cast-result : tie.Need-cast-result
-cast-result c = search needs
-
 mul-result : tie.Need-mul-result
 mul-result c = fits (lit (pos 9000000) ⊗ f0 (c .before)) tt
 
 mul-result-2 : tie.Need-mul-result-2
 mul-result-2 c = fits (lit (pos 2575000) ⊗ d (c .before)) tt
-
-cast-result-2 : tie.Need-cast-result-2
-cast-result-2 c = search needs
 
 mul-result-3 : tie.Need-mul-result-3
 mul-result-3 c = fits (mass (c .before .before)) tt
@@ -70,9 +61,6 @@ cast-result-3 c = from-i32-fits (small-i32 (c .before .before .before .before .a
 
 mul-result-4 : tie.Need-mul-result-4
 mul-result-4 c = fits (lit (pos 9000) ⊗ f1 (c .before .before .before .before)) tt
-
-cast-result-4 : tie.Need-cast-result-4
-cast-result-4 c = search needs
 
 mul-result-5 : tie.Need-mul-result-5
 mul-result-5 c = fits (square (c .before .before .before .before .before)) tt
@@ -96,4 +84,4 @@ returns : tie.Need-returns
 returns c = λ car C. let s = c .before .before .before .before .before in read (power s) tt ∙ required-of C (s .args .v) (s .args .d)
 
 pub required-spec : {M : Type 1} → statement M
-required-spec = tie.close (tie.spec cast-v cast-result mul-result mul-result-2 cast-result-2 mul-result-3 add-result cast-result-3 mul-result-4 cast-result-4 mul-result-5 mul-result-6 add-result-2 mul-result-7 add-result-3 mul-result-8 returns)
+required-spec = tie.close (tie.spec (λ c. search needs) (λ c. search needs) mul-result mul-result-2 (λ c. search needs) mul-result-3 add-result cast-result-3 mul-result-4 (λ c. search needs) mul-result-5 mul-result-6 add-result-2 mul-result-7 add-result-3 mul-result-8 returns)

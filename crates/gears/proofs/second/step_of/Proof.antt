@@ -13,12 +13,6 @@ this c = var (pos (c .args .this)) 65535 (omega arith)
 abbrev next : tie.Start → E
 next c = var (pos (c .args .next)) 65535 (omega arith)
 
-cast-result : tie.Need-cast-result
-cast-result c = search needs
-
-cast-result-2 : tie.Need-cast-result-2
-cast-result-2 c = search needs
-
 sub-result : tie.Need-sub-result
 sub-result c = fits (next c ⊖ this c) tt
 
@@ -26,4 +20,4 @@ returns : tie.Need-returns
 returns c = read (next c ⊖ this c) tt
 
 pub step-of-spec : {M : Type 1} → statement M
-step-of-spec = tie.close (tie.spec cast-result cast-result-2 sub-result returns)
+step-of-spec = tie.close (tie.spec (λ c. search needs) (λ c. search needs) sub-result returns)

@@ -2,49 +2,40 @@
 -- Assumes nothing.
 use native.Mathlib.Omega.{arith}
 use borrow.Author.Needs.{needs}
-use Rattle.rules.specs.Refusals.{number, place}
-use Rattle.jobs.proofs.Ways.{bounded-stops, bounded-refuses, bounded-gives}
+use Rattle.rules.specs.Refusals.{fault}
+use Rattle.jobs.proofs.StageAnswers.{bounded-stops, bounded-refuses, bounded-gives}
 use Rattle.jobs.proofs.groups.bounded.Statement.{statement}
 use Rattle.jobs.proofs.groups.bounded.Tie as tie
-
-group-at-requires : tie.Need-group-at-requires
-group-at-requires c κs = search needs
-
-enum-known-g : tie.Need-enum-known-g
-enum-known-g c = search needs
-
-enum-told : tie.Need-enum-told
-enum-told c = search needs
 
 returns : tie.Need-returns
 returns c =
     let c₁ = c .before .before in
     let s = c₁ .before .before in
     let g = c .enum-told .given .1 in
-    rw g (bounded-stops (s .args .job .now) (s .args .lo) (s .args .hi) (number (s .args .refusal)) (place (s .args .refusal)) (s .args .at) (rw g at (c₁ .group-at .ensures)))
+    rw g (bounded-stops (s .args .job .now) (s .args .lo) (s .args .hi) (fault (s .args .refusal) .no) (fault (s .args .refusal) .spot) (s .args .at) (rw g at (c₁ .group-at .ensures)))
 
 returns-2 : tie.Need-returns-2
 returns-2 c =
     let c₁ = c .before .before in
     let c₂ = c₁ .before .before in
     let s = c₂ .before .before in
-    bounded-refuses (s .args .job .now) (s .args .lo) (s .args .hi) (number (s .args .refusal)) (place (s .args .refusal)) (s .args .at) (rw (c₁ .g .given .1) at (c₂ .group-at .ensures)) (λ x y. omega arith)
+    bounded-refuses (s .args .job .now) (s .args .lo) (s .args .hi) (fault (s .args .refusal) .no) (fault (s .args .refusal) .spot) (s .args .at) (rw (c₁ .g .given .1) at (c₂ .group-at .ensures)) (λ x y. omega arith)
 
 returns-3 : tie.Need-returns-3
 returns-3 c =
     let c₁ = c .before .before .before in
     let c₂ = c₁ .before .before in
     let s = c₂ .before .before in
-    bounded-refuses (s .args .job .now) (s .args .lo) (s .args .hi) (number (s .args .refusal)) (place (s .args .refusal)) (s .args .at) (rw (c₁ .g .given .1) at (c₂ .group-at .ensures)) (λ x y. omega arith)
+    bounded-refuses (s .args .job .now) (s .args .lo) (s .args .hi) (fault (s .args .refusal) .no) (fault (s .args .refusal) .spot) (s .args .at) (rw (c₁ .g .given .1) at (c₂ .group-at .ensures)) (λ x y. omega arith)
 
 returns-4 : tie.Need-returns-4
 returns-4 c =
     let c₁ = c .before .before .before in
     let c₂ = c₁ .before .before in
     let s = c₂ .before .before in
-    bounded-gives (s .args .job .now) (s .args .lo) (s .args .hi) (number (s .args .refusal)) (place (s .args .refusal)) (s .args .at) (rw (c₁ .g .given .1) at (c₂ .group-at .ensures)) (omega arith) (omega arith)
+    bounded-gives (s .args .job .now) (s .args .lo) (s .args .hi) (fault (s .args .refusal) .no) (fault (s .args .refusal) .spot) (s .args .at) (rw (c₁ .g .given .1) at (c₂ .group-at .ensures)) (omega arith) (omega arith)
 
 pub bounded-spec : {M : Type 1} → statement M
 bounded-spec =
     tie.close
-    (tie.spec group-at-requires enum-known-g enum-told returns returns-2 returns-3 returns-4)
+    (tie.spec (λ c κs. search needs) (λ c. search needs) (λ c. search needs) returns returns-2 returns-3 returns-4)

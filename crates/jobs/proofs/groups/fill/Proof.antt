@@ -8,7 +8,7 @@ use lib.ListN.{length, length-set}
 use lib.Seq.{sets}
 use borrow.Author.Needs.{needs}
 use Rattle.rules.specs.Forms.{value, many}
-use Rattle.jobs.specs.Stages.{used}
+use Rattle.jobs.specs.Progress.{used}
 use Rattle.jobs.proofs.Loops.{Many, many-begins, ends, value-stops, value-again}
 use Rattle.jobs.proofs.groups.fill.Statement.{statement}
 use Rattle.jobs.proofs.groups.fill.Tie as tie
@@ -22,21 +22,6 @@ abbrev μ-loop : tie.MeasureT-loop
 loop-holds : tie.Need-loop-holds Inv-loop μ-loop
 loop-holds c = (omega arith, refl, many-begins _ _ _ _ _)
 
-group-at-requires : tie.Need-group-at-requires Inv-loop μ-loop
-group-at-requires c κs = search needs
-
-enum-known-g : tie.Need-enum-known-g Inv-loop μ-loop
-enum-known-g c = search needs
-
-enum-told : tie.Need-enum-told Inv-loop μ-loop
-enum-told c = search needs
-
-came-requires : tie.Need-came-requires Inv-loop μ-loop
-came-requires c κs = search needs
-
-same-length : tie.Need-same-length Inv-loop μ-loop
-same-length c = search needs
-
 returns : tie.Need-returns Inv-loop μ-loop
 returns c =
     let c₁ = c .before .before .before in
@@ -44,26 +29,11 @@ returns c =
     let g = c .before .enum-told .given .1 in
     rw (c .came .ensures, g) (value-stops (c₂ .loop .inv .2) (omega arith) (rw g at (c₁ .group-at .ensures)))
 
-mul-values : tie.Need-mul-values Inv-loop μ-loop
-mul-values c = search needs
-
-slice-write-values : tie.Need-slice-write-values Inv-loop μ-loop
-slice-write-values c = search needs
-
-add-i : tie.Need-add-i Inv-loop μ-loop
-add-i c = search needs
-
-loop-less : tie.Need-loop-less Inv-loop μ-loop
-loop-less c = search needs
-
 loop-again : tie.Need-loop-again Inv-loop μ-loop
 loop-again c =
     let c₁ = c .before .before .before in
     let c₂ = c₁ .before .before in
     (omega arith, simp length-set (c₂ .loop .inv .1), rw add-one (rw add-one at (value-again (c₂ .loop .inv .2) (omega arith) (rw (c .before .g .given .1) at (c₁ .group-at .ensures)))))
-
-same-length-2 : tie.Need-same-length-2 Inv-loop μ-loop
-same-length-2 c = search needs
 
 returns-2 : tie.Need-returns-2 Inv-loop μ-loop
 returns-2 c = ends (c .before .loop .inv .2) (omega arith)
@@ -75,16 +45,16 @@ fill-spec =
     Inv-loop
     μ-loop
     loop-holds
-    group-at-requires
-    enum-known-g
-    enum-told
-    came-requires
-    same-length
+    (λ c κs. search needs)
+    (λ c. search needs)
+    (λ c. search needs)
+    (λ c κs. search needs)
+    (λ c. search needs)
     returns
-    mul-values
-    slice-write-values
-    add-i
-    loop-less
+    (λ c. search needs)
+    (λ c. search needs)
+    (λ c. search needs)
+    (λ c. search needs)
     loop-again
-    same-length-2
+    (λ c. search needs)
     returns-2)

@@ -15,27 +15,15 @@ returns c =
     let s = c .before in
     let s = s in sym (ends-first (s .args .job .now) (s .args .at) (omega arith))
 
-shared-slice-read-a : tie.Need-shared-slice-read-a
-shared-slice-read-a c = search needs
-
 cast-a : tie.Need-cast-a
 cast-a c =
     let s = c .before .before in
     let s = s in omega (arith, c .shared-slice-known .given (s .args .at))
 
-cast-t13 : tie.Need-cast-t13
-cast-t13 c = search needs
-
-add-t14 : tie.Need-add-t14
-add-t14 c = search needs
-
 returns-2 : tie.Need-returns-2
 returns-2 c =
     let s = c .before .before .before in
     let s = s in sym (one (s .args .job .now) (s .args .at) (omega arith) (omega arith))
-
-add-if3 : tie.Need-add-if3
-add-if3 c = search needs
 
 returns-3 : tie.Need-returns-3
 unfolding early
@@ -43,53 +31,26 @@ returns-3 c =
     let s = c .before .before .before .before in
     let s = s in sym (ends-second (s .args .job .now) (s .args .at) (omega arith) (omega arith) (omega arith))
 
-add-b : tie.Need-add-b
-add-b c = search needs
-
-shared-slice-read-b : tie.Need-shared-slice-read-b
-shared-slice-read-b c = search needs
-
 cast-b : tie.Need-cast-b
 cast-b c =
     let s = c .before .before .before .before .before in
     let s = s in omega (arith, c .shared-slice-known2 .given (s .args .at + 1))
-
-mul-two : tie.Need-mul-two
-mul-two c = search needs
-
-add-two : tie.Need-add-two
-add-two c = search needs
 
 returns-4 : tie.Need-returns-4
 returns-4 c =
     let s = c .before .before .before .before .before .before .before in
     let s = s in sym (two-bad (s .args .job .now) (s .args .at) (omega arith) (omega arith) (omega arith) (omega arith))
 
-cast-t23 : tie.Need-cast-t23
-cast-t23 c = search needs
-
-add-t24 : tie.Need-add-t24
-add-t24 c = search needs
-
 returns-5 : tie.Need-returns-5
 returns-5 c =
     let s = c .before .before .before .before .before .before .before in
     let s = s in sym (two (s .args .job .now) (s .args .at) (omega arith) (omega arith) (omega arith) (omega arith) (omega arith))
-
-add-if6 : tie.Need-add-if6
-add-if6 c = search needs
 
 returns-6 : tie.Need-returns-6
 unfolding early
 returns-6 c =
     let s = c .before .before .before .before .before .before .before in
     let s = s in sym (ends-third (s .args .job .now) (s .args .at) (omega arith) (omega arith) (omega arith) (omega arith) (omega arith))
-
-add-c : tie.Need-add-c
-add-c c = search needs
-
-shared-slice-read-c : tie.Need-shared-slice-read-c
-shared-slice-read-c c = search needs
 
 cast-c : tie.Need-cast-c
 cast-c c =
@@ -116,12 +77,6 @@ returns-8 c =
     let s = c .before .before .before .before .before .before .before .before .before .before in
     let s = s in sym (three-bad (s .args .job .now) (s .args .at) (omega arith) (omega arith) (omega arith) (omega arith) (omega arith) (λ p q r. omega arith))
 
-cast-t29 : tie.Need-cast-t29
-cast-t29 c = search needs
-
-add-t15 : tie.Need-add-t15
-add-t15 c = search needs
-
 returns-9 : tie.Need-returns-9
 returns-9 c =
     let s = c .before .before .before .before .before .before .before .before .before .before in
@@ -132,31 +87,31 @@ group-at-spec =
     tie.close
     (tie.spec
     returns
-    shared-slice-read-a
+    (λ c. search needs)
     cast-a
-    cast-t13
-    add-t14
+    (λ c. search needs)
+    (λ c. search needs)
     returns-2
-    add-if3
+    (λ c. search needs)
     returns-3
-    add-b
-    shared-slice-read-b
+    (λ c. search needs)
+    (λ c. search needs)
     cast-b
-    mul-two
-    add-two
+    (λ c. search needs)
+    (λ c. search needs)
     returns-4
-    cast-t23
-    add-t24
+    (λ c. search needs)
+    (λ c. search needs)
     returns-5
-    add-if6
+    (λ c. search needs)
     returns-6
-    add-c
-    shared-slice-read-c
+    (λ c. search needs)
+    (λ c. search needs)
     cast-c
     mul-three
     add-three
     returns-7
     returns-8
-    cast-t29
-    add-t15
+    (λ c. search needs)
+    (λ c. search needs)
     returns-9)

@@ -8,7 +8,7 @@ use lib.ListN.{length, length-set}
 use lib.Seq.{sets}
 use borrow.Author.Needs.{needs}
 use Rattle.rules.specs.Forms.{value, many}
-use Rattle.jobs.specs.Stages.{used}
+use Rattle.jobs.specs.Progress.{used}
 use Rattle.jobs.proofs.Loops.{Many, many-begins, used-comes, value-comes, ends, value-again, filled-all}
 use Rattle.jobs.proofs.groups.put_speeds.Statement.{statement}
 use Rattle.jobs.proofs.groups.put_speeds.Tie as tie
@@ -22,30 +22,15 @@ abbrev μ-loop : tie.MeasureT-loop
 loop-holds : tie.Need-loop-holds Inv-loop μ-loop
 loop-holds c = (omega arith, refl, many-begins _ _ _ _ _)
 
-judged-at-requires : tie.Need-judged-at-requires Inv-loop μ-loop
-judged-at-requires c κs =
+value-at-requires : tie.Need-value-at-requires Inv-loop μ-loop
+value-at-requires c κs =
     let s = c .before .before .before .before in
     value-comes (c .before .loop .inv .2) (omega arith) (used-comes _ _ _ _ (s .pre))
-
-mul-room : tie.Need-mul-room Inv-loop μ-loop
-mul-room c = search needs
-
-slice-write-room : tie.Need-slice-write-room Inv-loop μ-loop
-slice-write-room c = search needs
-
-add-i : tie.Need-add-i Inv-loop μ-loop
-add-i c = search needs
-
-loop-less : tie.Need-loop-less Inv-loop μ-loop
-loop-less c = search needs
 
 loop-again : tie.Need-loop-again Inv-loop μ-loop
 loop-again c =
     let c₁ = c .before .before in
-    (omega arith, simp length-set (c₁ .loop .inv .1), rw add-one (rw add-one at (value-again (c₁ .loop .inv .2) (omega arith) (c .judged-at .ensures))))
-
-same-length : tie.Need-same-length Inv-loop μ-loop
-same-length c = search needs
+    (omega arith, simp length-set (c₁ .loop .inv .1), rw add-one (rw add-one at (value-again (c₁ .loop .inv .2) (omega arith) (c .value-at .ensures))))
 
 returns : tie.Need-returns Inv-loop μ-loop
 returns c =
@@ -59,11 +44,11 @@ put-speeds-spec =
     Inv-loop
     μ-loop
     loop-holds
-    judged-at-requires
-    mul-room
-    slice-write-room
-    add-i
-    loop-less
+    value-at-requires
+    (λ c. search needs)
+    (λ c. search needs)
+    (λ c. search needs)
+    (λ c. search needs)
     loop-again
-    same-length
+    (λ c. search needs)
     returns)

@@ -5,7 +5,7 @@ use native.Mathlib.Omega.{arith}
 use mathlib.Core.Bool.{true}
 use borrow.Author.Needs.{needs}
 use Rattle.rules.specs.Forms.{value, many}
-use Rattle.jobs.specs.Stages.{used}
+use Rattle.jobs.specs.Progress.{used}
 use Rattle.jobs.proofs.Loops.{Many, many-begins, ends, value-stops, value-again}
 use Rattle.jobs.proofs.groups.skip.Statement.{statement}
 use Rattle.jobs.proofs.groups.skip.Tie as tie
@@ -19,30 +19,12 @@ abbrev μ-loop : tie.MeasureT-loop
 loop-holds : tie.Need-loop-holds Inv-loop μ-loop
 loop-holds c = (omega arith, many-begins _ _ _ _ _)
 
-group-at-requires : tie.Need-group-at-requires Inv-loop μ-loop
-group-at-requires c κs = search needs
-
-enum-known-g : tie.Need-enum-known-g Inv-loop μ-loop
-enum-known-g c = search needs
-
-enum-told : tie.Need-enum-told Inv-loop μ-loop
-enum-told c = search needs
-
-came-requires : tie.Need-came-requires Inv-loop μ-loop
-came-requires c κs = search needs
-
 returns : tie.Need-returns Inv-loop μ-loop
 returns c =
     let c₁ = c .before .before .before in
     let c₂ = c₁ .before .before in
     let g = c .before .enum-told .given .1 in
     rw (c .came .ensures, g) (value-stops (c₂ .loop .inv .1) (omega arith) (rw g at (c₁ .group-at .ensures)))
-
-add-i : tie.Need-add-i Inv-loop μ-loop
-add-i c = search needs
-
-loop-less : tie.Need-loop-less Inv-loop μ-loop
-loop-less c = search needs
 
 loop-again : tie.Need-loop-again Inv-loop μ-loop
 loop-again c =
@@ -60,12 +42,12 @@ skip-spec =
     Inv-loop
     μ-loop
     loop-holds
-    group-at-requires
-    enum-known-g
-    enum-told
-    came-requires
+    (λ c κs. search needs)
+    (λ c. search needs)
+    (λ c. search needs)
+    (λ c κs. search needs)
     returns
-    add-i
-    loop-less
+    (λ c. search needs)
+    (λ c. search needs)
     loop-again
     returns-2)

@@ -7,7 +7,7 @@ use mathlib.Core.Path.{_≡_}
 use lib.ListN.{length}
 use Rattle.rules.specs.Words.{at}
 use Rattle.rules.specs.Job.{gather}
-use Rattle.jobs.proofs.Pieces.{held-left, held-count, held-nought, one-short}
+use Rattle.jobs.proofs.BytesLeft.{held-left, held-count, held-nought, one-short}
 use borrow.Author.Needs.{needs}
 use Rattle.jobs.proofs.sizes.held_count.Statement.{statement}
 use Rattle.jobs.proofs.sizes.held_count.Tie as tie
@@ -21,22 +21,10 @@ abbrev μ-loop : tie.MeasureT-loop
 loop-holds : tie.Need-loop-holds Inv-loop μ-loop
 loop-holds c = (omega arith, omega arith, omega arith)
 
-shared-slice-read-one : tie.Need-shared-slice-read-one Inv-loop μ-loop
-shared-slice-read-one c = search needs
-
-one-requires : tie.Need-one-requires Inv-loop μ-loop
-one-requires c κs = search needs
-
 add-count : tie.Need-add-count Inv-loop μ-loop
 add-count c =
     let c₀ = c .before .before .before in
     omega (arith, c .one .ensures, one-short (at (c₀ .before .before .args .holds .now) (c₀ .loop .i)))
-
-add-i : tie.Need-add-i Inv-loop μ-loop
-add-i c = search needs
-
-loop-less : tie.Need-loop-less Inv-loop μ-loop
-loop-less c = search needs
 
 loop-again : tie.Need-loop-again Inv-loop μ-loop
 loop-again c =
@@ -57,10 +45,10 @@ held-count-spec =
     Inv-loop
     μ-loop
     loop-holds
-    shared-slice-read-one
-    one-requires
+    (λ c. search needs)
+    (λ c κs. search needs)
     add-count
-    add-i
-    loop-less
+    (λ c. search needs)
+    (λ c. search needs)
     loop-again
     returns)

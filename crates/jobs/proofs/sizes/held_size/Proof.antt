@@ -8,7 +8,7 @@ use lib.ListN.{length}
 use Rattle.rules.specs.Words.{at}
 use Rattle.rules.specs.Job.{gather}
 use Rattle.jobs.specs.Writing.{pairs-bytes, hold-bytes}
-use Rattle.jobs.proofs.Pieces.{held-left, held-more, held-end, held-nowhere, hold-short, Measured, measured-more, measured-all, measured-none}
+use Rattle.jobs.proofs.BytesLeft.{held-left, held-more, held-end, held-nowhere, hold-short, Measured, measured-more, measured-all, measured-none}
 use borrow.Author.Needs.{needs}
 use Rattle.jobs.proofs.sizes.held_size.Statement.{statement}
 use Rattle.jobs.proofs.sizes.held_size.Tie as tie
@@ -27,25 +27,10 @@ returns c =
 loop-holds : tie.Need-loop-holds Inv-loop μ-loop
 loop-holds c = (omega arith, omega arith, measured-none refl)
 
-cast-hold-size : tie.Need-cast-hold-size Inv-loop μ-loop
-cast-hold-size c = search needs
-
-shared-slice-read-hold-size : tie.Need-shared-slice-read-hold-size Inv-loop μ-loop
-shared-slice-read-hold-size c = search needs
-
-hold-size-requires : tie.Need-hold-size-requires Inv-loop μ-loop
-hold-size-requires c κs = search needs
-
 add-bytes : tie.Need-add-bytes Inv-loop μ-loop
 add-bytes c =
     let c₀ = c .before .before .before in
     omega (arith, c .hold-size .ensures, hold-short (c₀ .loop .i) (at (c₀ .before .before .before .args .holds .now) (c₀ .loop .i)))
-
-add-i : tie.Need-add-i Inv-loop μ-loop
-add-i c = search needs
-
-loop-less : tie.Need-loop-less Inv-loop μ-loop
-loop-less c = search needs
 
 loop-again : tie.Need-loop-again Inv-loop μ-loop
 loop-again c =
@@ -68,11 +53,11 @@ held-size-spec =
     μ-loop
     returns
     loop-holds
-    cast-hold-size
-    shared-slice-read-hold-size
-    hold-size-requires
+    (λ c. search needs)
+    (λ c. search needs)
+    (λ c κs. search needs)
     add-bytes
-    add-i
-    loop-less
+    (λ c. search needs)
+    (λ c. search needs)
     loop-again
     returns-2)

@@ -13,12 +13,6 @@ returns : tie.Need-returns
 unfolding hold-bytes
 returns c = rw (eq-eqb (c .before .args .gear) 0 (c .if1 .taken))
 
-group-size-requires : tie.Need-group-size-requires
-group-size-requires c κs = search needs
-
-group-size-requires-2 : tie.Need-group-size-requires-2
-group-size-requires-2 c κs = search needs
-
 add-result : tie.Need-add-result
 add-result c = omega (arith, c .group-size2 .ensures, c .before .group-size .ensures, form-size (c .before .before .before .args .second) .1, form-size (c .before .before .before .args .gear) .1)
 
@@ -28,4 +22,4 @@ returns-2 c = rw (ne-eqb (c .before .before .before .args .gear) 0 (c .before .b
 
 pub hold-size-spec : {M : Type 1} → statement M
 hold-size-spec =
-    tie.close (tie.spec returns group-size-requires group-size-requires-2 add-result returns-2)
+    tie.close (tie.spec returns (λ c κs. search needs) (λ c κs. search needs) add-result returns-2)

@@ -4,18 +4,15 @@ use mathlib.Core.Path.{ap, sym, _∙_}
 use lib.ListN.{length}
 use borrow.Author.Needs.{needs}
 use borrow.Author.Tests.{le-leb, lt-leb}
-use Rattle.jobs.proofs.Pieces.{margins-late, margins-early}
+use Rattle.jobs.proofs.BytesLeft.{margins-late, margins-early}
 use Rattle.jobs.proofs.sizes.margins_size.Statement.{statement}
 use Rattle.jobs.proofs.sizes.margins_size.Tie as tie
 
 returns : tie.Need-returns
 returns c = let s = c .before .before in sym (ap length (margins-early (s .args .version) (s .args .margins .now) (s .args .count) (lt-leb _ _ (c .if1 .taken))))
 
-values-size-requires : tie.Need-values-size-requires
-values-size-requires c κs = search needs
-
 returns-2 : tie.Need-returns-2
 returns-2 c = let s = c .before .before .before in c .values-size .ensures ∙ sym (ap length (margins-late (s .args .version) (s .args .margins .now) (s .args .count) (le-leb _ _ (c .before .if1 .left))))
 
 pub margins-size-spec : {M : Type 1} → statement M
-margins-size-spec = tie.close (tie.spec returns values-size-requires returns-2)
+margins-size-spec = tie.close (tie.spec returns (λ c κs. search needs) returns-2)

@@ -4,18 +4,15 @@ use mathlib.Core.Path.{ap, sym, _∙_}
 use lib.ListN.{length}
 use borrow.Author.Needs.{needs}
 use borrow.Author.Tests.{le-leb, lt-leb}
-use Rattle.jobs.proofs.Pieces.{since-late, since-early}
+use Rattle.jobs.proofs.BytesLeft.{since-late, since-early}
 use Rattle.jobs.proofs.sizes.since_size.Statement.{statement}
 use Rattle.jobs.proofs.sizes.since_size.Tie as tie
 
 returns : tie.Need-returns
 returns c = let s = c .before in sym (ap length (since-early (s .args .first) (s .args .version) (s .args .v) (lt-leb _ _ (c .if1 .taken))))
 
-group-size-requires : tie.Need-group-size-requires
-group-size-requires c κs = search needs
-
 returns-2 : tie.Need-returns-2
 returns-2 c = let s = c .before .before in c .group-size .ensures ∙ sym (ap length (since-late (s .args .first) (s .args .version) (s .args .v) (le-leb _ _ (c .before .if1 .left))))
 
 pub since-size-spec : {M : Type 1} → statement M
-since-size-spec = tie.close (tie.spec returns group-size-requires returns-2)
+since-size-spec = tie.close (tie.spec returns (λ c κs. search needs) returns-2)

@@ -9,7 +9,7 @@ use Rattle.rules.specs.Groups.{form}
 use Rattle.rules.specs.Words.{at}
 use Rattle.rules.proofs.Laws.Groups.{form-size}
 use Rattle.jobs.specs.Writing.{values-bytes}
-use Rattle.jobs.proofs.Pieces.{values-left, values-more, values-none, Measured, measured-all, measured-none, values-all}
+use Rattle.jobs.proofs.BytesLeft.{values-left, values-more, values-none, Measured, measured-all, measured-none, values-all}
 use borrow.Author.Needs.{needs}
 use Rattle.jobs.proofs.sizes.values_size.Statement.{statement}
 use Rattle.jobs.proofs.sizes.values_size.Tie as tie
@@ -23,26 +23,11 @@ abbrev μ-loop : tie.MeasureT-loop
 loop-holds : tie.Need-loop-holds Inv-loop μ-loop
 loop-holds c = (omega arith, omega arith, measured-none (values-all (c .before .args .values .now) (c .before .args .count)))
 
-mul-more : tie.Need-mul-more Inv-loop μ-loop
-mul-more c = search needs
-
-shared-slice-read-more : tie.Need-shared-slice-read-more Inv-loop μ-loop
-shared-slice-read-more c = search needs
-
-more-requires : tie.Need-more-requires Inv-loop μ-loop
-more-requires c κs = search needs
-
 add-extra : tie.Need-add-extra Inv-loop μ-loop
 add-extra c =
     let c₀ = c .before .before .before in
     let s = c₀ .before .before in
     omega (arith, c .more .ensures, form-size (at (s .args .values .now) (c₀ .loop .i)) .1)
-
-add-i : tie.Need-add-i Inv-loop μ-loop
-add-i c = search needs
-
-loop-less : tie.Need-loop-less Inv-loop μ-loop
-loop-less c = search needs
 
 loop-again : tie.Need-loop-again Inv-loop μ-loop
 loop-again c =
@@ -55,12 +40,6 @@ loop-again c =
     let e = ap length (values-more vs n i (omega arith)) in
     let m = c₀ .loop .inv .2 .sum in
     (omega arith, omega (arith, c .more .ensures, form-size v .1), rw add-one (record { sum = omega (arith, m, c .more .ensures, e, length-append (form v) (values-left vs n (suc i))) }))
-
-cast-result : tie.Need-cast-result Inv-loop μ-loop
-cast-result c = search needs
-
-add-result : tie.Need-add-result Inv-loop μ-loop
-add-result c = search needs
 
 returns : tie.Need-returns Inv-loop μ-loop
 returns c =
@@ -75,13 +54,13 @@ values-size-spec =
     Inv-loop
     μ-loop
     loop-holds
-    mul-more
-    shared-slice-read-more
-    more-requires
+    (λ c. search needs)
+    (λ c. search needs)
+    (λ c κs. search needs)
     add-extra
-    add-i
-    loop-less
+    (λ c. search needs)
+    (λ c. search needs)
     loop-again
-    cast-result
-    add-result
+    (λ c. search needs)
+    (λ c. search needs)
     returns)

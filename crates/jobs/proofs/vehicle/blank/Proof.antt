@@ -1,12 +1,12 @@
 -- `jobs::vehicle::blank` meets its contract: each place of its arrays is 0.
 -- Assumes nothing.
 use mathlib.Core.Path.{refl}
-use Rattle.rules.specs.Job.{blank}
+use Rattle.rules.specs.Job.{vehicle-of, padded, job-of}
 use Rattle.jobs.proofs.vehicle.blank.Statement.{statement}
 use Rattle.jobs.proofs.vehicle.blank.Tie as tie
 
 returns : tie.Need-returns
-unfolding blank
+unfolding job-of vehicle-of padded
 returns c = refl
 
 pub blank-spec : {M : Type 1} → statement M

@@ -1,24 +1,9 @@
 -- `jobs::vehicle::car_at` meets its contract: one law for each `return`.
 -- Assumes nothing.
 use borrow.Author.Needs.{needs}
-use Rattle.jobs.proofs.Ways.{profile-in, version-stops, profile-stops, gears-stop, numbers-stop, car-on}
+use Rattle.jobs.proofs.StageAnswers.{profile-in, version-stops, profile-stops, gears-stop, numbers-stop, car-on}
 use Rattle.jobs.proofs.vehicle.car_at.Statement.{statement}
 use Rattle.jobs.proofs.vehicle.car_at.Tie as tie
-
-bounded-requires : tie.Need-bounded-requires
-bounded-requires c κs = search needs
-
-enum-known-version : tie.Need-enum-known-version
-enum-known-version c = search needs
-
-enum-told : tie.Need-enum-told
-enum-told c = search needs
-
-came-requires : tie.Need-came-requires
-came-requires c κs = search needs
-
-no-car-requires : tie.Need-no-car-requires
-no-car-requires c κs = search needs
 
 returns : tie.Need-returns
 returns c =
@@ -27,21 +12,6 @@ returns c =
     let s = c₂ .before .before in
     let g = c₁ .enum-told .given .1 in
     rw (c .no-car .ensures, c .before .came .ensures, g) (version-stops (s .args .job .now) 0 (rw g at (c₂ .bounded .ensures)))
-
-profile-at-requires : tie.Need-profile-at-requires
-profile-at-requires c κs = search needs
-
-enum-known-profile : tie.Need-enum-known-profile
-enum-known-profile c = search needs
-
-enum-told-2 : tie.Need-enum-told-2
-enum-told-2 c = search needs
-
-came-requires-2 : tie.Need-came-requires-2
-came-requires-2 c κs = search needs
-
-no-car-requires-2 : tie.Need-no-car-requires-2
-no-car-requires-2 c κs = search needs
 
 returns-2 : tie.Need-returns-2
 returns-2 c =
@@ -61,15 +31,6 @@ gearbox-at-requires c κs =
     let s = c₃ .before .before .before .before in
     profile-in (s .args .job .now) _ _ (rw (c₁ .profile .given .1) at (c₂ .profile-at .ensures))
 
-enum-known-gears : tie.Need-enum-known-gears
-enum-known-gears c = search needs
-
-enum-told-3 : tie.Need-enum-told-3
-enum-told-3 c = search needs
-
-no-car-requires-3 : tie.Need-no-car-requires-3
-no-car-requires-3 c κs = search needs
-
 returns-3 : tie.Need-returns-3
 returns-3 c =
     let c₁ = c .before .before .before in
@@ -80,21 +41,6 @@ returns-3 c =
     let s = c₅ .before .before in
     let g = c .before .enum-told3 .given .1 in
     rw (c .no-car3 .ensures, g) (gears-stop (s .args .job .now) 0 (rw (c₄ .version .given .1) at (c₅ .bounded .ensures)) (rw (c₂ .profile .given .1) at (c₃ .profile-at .ensures)) (rw g at (c₁ .gearbox-at .ensures)))
-
-slice-aggregate-fill : tie.Need-slice-aggregate-fill
-slice-aggregate-fill c = search needs
-
-fill-requires : tie.Need-fill-requires
-fill-requires c κs = search needs
-
-enum-known-eight : tie.Need-enum-known-eight
-enum-known-eight c = search needs
-
-enum-told-4 : tie.Need-enum-told-4
-enum-told-4 c = search needs
-
-no-car-requires-4 : tie.Need-no-car-requires-4
-no-car-requires-4 c κs = search needs
 
 returns-4 : tie.Need-returns-4
 returns-4 c =
@@ -108,12 +54,6 @@ returns-4 c =
     let s = c₇ .before .before in
     let g = c .before .enum-told4 .given .1 in
     rw (c .no-car4 .ensures, g) (numbers-stop (s .args .job .now) 0 (rw (c₆ .version .given .1) at (c₇ .bounded .ensures)) (rw (c₄ .profile .given .1) at (c₅ .profile-at .ensures)) (rw (c₂ .gears .given .1) at (c₃ .gearbox-at .ensures)) (rw g at (c₁ .fill .ensures)))
-
-curve-at-requires : tie.Need-curve-at-requires
-curve-at-requires c κs = search needs
-
-vehicle-of-requires : tie.Need-vehicle-of-requires
-vehicle-of-requires c κs = search needs
 
 returns-5 : tie.Need-returns-5
 returns-5 c =
@@ -132,29 +72,29 @@ pub car-at-spec : {M : Type 1} → statement M
 car-at-spec =
     tie.close
     (tie.spec
-    bounded-requires
-    enum-known-version
-    enum-told
-    came-requires
-    no-car-requires
+    (λ c κs. search needs)
+    (λ c. search needs)
+    (λ c. search needs)
+    (λ c κs. search needs)
+    (λ c κs. search needs)
     returns
-    profile-at-requires
-    enum-known-profile
-    enum-told-2
-    came-requires-2
-    no-car-requires-2
+    (λ c κs. search needs)
+    (λ c. search needs)
+    (λ c. search needs)
+    (λ c κs. search needs)
+    (λ c κs. search needs)
     returns-2
     gearbox-at-requires
-    enum-known-gears
-    enum-told-3
-    no-car-requires-3
+    (λ c. search needs)
+    (λ c. search needs)
+    (λ c κs. search needs)
     returns-3
-    slice-aggregate-fill
-    fill-requires
-    enum-known-eight
-    enum-told-4
-    no-car-requires-4
+    (λ c. search needs)
+    (λ c κs. search needs)
+    (λ c. search needs)
+    (λ c. search needs)
+    (λ c κs. search needs)
     returns-4
-    curve-at-requires
-    vehicle-of-requires
+    (λ c κs. search needs)
+    (λ c κs. search needs)
     returns-5)

@@ -2,21 +2,9 @@
 -- Assumes nothing.
 use native.Mathlib.Omega.{arith}
 use borrow.Author.Needs.{needs}
-use Rattle.jobs.proofs.Ways.{bounded-in, curve-stops, curve-on}
+use Rattle.jobs.proofs.StageAnswers.{bounded-in, curve-stops, curve-on}
 use Rattle.jobs.proofs.vehicle.curve_at.Statement.{statement}
 use Rattle.jobs.proofs.vehicle.curve_at.Tie as tie
-
-bounded-requires : tie.Need-bounded-requires
-bounded-requires c κs = search needs
-
-enum-known-count : tie.Need-enum-known-count
-enum-known-count c = search needs
-
-enum-told : tie.Need-enum-told
-enum-told c = search needs
-
-came-requires : tie.Need-came-requires
-came-requires c κs = search needs
 
 returns : tie.Need-returns
 returns c =
@@ -24,18 +12,6 @@ returns c =
     let s = c₁ .before .before in
     let g = c .before .enum-told .given .1 in
     rw (c .came .ensures, g) (curve-stops (s .args .job .now) (s .args .at) (s .args .version) (rw g at (c₁ .bounded .ensures)))
-
-cast-fill-points : tie.Need-cast-fill-points
-cast-fill-points c = search needs
-
-slice-aggregate-fill-points : tie.Need-slice-aggregate-fill-points
-slice-aggregate-fill-points c = search needs
-
-slice-aggregate-fill-points-2 : tie.Need-slice-aggregate-fill-points-2
-slice-aggregate-fill-points-2 c = search needs
-
-slice-aggregate-fill-points-3 : tie.Need-slice-aggregate-fill-points-3
-slice-aggregate-fill-points-3 c = search needs
 
 fill-points-requires : tie.Need-fill-points-requires
 fill-points-requires c κs =
@@ -57,14 +33,14 @@ pub curve-at-spec : {M : Type 1} → statement M
 curve-at-spec =
     tie.close
     (tie.spec
-    bounded-requires
-    enum-known-count
-    enum-told
-    came-requires
+    (λ c κs. search needs)
+    (λ c. search needs)
+    (λ c. search needs)
+    (λ c κs. search needs)
     returns
-    cast-fill-points
-    slice-aggregate-fill-points
-    slice-aggregate-fill-points-2
-    slice-aggregate-fill-points-3
+    (λ c. search needs)
+    (λ c. search needs)
+    (λ c. search needs)
+    (λ c. search needs)
     fill-points-requires
     returns-2)

@@ -3,24 +3,9 @@
 use Prim.Native.Nat.{_+_}
 use native.Mathlib.Omega.{arith}
 use borrow.Author.Needs.{needs}
-use Rattle.jobs.proofs.Ways.{bounded-in, gearbox-stops, gearbox-on}
+use Rattle.jobs.proofs.StageAnswers.{bounded-in, gearbox-stops, gearbox-on}
 use Rattle.jobs.proofs.vehicle.gearbox_at.Statement.{statement}
 use Rattle.jobs.proofs.vehicle.gearbox_at.Tie as tie
-
-add-fewest : tie.Need-add-fewest
-add-fewest c = search needs
-
-bounded-requires : tie.Need-bounded-requires
-bounded-requires c κs = search needs
-
-enum-known-count : tie.Need-enum-known-count
-enum-known-count c = search needs
-
-enum-told : tie.Need-enum-told
-enum-told c = search needs
-
-came-requires : tie.Need-came-requires
-came-requires c κs = search needs
 
 returns : tie.Need-returns
 returns c =
@@ -28,12 +13,6 @@ returns c =
     let s = c₁ .before .before in
     let g = c .before .enum-told .given .1 in
     rw (c .came .ensures, g) (gearbox-stops (s .args .job .now) (s .args .at) (s .args .profile) (rw g at (c₁ .bounded .ensures)))
-
-cast-fill : tie.Need-cast-fill
-cast-fill c = search needs
-
-slice-aggregate-fill : tie.Need-slice-aggregate-fill
-slice-aggregate-fill c = search needs
 
 fill-requires : tie.Need-fill-requires
 fill-requires c κs =
@@ -53,13 +32,13 @@ pub gearbox-at-spec : {M : Type 1} → statement M
 gearbox-at-spec =
     tie.close
     (tie.spec
-    add-fewest
-    bounded-requires
-    enum-known-count
-    enum-told
-    came-requires
+    (λ c. search needs)
+    (λ c κs. search needs)
+    (λ c. search needs)
+    (λ c. search needs)
+    (λ c κs. search needs)
     returns
-    cast-fill
-    slice-aggregate-fill
+    (λ c. search needs)
+    (λ c. search needs)
     fill-requires
     returns-2)

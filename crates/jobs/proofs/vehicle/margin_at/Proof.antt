@@ -2,19 +2,16 @@
 -- Assumes nothing.
 use Rattle.rules.specs.Forms.{value}
 use borrow.Author.Needs.{needs}
-use Rattle.jobs.proofs.Ways.{not-yet, from-then-on}
+use Rattle.jobs.proofs.StageAnswers.{not-yet, from-then-on}
 use Rattle.jobs.proofs.vehicle.margin_at.Statement.{statement}
 use Rattle.jobs.proofs.vehicle.margin_at.Tie as tie
 
 returns : tie.Need-returns
 returns c = not-yet value _ _ _ _ (c .if1 .taken)
 
-group-at-requires : tie.Need-group-at-requires
-group-at-requires c κs = search needs
-
 returns-2 : tie.Need-returns-2
 unfolding value
 returns-2 c = from-then-on value _ _ _ _ (c .before .if1 .left) (c .group-at .ensures)
 
 pub margin-at-spec : {M : Type 1} → statement M
-margin-at-spec = tie.close (tie.spec returns group-at-requires returns-2)
+margin-at-spec = tie.close (tie.spec returns (λ c κs. search needs) returns-2)

@@ -4,7 +4,7 @@ use native.Mathlib.Omega.{arith}
 use Rattle.rules.specs.Forms.{bounded}
 use Rattle.rules.specs.Job.{profile}
 use borrow.Author.Needs.{needs}
-use Rattle.jobs.proofs.Ways.{not-yet, from-then-on}
+use Rattle.jobs.proofs.StageAnswers.{not-yet, from-then-on}
 use Rattle.jobs.proofs.vehicle.profile_at.Statement.{statement}
 use Rattle.jobs.proofs.vehicle.profile_at.Tie as tie
 
@@ -12,12 +12,9 @@ returns : tie.Need-returns
 unfolding profile
 returns c = let s = c .before .before in not-yet (bounded 0 1 3 1) (s .args .job .now) 3 (s .args .version) (s .args .at) (omega (arith, c .if1 .taken))
 
-bounded-requires : tie.Need-bounded-requires
-bounded-requires c κs = search needs
-
 returns-2 : tie.Need-returns-2
 unfolding profile
 returns-2 c = let s = c .before .before .before in from-then-on (bounded 0 1 3 1) (s .args .job .now) 3 (s .args .version) (s .args .at) (omega (arith, c .before .if1 .left)) (c .bounded .ensures)
 
 pub profile-at-spec : {M : Type 1} → statement M
-profile-at-spec = tie.close (tie.spec returns bounded-requires returns-2)
+profile-at-spec = tie.close (tie.spec returns (λ c κs. search needs) returns-2)

@@ -18,9 +18,6 @@ fits x h =
     (λ t. rw t (record { sfits = omega arith }))
     (λ t. rw t (record { sfits = omega arith }))
 
-cast-result : tie.Need-cast-result
-cast-result c = search needs
-
 sub-result : tie.Need-sub-result
 sub-result c = rw (toZ-pos w32 {n = c .args .x} (omega arith)) (fits (c .args .x) (omega arith))
 
@@ -28,4 +25,4 @@ returns : tie.Need-returns
 returns c = rw (toZ-pos w32 {n = c .args .x} (omega arith)) (toZ-ofZ (fits (c .args .x) (omega arith)))
 
 pub signed-spec : {M : Type 1} → statement M
-signed-spec = tie.close (tie.spec cast-result sub-result returns)
+signed-spec = tie.close (tie.spec (λ c. search needs) sub-result returns)

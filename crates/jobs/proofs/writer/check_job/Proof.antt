@@ -10,38 +10,26 @@ use Rattle.jobs.proofs.writer.check_job.Statement.{statement}
 use Rattle.jobs.proofs.writer.check_job.Tie as tie
 
 -- 14, 1, 2 and 3 have passed
-opened-at : (p : tie.After-enum-told) → let s = p .before .before .before .before .before in Opened (s .args .t2) (s .args .speeds .now) (s .args .holds .now) (s .args .speeds .now)
+opened-at : (p : tie.After-enum-told) → let s = p .before .before .before .before .before in Opened (s .args .t2) (s .args .speeds .now) (s .args .holds .now) (s .args .holds .now)
 opened-at p = let s = p .before .before .before .before .before in told-opened (s .args .version) (s .args .t2) (s .args .speeds .now) (s .args .holds .now) (p .before .before .check-told .ensures _ _ refl refl) (p .enum-told .given .1)
 
 -- the numbers are the vehicle's
 counts-at : (c : tie.After-numbers-of) → Counts (c .before .before .before .before .before .before .args .t2) (c .numbers-of .result)
 counts-at c = record { numbers = sym (c .numbers-of .ensures) }
 
-check-told-requires : tie.Need-check-told-requires
-check-told-requires c κs = search needs
-
-enum-told : tie.Need-enum-told
-enum-told c = search needs
-
-enum-told-2 : tie.Need-enum-told-2
-enum-told-2 c = search needs
-
 returns : tie.Need-returns
 returns c = let s = c .before .before .before .before .before in job-told (s .args .version) (s .args .t2) (s .args .speeds .now) (s .args .holds .now) (c .before .before .check-told .ensures _ _ refl refl) (c .enum-told2 .given .1)
 
-numbers-of-requires : tie.Need-numbers-of-requires
-numbers-of-requires c κs = search needs
-
 check-seconds-requires : tie.Need-check-seconds-requires
-check-seconds-requires c κs = spanned (counts-at (c .before .before)) (opened-at (c .before .before .before)) (omega arith) (omega arith)
+check-seconds-requires c κs = (spanned (counts-at (c .before .before)) (opened-at (c .before .before .before)) (omega arith) (omega arith), omega arith)
 
 returns-2 : tie.Need-returns-2
 returns-2 c =
     let p = c .before .before .before .before in
     let s = p .before .before .before .before .before in
-    job-seconds (s .args .version) (s .args .t2) (s .args .speeds .now) (s .args .holds .now) (p .before .before .check-told .ensures _ _ refl refl) (p .enum-told .given .1) 0 _
+    job-seconds (s .args .version) (s .args .t2) (s .args .speeds .now) (s .args .holds .now) (p .before .before .check-told .ensures _ _ refl refl) (p .enum-told .given .1) 0 0 _
     (c .check-seconds .ensures _ (record { counts = counts-at (c .before .before .before); ratios = refl }))
 
 pub check-job-spec : {M : Type 1} → statement M
 check-job-spec =
-    tie.close (tie.spec check-told-requires enum-told enum-told-2 returns numbers-of-requires check-seconds-requires returns-2)
+    tie.close (tie.spec (λ c κs. search needs) (λ c. search needs) (λ c. search needs) returns (λ c κs. search needs) check-seconds-requires returns-2)

@@ -8,23 +8,11 @@ use borrow.Author.Needs.{needs}
 use Rattle.jobs.proofs.writer.job_size.Statement.{statement}
 use Rattle.jobs.proofs.writer.job_size.Tie as tie
 
-cast-group-size : tie.Need-cast-group-size
-cast-group-size c = search needs
-
-group-size-requires : tie.Need-group-size-requires
-group-size-requires c κs = search needs
-
-values-size-requires : tie.Need-values-size-requires
-values-size-requires c κs = search needs
-
 add-trace : tie.Need-add-trace
 add-trace c =
     let s = c .before .before .before in
     let vs = s .args .speeds .now in
     omega (arith, s .pre .1, s .pre .2, c .before .group-size .ensures, form-size (length vs) .1, c .values-size .ensures, values-short vs (length vs))
-
-vehicle-size-requires : tie.Need-vehicle-size-requires
-vehicle-size-requires c κs = search needs
 
 add-result : tie.Need-add-result
 add-result c =
@@ -38,9 +26,6 @@ add-result-2 c =
     let vs = s .args .speeds .now in
     omega (arith, s .pre .1, s .pre .2, c .before .before .group-size .ensures, form-size (length vs) .1, c .before .values-size .ensures, values-short vs (length vs), c .vehicle-size .ensures, vehicle-short (s .args .version) (s .args .car) (s .pre .0))
 
-group-size-requires-2 : tie.Need-group-size-requires-2
-group-size-requires-2 c κs = search needs
-
 add-result-3 : tie.Need-add-result-3
 add-result-3 c =
     let s = c .before .before .before .before .before in
@@ -53,21 +38,18 @@ add-result-4 c =
     let vs = s .args .speeds .now in
     omega (arith, s .pre .1, s .pre .2, c .before .before .before .before .group-size .ensures, form-size (length vs) .1, c .before .before .before .values-size .ensures, values-short vs (length vs), c .before .before .vehicle-size .ensures, vehicle-short (s .args .version) (s .args .car) (s .pre .0), c .before .group-size2 .ensures, form-size (s .args .held .count) .1)
 
-returns : tie.Need-returns
-returns c = search needs
-
 pub job-size-spec : {M : Type 1} → statement M
 job-size-spec =
     tie.close
     (tie.spec
-    cast-group-size
-    group-size-requires
-    values-size-requires
+    (λ c. search needs)
+    (λ c κs. search needs)
+    (λ c κs. search needs)
     add-trace
-    vehicle-size-requires
+    (λ c κs. search needs)
     add-result
     add-result-2
-    group-size-requires-2
+    (λ c κs. search needs)
     add-result-3
     add-result-4
-    returns)
+    (λ c. search needs))

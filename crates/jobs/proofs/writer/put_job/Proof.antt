@@ -10,7 +10,7 @@ use Rattle.rules.specs.Job.{gather, vehicle}
 use Rattle.rules.specs.Write.{job-bytes}
 use Rattle.rules.proofs.Laws.Writes.{writable}
 use Rattle.jobs.specs.Writing.{values-bytes, pairs-bytes}
-use Rattle.jobs.proofs.Pieces.{all-left, fewer-left, has-space, last-left, said-as}
+use Rattle.jobs.proofs.PutInTurn.{all-left, fewer-left, has-space, last-left, said-as}
 use Rattle.jobs.proofs.Bytes.{job-pieces}
 use borrow.Author.Needs.{needs}
 use Rattle.jobs.proofs.writer.put_job.Statement.{statement}
@@ -93,9 +93,6 @@ put-held-requires c κs =
     let l₄ = fewer-left l₃ (rw (s .pre .1) at (c .before .before .before .put-group2 .ensures)) in
     (omega (arith, w .not-long, w .even), s .pre .1, omega (arith, l₄ .fits))
 
-same-length : tie.Need-same-length
-same-length c = search needs
-
 returns : tie.Need-returns
 returns c =
     let s = c .before .before .before .before .before .before .before .before .before .before .before .before .before .before .before .before .before .before .before .before .before .before .before in
@@ -120,5 +117,5 @@ put-job-spec =
     put-trace-requires
     put-group-requires-2
     put-held-requires
-    same-length
+    (λ c. search needs)
     returns)

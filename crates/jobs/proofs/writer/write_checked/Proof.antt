@@ -13,9 +13,9 @@ use borrow.Author.Needs.{needs}
 use Rattle.jobs.proofs.writer.write_checked.Statement.{statement}
 use Rattle.jobs.proofs.writer.write_checked.Tie as tie
 
-tally-requires : tie.Need-tally-requires
+hold-sizes-requires : tie.Need-hold-sizes-requires
 unfolding longest
-tally-requires c κs =
+hold-sizes-requires c κs =
     let s = c .before .before .before in
     let hs = s .args .holds .now in
     let w = writable (s .args .version) (s .args .vehicle) (s .args .speeds .now) hs (s .pre) in
@@ -27,14 +27,14 @@ job-size-requires c κs =
     let s = c .before .before .before .before in
     let hs = s .args .holds .now in
     let w = writable (s .args .version) (s .args .vehicle) (s .args .speeds .now) hs (s .pre) in
-    (w .bounds, omega (arith, w .not-long), omega (arith, w .not-long, w .even, c .tally .ensures .1, pairs-short (gather 0 hs), gather-few 0 hs))
+    (w .bounds, omega (arith, w .not-long), omega (arith, w .not-long, w .even, c .hold-sizes .ensures .1, pairs-short (gather 0 hs), gather-few 0 hs))
 
 returns : tie.Need-returns
 returns c =
     let s = c .before .before .before .before .before .before in
     let vs = s .args .speeds .now in
     let hs = s .args .holds .now in
-    let e = rw (c .before .before .tally .ensures .0, c .before .before .tally .ensures .1) at (c .before .job-size .ensures) in
+    let e = rw (c .before .before .hold-sizes .ensures .0, c .before .before .hold-sizes .ensures .1) at (c .before .job-size .ensures) in
     let m = job-length (s .args .version) (s .args .vehicle) vs hs (within-hi 1 3 _ (writable (s .args .version) (s .args .vehicle) vs hs (s .pre) .known)) in
     short-as (job-bytes (s .args .version) (s .args .vehicle) vs hs) (s .args .room .now) (c .before .job-size .result) (omega (arith, e, m)) (omega arith)
 
@@ -43,23 +43,20 @@ put-job-requires c κs =
     let s = c .before .before .before .before .before .before .before in
     let vs = s .args .speeds .now in
     let hs = s .args .holds .now in
-    let e = rw (c .before .before .before .tally .ensures .0, c .before .before .before .tally .ensures .1) at (c .before .before .job-size .ensures) in
+    let e = rw (c .before .before .before .hold-sizes .ensures .0, c .before .before .before .hold-sizes .ensures .1) at (c .before .before .job-size .ensures) in
     let m = job-length (s .args .version) (s .args .vehicle) vs hs (within-hi 1 3 _ (writable (s .args .version) (s .args .vehicle) vs hs (s .pre) .known)) in
-    (s .pre, c .before .before .before .tally .ensures .0, omega (arith, e, m))
-
-same-length : tie.Need-same-length
-same-length c = search needs
+    (s .pre, c .before .before .before .hold-sizes .ensures .0, omega (arith, e, m))
 
 returns-2 : tie.Need-returns-2
 returns-2 c =
     let s = c .before .before .before .before .before .before .before .before .before .before in
     let vs = s .args .speeds .now in
     let hs = s .args .holds .now in
-    let e = rw (c .before .before .before .before .before .before .tally .ensures .0, c .before .before .before .before .before .before .tally .ensures .1) at (c .before .before .before .before .before .job-size .ensures) in
+    let e = rw (c .before .before .before .before .before .before .hold-sizes .ensures .0, c .before .before .before .before .before .before .hold-sizes .ensures .1) at (c .before .before .before .before .before .job-size .ensures) in
     let m = job-length (s .args .version) (s .args .vehicle) vs hs (within-hi 1 3 _ (writable (s .args .version) (s .args .vehicle) vs hs (s .pre) .known)) in
     bytes-as (job-bytes (s .args .version) (s .args .vehicle) vs hs) (s .args .room .now) (c .before .before .put-job .ensures)
 
 pub write-checked-spec : {M : Type 1} → statement M
 write-checked-spec =
     tie.close
-    (tie.spec tally-requires job-size-requires returns put-job-requires same-length returns-2)
+    (tie.spec hold-sizes-requires job-size-requires returns put-job-requires (λ c. search needs) returns-2)

@@ -5,12 +5,6 @@ use borrow.Author.Needs.{needs}
 use Rattle.jobs.proofs.writer.write_if.Statement.{statement}
 use Rattle.jobs.proofs.writer.write_if.Tie as tie
 
-enum-told : tie.Need-enum-told
-enum-told c = search needs
-
-enum-told-2 : tie.Need-enum-told-2
-enum-told-2 c = search needs
-
 returns : tie.Need-returns
 returns c =
     let s = c .before .before .before .before .before in
@@ -19,9 +13,6 @@ returns c =
 write-checked-requires : tie.Need-write-checked-requires
 write-checked-requires c κs = none-refused (c .before .before .before .before .before .before .pre) (c .before .enum-told .given .1)
 
-same-length : tie.Need-same-length
-same-length c = search needs
-
 returns-2 : tie.Need-returns-2
 returns-2 c =
     let s = c .before .before .before .before .before .before .before .before .before in
@@ -29,4 +20,4 @@ returns-2 c =
 
 pub write-if-spec : {M : Type 1} → statement M
 write-if-spec =
-    tie.close (tie.spec enum-told enum-told-2 returns write-checked-requires same-length returns-2)
+    tie.close (tie.spec (λ c. search needs) (λ c. search needs) returns write-checked-requires (λ c. search needs) returns-2)

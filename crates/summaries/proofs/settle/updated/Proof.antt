@@ -5,18 +5,9 @@ use borrow.Author.Needs.{needs}
 use Rattle.summaries.proofs.settle.updated.Statement.{statement}
 use Rattle.summaries.proofs.settle.updated.Tie as tie
 
-settled-gears-requires : tie.Need-settled-gears-requires
-settled-gears-requires c κs = search needs
-
-settled-requires : tie.Need-settled-requires
-settled-requires c κs = search needs
-
-settled-requires-2 : tie.Need-settled-requires-2
-settled-requires-2 c κs = search needs
-
 returns : tie.Need-returns
 returns c = updated-is _ _ _ (c .before .settled .ensures) (c .before .before .settled-gears .ensures) (c .settled2 .ensures)
 
 pub updated-spec : {M : Type 1} → statement M
 updated-spec =
-    tie.close (tie.spec settled-gears-requires settled-requires settled-requires-2 returns)
+    tie.close (tie.spec (λ c κs. search needs) (λ c κs. search needs) (λ c κs. search needs) returns)

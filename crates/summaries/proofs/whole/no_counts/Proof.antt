@@ -2,12 +2,12 @@
 -- Assumes nothing.
 use mathlib.Core.Path.{refl}
 use Rattle.rules.specs.Words.{table}
-use Rattle.rules.specs.Summary.{no-counts}
+use Rattle.rules.specs.Summary.{tally, summary}
 use Rattle.summaries.proofs.whole.no_counts.Statement.{statement}
 use Rattle.summaries.proofs.whole.no_counts.Tie as tie
 
 returns : tie.Need-returns
-unfolding no-counts table
+unfolding summary tally table
 returns c = refl
 
 pub no-counts-spec : {M : Type 1} → statement M

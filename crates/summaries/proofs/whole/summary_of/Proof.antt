@@ -1,30 +1,18 @@
 -- `summaries::whole::summary_of` meets its contract: an empty summary, brought up to date.
 -- Assumes nothing.
 use mathlib.Core.Path.{refl, _∙_}
-use Rattle.rules.specs.Summary.{summary-fault, asked-summary}
-use Rattle.checks.proofs.Rows.{said-none}
-use Rattle.summaries.proofs.Editing.{kept, said-done, all-countable, whole-settled}
+use Rattle.rules.specs.Summary.{summary-fault, counted-summary}
+use Rattle.checks.proofs.Rows.{said-none, left-old}
+use Rattle.summaries.proofs.Totals.{said-done, all-countable, whole-settled}
 use borrow.Author.Needs.{needs}
 use Rattle.summaries.proofs.whole.summary_of.Statement.{statement}
 use Rattle.summaries.proofs.whole.summary_of.Tie as tie
 
-no-counts-requires : tie.Need-no-counts-requires
-no-counts-requires c κs = search needs
-
-check-lengths-requires : tie.Need-check-lengths-requires
-check-lengths-requires c κs = search needs
-
-enum-told : tie.Need-enum-told
-enum-told c = search needs
-
-enum-told-2 : tie.Need-enum-told-2
-enum-told-2 c = search needs
-
 returns : tie.Need-returns
-unfolding summary-fault asked-summary
+unfolding summary-fault counted-summary
 returns c =
     let e = c .before .before .check-lengths .ensures _ _ _ refl refl refl in
-    (e, c .before .before .before .no-counts .ensures ∙ kept _ _ e (c .enum-told2 .given .1))
+    (e, c .before .before .before .no-counts .ensures ∙ left-old _ _ e (c .enum-told2 .given .1))
 
 count-requires : tie.Need-count-requires
 unfolding summary-fault
@@ -32,14 +20,8 @@ count-requires c κs =
     let s = c .before .before .before .before .before .before .args in
     all-countable (s .speeds .now) (s .card .now) (said-none (c .before .before .check-lengths .ensures _ _ _ refl refl refl) (c .enum-told .given .1))
 
-nothing-requires : tie.Need-nothing-requires
-nothing-requires c κs = search needs
-
-updated-requires : tie.Need-updated-requires
-updated-requires c κs = search needs
-
 returns-2 : tie.Need-returns-2
-unfolding summary-fault asked-summary
+unfolding summary-fault counted-summary
 returns-2 c =
     let e = c .before .before .before .before .before .check-lengths .ensures _ _ _ refl refl refl in
     let done = c .before .before .before .enum-told .given .1 in
@@ -50,12 +32,12 @@ pub summary-of-spec : {M : Type 1} → statement M
 summary-of-spec =
     tie.close
     (tie.spec
-    no-counts-requires
-    check-lengths-requires
-    enum-told
-    enum-told-2
+    (λ c κs. search needs)
+    (λ c κs. search needs)
+    (λ c. search needs)
+    (λ c. search needs)
     returns
     count-requires
-    nothing-requires
-    updated-requires
+    (λ c κs. search needs)
+    (λ c κs. search needs)
     returns-2)

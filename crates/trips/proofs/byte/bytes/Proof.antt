@@ -25,9 +25,6 @@ abbrev μ-loop : tie.MeasureT-loop
 loop-holds : tie.Need-loop-holds Inv-loop μ-loop
 loop-holds c = (omega arith, refl, λ car H. pass-start _ _)
 
-slice-read-g : tie.Need-slice-read-g Inv-loop μ-loop
-slice-read-g c = omega arith
-
 byte-at-requires : tie.Need-byte-at-requires Inv-loop μ-loop
 byte-at-requires c κs =
     let s = c .before .before .before .before .before in
@@ -37,12 +34,6 @@ byte-at-requires c κs =
     let H = built-has (a .k) (a .ratio .now) in
     let e : at (l .gs) (l .j) ≡ at (a .gs .now) (l .j) = ap (λ (g : List ℕ). at g (l .j)) (l .inv .2 car H) ∙ pass-later (λ i rs. byte car (a .us .now) i (at rs i)) (a .gs .now) (l .j) (l .j) (le-refl _) in
     (omega (arith, l .inv, s .pre .speeds), omega (arith, e, s .pre .small (l .j) (omega (arith, l .inv))))
-
-slice-write-gs : tie.Need-slice-write-gs Inv-loop μ-loop
-slice-write-gs c = omega arith
-
-add-j : tie.Need-add-j Inv-loop μ-loop
-add-j c = omega arith
 
 loop-less : tie.Need-loop-less Inv-loop μ-loop
 loop-less c = simp length-set (omega arith)
@@ -75,10 +66,10 @@ bytes-spec =
     Inv-loop
     μ-loop
     loop-holds
-    slice-read-g
+    (λ c. omega arith)
     byte-at-requires
-    slice-write-gs
-    add-j
+    (λ c. omega arith)
+    (λ c. omega arith)
     loop-less
     loop-again
     same-length

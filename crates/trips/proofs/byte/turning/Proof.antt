@@ -9,17 +9,8 @@ use borrow.Author.Needs.{needs}
 use Rattle.trips.proofs.byte.turning.Statement.{statement}
 use Rattle.trips.proofs.byte.turning.Tie as tie
 
-place-requires : tie.Need-place-requires
-place-requires c κs = search needs
-
 returns : tie.Need-returns
 returns c = let h : length (c .before .before .before .args .ratio .now) ≤ c .before .before .before .args .g - 1 = omega (arith, c .before .place .ensures) in rw (List·getD-eq-default (c .before .before .before .args .ratio .now) 0 h, zero-mul)
-
-mul-result : tie.Need-mul-result
-mul-result c = search needs
-
-shared-slice-read-result : tie.Need-shared-slice-read-result
-shared-slice-read-result c = search needs
 
 cast-result : tie.Need-cast-result
 cast-result c = omega (arith, c .shared-slice-known2 .given (c .before .before .place .result))
@@ -34,10 +25,10 @@ pub turning-spec : {M : Type 1} → statement M
 turning-spec =
     tie.close
     (tie.spec
-    place-requires
+    (λ c κs. search needs)
     returns
-    mul-result
-    shared-slice-read-result
+    (λ c. search needs)
+    (λ c. search needs)
     cast-result
     mul-result-2
     returns-2)

@@ -7,17 +7,11 @@ use borrow.Author.Needs.{needs}
 use Rattle.trips.proofs.peak.one_above.Statement.{statement}
 use Rattle.trips.proofs.peak.one_above.Tie as tie
 
-over-requires : tie.Need-over-requires
-over-requires c κs = search needs
-
 returns : tie.Need-returns
 returns c = c .over .ensures ∙ above-right (c .before .before .args .p) (c .before .before .args .g) (c .before .before .args .q) (omega arith)
-
-over-requires-2 : tie.Need-over-requires-2
-over-requires-2 c κs = search needs
 
 returns-2 : tie.Need-returns-2
 returns-2 c = c .over2 .ensures ∙ above-left (c .before .before .args .p) (c .before .before .args .g) (c .before .before .args .q) (omega arith)
 
 pub one-above-spec : {M : Type 1} → statement M
-one-above-spec = tie.close (tie.spec over-requires returns over-requires-2 returns-2)
+one-above-spec = tie.close (tie.spec (λ c κs. search needs) returns (λ c κs. search needs) returns-2)

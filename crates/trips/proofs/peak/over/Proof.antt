@@ -6,17 +6,11 @@ use borrow.Author.Needs.{needs}
 use Rattle.trips.proofs.peak.over.Statement.{statement}
 use Rattle.trips.proofs.peak.over.Tie as tie
 
-add-if1 : tie.Need-add-if1
-add-if1 c = search needs
-
 returns : tie.Need-returns
 returns c = over-no (c .before .args .low) (c .before .args .g) (c .before .args .high) (λ z. omega arith)
-
-add-result : tie.Need-add-result
-add-result c = search needs
 
 returns-2 : tie.Need-returns-2
 returns-2 c = over-yes (c .before .args .low) (c .before .args .g) (c .before .args .high) (c .before .pre) (omega arith)
 
 pub over-spec : {M : Type 1} → statement M
-over-spec = tie.close (tie.spec add-if1 returns add-result returns-2)
+over-spec = tie.close (tie.spec (λ c. search needs) returns (λ c. search needs) returns-2)

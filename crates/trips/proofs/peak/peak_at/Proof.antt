@@ -9,44 +9,14 @@ use borrow.Author.Needs.{needs}
 use Rattle.trips.proofs.peak.peak_at.Statement.{statement}
 use Rattle.trips.proofs.peak.peak_at.Tie as tie
 
-shared-slice-read-g : tie.Need-shared-slice-read-g
-shared-slice-read-g c = search needs
-
 returns : tie.Need-returns
 returns c = let a = c .before .before .before .before .before .args in let q = c .before .before .before .before .before .pre in λ car H. peak-level car (a .us .now) (a .hs .now) (a .j) (a .gs .now) (omega (arith, q .2 .last-is))
-
-shared-slice-read-if2 : tie.Need-shared-slice-read-if2
-shared-slice-read-if2 c = search needs
 
 returns-2 : tie.Need-returns-2
 returns-2 c = let a = c .before .before .before .before .before .before .before .args in λ car H. peak-still car (a .us .now) (a .hs .now) (a .j) (a .gs .now) (free-held car (a .us .now) (a .hs .now) (a .j) (λ z. omega arith))
 
-add-if3 : tie.Need-add-if3
-add-if3 c = search needs
-
 returns-3 : tie.Need-returns-3
 returns-3 c = let a = c .before .before .before .before .before .before .before .before .args in λ car H. peak-last car (a .us .now) (a .hs .now) (a .j) (a .gs .now) (omega arith)
-
-add-next : tie.Need-add-next
-add-next c = search needs
-
-shared-slice-read-next : tie.Need-shared-slice-read-next
-shared-slice-read-next c = search needs
-
-one-above-requires : tie.Need-one-above-requires
-one-above-requires c κs = search needs
-
-sub-down : tie.Need-sub-down
-sub-down c = search needs
-
-mul-floor : tie.Need-mul-floor
-mul-floor c = search needs
-
-shared-slice-read-floor : tie.Need-shared-slice-read-floor
-shared-slice-read-floor c = search needs
-
-floor-requires : tie.Need-floor-requires
-floor-requires c κs = search needs
 
 cast-if5 : tie.Need-cast-if5
 cast-if5 c = omega (arith, c .before .before .before .before .before .before .before .before .before .shared-slice-known4 .given (c .before .before .before .before .before .before .before .before .before .before .before .before .before .args .j), c .before .before .before .before .before .before .before .before .before .before .shared-slice-known3 .given (c .before .before .before .before .before .before .before .before .before .before .before .before .before .args .j))
@@ -64,19 +34,19 @@ pub peak-at-spec : {M : Type 1} → statement M
 peak-at-spec =
     tie.close
     (tie.spec
-    shared-slice-read-g
+    (λ c. search needs)
     returns
-    shared-slice-read-if2
+    (λ c. search needs)
     returns-2
-    add-if3
+    (λ c. search needs)
     returns-3
-    add-next
-    shared-slice-read-next
-    one-above-requires
-    sub-down
-    mul-floor
-    shared-slice-read-floor
-    floor-requires
+    (λ c. search needs)
+    (λ c. search needs)
+    (λ c κs. search needs)
+    (λ c. search needs)
+    (λ c. search needs)
+    (λ c. search needs)
+    (λ c κs. search needs)
     cast-if5
     returns-4
     returns-5

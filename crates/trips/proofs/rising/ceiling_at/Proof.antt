@@ -10,12 +10,6 @@ use Rattle.trips.proofs.rising.ceiling_at.Tie as tie
 returns : tie.Need-returns
 returns c = let a = c .before .args in let e = c .before .pre .0 .last-is in e ∙ ceiling-second (a .j) (a .gs .now) (omega arith)
 
-shared-slice-read-if2 : tie.Need-shared-slice-read-if2
-shared-slice-read-if2 c = search needs
-
-add-result : tie.Need-add-result
-add-result c = search needs
-
 returns-2 : tie.Need-returns-2
 returns-2 c = let a = c .before .before .before .args in let e = c .before .before .before .pre .0 .last-is in omega (arith, e, ceiling-same (a .j) (a .gs .now) (omega arith) (omega (arith, e)))
 
@@ -23,4 +17,4 @@ returns-3 : tie.Need-returns-3
 returns-3 c = let a = c .before .before .before .args in let e = c .before .before .before .pre .0 .last-is in e ∙ ceiling-other (a .j) (a .gs .now) (λ z. omega (arith, e))
 
 pub ceiling-at-spec : {M : Type 1} → statement M
-ceiling-at-spec = tie.close (tie.spec returns shared-slice-read-if2 add-result returns-2 returns-3)
+ceiling-at-spec = tie.close (tie.spec returns (λ c. search needs) (λ c. search needs) returns-2 returns-3)

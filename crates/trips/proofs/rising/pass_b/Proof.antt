@@ -24,26 +24,14 @@ returns c =
     let a = s .args in
     λ car H. pass-first (rising car (a .us .now) (a .hs .now)) (a .gs .now) (length (a .hs .now)) (omega (arith, s .pre .1 .gears)) (rising-first car (a .us .now) (a .hs .now) (a .gs .now))
 
-slice-read-last : tie.Need-slice-read-last Inv-loop μ-loop
-slice-read-last c = omega arith
-
 loop-holds : tie.Need-loop-holds Inv-loop μ-loop
 loop-holds c = let a = c .before .before .before .before .before .args in along-start (λ car. Has car (a .k) (a .ratio .now)) (λ car. rising car (a .us .now) (a .hs .now)) (λ car H gs. rising-first car (a .us .now) (a .hs .now) gs) (a .gs .now) (omega arith)
-
-slice-read-g : tie.Need-slice-read-g Inv-loop μ-loop
-slice-read-g c = omega arith
 
 rising-at-requires : tie.Need-rising-at-requires Inv-loop μ-loop
 rising-at-requires c κs =
     let s = c .before .before .before .before .before .before .before .before .before in
     let l = c .before .before .before .loop .inv in
     (s .pre .0, record { speeds = s .pre .1 .speeds; gears = l .size ∙ s .pre .1 .gears }, l .later, omega arith, refl)
-
-slice-write-gs : tie.Need-slice-write-gs Inv-loop μ-loop
-slice-write-gs c = omega arith
-
-add-j : tie.Need-add-j Inv-loop μ-loop
-add-j c = omega arith
 
 loop-less : tie.Need-loop-less Inv-loop μ-loop
 loop-less c = simp length-set (omega arith)
@@ -69,12 +57,12 @@ pass-b-spec =
     Inv-loop
     μ-loop
     returns
-    slice-read-last
+    (λ c. omega arith)
     loop-holds
-    slice-read-g
+    (λ c. omega arith)
     rising-at-requires
-    slice-write-gs
-    add-j
+    (λ c. omega arith)
+    (λ c. omega arith)
     loop-less
     loop-again
     same-length

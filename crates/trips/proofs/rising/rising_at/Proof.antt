@@ -13,47 +13,20 @@ use Rattle.trips.proofs.rising.rising_at.Tie as tie
 returns : tie.Need-returns
 returns c = let a = c .before .before .before .before .args in let q = c .before .before .before .before .pre in λ car H. q .4 ∙ rising-level car (a .us .now) (a .hs .now) (a .j) (a .gs .now) (omega (arith, q .2 .last-is, q .4))
 
-shared-slice-read-if2 : tie.Need-shared-slice-read-if2
-shared-slice-read-if2 c = search needs
-
 returns-2 : tie.Need-returns-2
 returns-2 c = let a = c .before .before .before .before .before .before .args in let q = c .before .before .before .before .before .before .pre in λ car H. q .4 ∙ rising-still car (a .us .now) (a .hs .now) (a .j) (a .gs .now) (free-held car (a .us .now) (a .hs .now) (a .j) (λ z. omega arith))
-
-mul-v : tie.Need-mul-v
-mul-v c = search needs
-
-shared-slice-read-v : tie.Need-shared-slice-read-v
-shared-slice-read-v c = search needs
-
-sub-if3 : tie.Need-sub-if3
-sub-if3 c = search needs
-
-mul-if3 : tie.Need-mul-if3
-mul-if3 c = search needs
-
-shared-slice-read-if3 : tie.Need-shared-slice-read-if3
-shared-slice-read-if3 c = search needs
 
 returns-3 : tie.Need-returns-3
 returns-3 c = let a = c .before .before .before .before .before .before .before .before .before .args in let q = c .before .before .before .before .before .before .before .before .before .pre in λ car H. q .4 ∙ rising-flat car (a .us .now) (a .hs .now) (a .j) (a .gs .now) (omega arith)
 
-ceiling-at-requires : tie.Need-ceiling-at-requires
-ceiling-at-requires c κs = search needs
-
 returns-4 : tie.Need-returns-4
 returns-4 c = let a = c .before .before .before .before .before .before .before .before .before .before .before .args in let q = c .before .before .before .before .before .before .before .before .before .before .before .pre in λ car H. q .4 ∙ rising-low car (a .us .now) (a .hs .now) (a .j) (a .gs .now) (omega (arith, q .4, c .before .ceiling-at .ensures))
-
-floor-requires : tie.Need-floor-requires
-floor-requires c κs = search needs
 
 cast-result : tie.Need-cast-result
 cast-result c = let a = c .before .before .before .before .before .before .before .before .before .before .before .before .before .args in let q = c .before .before .before .before .before .before .before .before .before .before .before .before .before .pre in omega (arith, c .before .floor .ensures (built (a .k) (a .ratio .now)) (built-has (a .k) (a .ratio .now)), floor-few (a .k) (a .ratio .now) (at (a .us .now) (a .j)), q .0 .ng-to)
 
 returns-5 : tie.Need-returns-5
 returns-5 c = let a = c .before .before .before .before .before .before .before .before .before .before .before .before .before .args in let q = c .before .before .before .before .before .before .before .before .before .before .before .before .before .pre in λ car H. omega (arith, rising-cut car (a .us .now) (a .hs .now) (a .j) (a .gs .now) (free-later car (a .us .now) (a .hs .now) (a .j) (omega arith) (q .2 .from)) (omega arith) (omega (arith, q .4, c .before .before .before .ceiling-at .ensures)), c .before .before .before .ceiling-at .ensures, c .before .floor .ensures car H)
-
-cast-result-2 : tie.Need-cast-result-2
-cast-result-2 c = search needs
 
 returns-6 : tie.Need-returns-6
 returns-6 c = let a = c .before .before .before .before .before .before .before .before .before .before .before .before .before .args in let q = c .before .before .before .before .before .before .before .before .before .before .before .before .before .pre in λ car H. omega (arith, rising-cut car (a .us .now) (a .hs .now) (a .j) (a .gs .now) (free-later car (a .us .now) (a .hs .now) (a .j) (omega arith) (q .2 .from)) (omega arith) (omega (arith, q .4, c .before .before .before .ceiling-at .ensures)), c .before .before .before .ceiling-at .ensures, c .before .floor .ensures car H)
@@ -63,18 +36,18 @@ rising-at-spec =
     tie.close
     (tie.spec
     returns
-    shared-slice-read-if2
+    (λ c. search needs)
     returns-2
-    mul-v
-    shared-slice-read-v
-    sub-if3
-    mul-if3
-    shared-slice-read-if3
+    (λ c. search needs)
+    (λ c. search needs)
+    (λ c. search needs)
+    (λ c. search needs)
+    (λ c. search needs)
     returns-3
-    ceiling-at-requires
+    (λ c κs. search needs)
     returns-4
-    floor-requires
+    (λ c κs. search needs)
     cast-result
     returns-5
-    cast-result-2
+    (λ c. search needs)
     returns-6)

@@ -12,18 +12,6 @@ Inv-loop us j₀ j = Closing us j
 abbrev μ-loop : tie.MeasureT-loop
 μ-loop us j₀ j = j
 
-sub-j : tie.Need-sub-j Inv-loop μ-loop
-sub-j c = search needs
-
-mul-moving : tie.Need-mul-moving Inv-loop μ-loop
-mul-moving c = search needs
-
-shared-slice-read-moving : tie.Need-shared-slice-read-moving Inv-loop μ-loop
-shared-slice-read-moving c = search needs
-
-moving-requires : tie.Need-moving-requires Inv-loop μ-loop
-moving-requires c κs = search needs
-
 returns : tie.Need-returns Inv-loop μ-loop
 returns c =
     let s = c .before .before .before .before in
@@ -32,26 +20,8 @@ returns c =
 loop-holds : tie.Need-loop-holds Inv-loop μ-loop
 loop-holds c = run-start (c .before .before .before .before .args .us .now) _ (omega arith) (rw (c .before .moving .ensures) at (c .if1 .left))
 
-sub-i : tie.Need-sub-i Inv-loop μ-loop
-sub-i c = search needs
-
-mul-if2 : tie.Need-mul-if2 Inv-loop μ-loop
-mul-if2 c = search needs
-
-shared-slice-read-if2 : tie.Need-shared-slice-read-if2 Inv-loop μ-loop
-shared-slice-read-if2 c = search needs
-
-mul-if2-2 : tie.Need-mul-if2-2 Inv-loop μ-loop
-mul-if2-2 c = search needs
-
-shared-slice-read-if2-2 : tie.Need-shared-slice-read-if2-2 Inv-loop μ-loop
-shared-slice-read-if2-2 c = search needs
-
 returns-2 : tie.Need-returns-2 Inv-loop μ-loop
 returns-2 c = run-stops (c .before .before .before .before .before .before .before .before .before .args .us .now) (c .before .before .before .before .loop .inv) (c .before .before .before .before .before .before .before .before .before .pre .0) (omega arith) (omega arith)
-
-loop-less : tie.Need-loop-less Inv-loop μ-loop
-loop-less c = search needs
 
 loop-again : tie.Need-loop-again Inv-loop μ-loop
 loop-again c = run-more (c .before .before .before .before .before .before .before .before .before .args .us .now) (c .before .before .before .before .loop .inv) (omega arith) (omega arith)
@@ -65,18 +35,18 @@ closing-from-spec =
     (tie.spec
     Inv-loop
     μ-loop
-    sub-j
-    mul-moving
-    shared-slice-read-moving
-    moving-requires
+    (λ c. search needs)
+    (λ c. search needs)
+    (λ c. search needs)
+    (λ c κs. search needs)
     returns
     loop-holds
-    sub-i
-    mul-if2
-    shared-slice-read-if2
-    mul-if2-2
-    shared-slice-read-if2-2
+    (λ c. search needs)
+    (λ c. search needs)
+    (λ c. search needs)
+    (λ c. search needs)
+    (λ c. search needs)
     returns-2
-    loop-less
+    (λ c. search needs)
     loop-again
     returns-3)

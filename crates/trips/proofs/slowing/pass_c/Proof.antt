@@ -39,12 +39,6 @@ loop-holds c =
 slowing-at-requires : tie.Need-slowing-at-requires Inv-loop μ-loop
 slowing-at-requires c κs = let s = c .before .before .before .before .before in (s .pre .0, omega (arith, c .before .before .loop .inv, s .pre .1 .gears), omega arith)
 
-slice-write-gs : tie.Need-slice-write-gs Inv-loop μ-loop
-slice-write-gs c = omega arith
-
-add-j : tie.Need-add-j Inv-loop μ-loop
-add-j c = omega arith
-
 loop-less : tie.Need-loop-less Inv-loop μ-loop
 loop-less c = simp length-set (omega arith)
 
@@ -80,8 +74,8 @@ pass-c-spec =
     μ-loop
     loop-holds
     slowing-at-requires
-    slice-write-gs
-    add-j
+    (λ c. omega arith)
+    (λ c. omega arith)
     loop-less
     loop-again
     same-length

@@ -7,26 +7,14 @@ use borrow.Author.Needs.{needs}
 use Rattle.trips.proofs.slowing.slowing_at.Statement.{statement}
 use Rattle.trips.proofs.slowing.slowing_at.Tie as tie
 
-shared-slice-read-g : tie.Need-shared-slice-read-g
-shared-slice-read-g c = search needs
-
-shared-slice-read-if1 : tie.Need-shared-slice-read-if1
-shared-slice-read-if1 c = search needs
-
 returns : tie.Need-returns
 returns c = let a = c .before .before .before .before .before .args in λ car us C e. slowing-still car us (a .hs .now) (a .j) (a .gs .now) (free-held car us (a .hs .now) (a .j) (λ z. omega arith))
 
 returns-2 : tie.Need-returns-2
 returns-2 c = let a = c .before .before .before .before .before .before .args in λ car us C e. slowing-still car us (a .hs .now) (a .j) (a .gs .now) (free-first car us (a .hs .now) (a .j) (omega arith))
 
-lowest-requires : tie.Need-lowest-requires
-lowest-requires c κs = search needs
-
 cast-low : tie.Need-cast-low
 cast-low c = let q = c .before .before .before .before .before .before .before .pre .0 in omega (arith, c .lowest .ensures, q .ng-to, q .low-to)
-
-add-result : tie.Need-add-result
-add-result c = search needs
 
 returns-3 : tie.Need-returns-3
 returns-3 c =
@@ -44,4 +32,4 @@ returns-4 c =
 pub slowing-at-spec : {M : Type 1} → statement M
 slowing-at-spec =
     tie.close
-    (tie.spec shared-slice-read-g shared-slice-read-if1 returns returns-2 lowest-requires cast-low add-result returns-3 returns-4)
+    (tie.spec (λ c. search needs) (λ c. search needs) returns returns-2 (λ c κs. search needs) cast-low (λ c. search needs) returns-3 returns-4)

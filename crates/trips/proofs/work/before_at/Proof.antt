@@ -8,14 +8,8 @@ use Rattle.trips.proofs.work.before_at.Tie as tie
 returns : tie.Need-returns
 returns c = rw (eq-eqb _ 0 (c .if1 .taken))
 
-sub-result : tie.Need-sub-result
-sub-result c = search needs
-
-shared-slice-read-result : tie.Need-shared-slice-read-result
-shared-slice-read-result c = search needs
-
 returns-2 : tie.Need-returns-2
 returns-2 c = rw (ne-eqb _ 0 (c .before .if1 .left))
 
 pub before-at-spec : {M : Type 1} → statement M
-before-at-spec = tie.close (tie.spec returns sub-result shared-slice-read-result returns-2)
+before-at-spec = tie.close (tie.spec returns (λ c. search needs) (λ c. search needs) returns-2)

@@ -12,21 +12,6 @@ use Rattle.trips.proofs.Trip.{way-begins}
 use Rattle.trips.proofs.work.begin.Statement.{statement}
 use Rattle.trips.proofs.work.begin.Tie as tie
 
-shared-slice-read-v : tie.Need-shared-slice-read-v
-shared-slice-read-v c = search needs
-
-shared-slice-read-hold : tie.Need-shared-slice-read-hold
-shared-slice-read-hold c = search needs
-
-choice-first-requires : tie.Need-choice-first-requires
-choice-first-requires c κs = search needs
-
-slice-write-gs : tie.Need-slice-write-gs
-slice-write-gs c = search needs
-
-same-length : tie.Need-same-length
-same-length c = search needs
-
 returns : tie.Need-returns
 returns c =
     let s = c .before .before .before .before .before .before .before .before in
@@ -49,11 +34,11 @@ pub begin-spec : {M : Type 1} → statement M
 begin-spec =
     tie.close
     (tie.spec
-    shared-slice-read-v
-    shared-slice-read-hold
-    choice-first-requires
-    slice-write-gs
-    same-length
+    (λ c. search needs)
+    (λ c. search needs)
+    (λ c κs. search needs)
+    (λ c. search needs)
+    (λ c. search needs)
     returns
     returns-2
     returns-3)

@@ -9,12 +9,6 @@ use Rattle.trips.proofs.work.choice_first.Tie as tie
 returns : tie.Need-returns
 returns c = λ car H b d. first-held car _ d _ (c .if1 .taken)
 
-lowest-requires : tie.Need-lowest-requires
-lowest-requires c κs = search needs
-
-top-requires : tie.Need-top-requires
-top-requires c κs = search needs
-
 engine-requires : tie.Need-engine-requires
 engine-requires c κs =
     let l = c .before .lowest .ensures in
@@ -34,4 +28,4 @@ returns-3 : tie.Need-returns-3
 returns-3 c = λ car H b d. first-one H b _ d _ (c .before .before .before .before .if1 .left) (c .before .before .before .lowest .ensures) (rw (c .before .before .top .ensures, c .before .engine .ensures) at (c .if2 .left))
 
 pub choice-first-spec : {M : Type 1} → statement M
-choice-first-spec = tie.close (tie.spec returns lowest-requires top-requires engine-requires returns-2 cast-result returns-3)
+choice-first-spec = tie.close (tie.spec returns (λ c κs. search needs) (λ c κs. search needs) engine-requires returns-2 cast-result returns-3)

@@ -50,9 +50,6 @@ bytes-requires c κs =
     let P = s .pre .0 in
     gears-small (P .car) _ _ (P .lent) (s .pre .1) (done (c .before .before .before) (P .car) (P .lent))
 
-same-length : tie.Need-same-length
-same-length c = search needs
-
 returns : tie.Need-returns
 returns c = λ car L.
     let s = start (c .before .before .before .before .before .before) in
@@ -68,5 +65,5 @@ work-trip-spec =
     pass-b-requires
     pass-c-requires
     bytes-requires
-    same-length
+    (λ c. search needs)
     returns)

@@ -1,0 +1,16 @@
+-- `capi::gearcard_hold` meets its contract. `says-told` hands on what `hold` promises.
+-- Assumes nothing.
+use mathlib.Core.Path.{_∙_}
+use Rattle.capi.specs.Verdicts.{says-told}
+use borrow.Author.Needs.{needs}
+use Rattle.capi.proofs.gearcard_hold.Statement.{statement}
+use Rattle.capi.proofs.gearcard_hold.Tie as tie
+
+returns : tie.Need-returns
+returns c =
+    let r = c .before .before .before .before .before .hold .ensures in
+    (c .counted-of .ensures .0 ∙ says-told _ _ (r .0), (c .counted-of .ensures .1 ∙ r .1 .0, (search needs, search needs)))
+
+pub gearcard-hold-spec : {M : Type 1} → statement M
+gearcard-hold-spec =
+    tie.close (tie.spec (λ c κs. search needs) (λ c κs. search needs) (λ c. search needs) (λ c. search needs) returns)

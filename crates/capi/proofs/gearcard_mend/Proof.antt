@@ -1,0 +1,16 @@
+-- `capi::gearcard_mend` meets its contract. `says-told` hands on what `mend` promises.
+-- Assumes nothing.
+use mathlib.Core.Path.{_∙_}
+use Rattle.capi.specs.Verdicts.{says-told}
+use borrow.Author.Needs.{needs}
+use Rattle.capi.proofs.gearcard_mend.Statement.{statement}
+use Rattle.capi.proofs.gearcard_mend.Tie as tie
+
+returns : tie.Need-returns
+returns c =
+    let r = c .before .before .before .before .before .mend .ensures in
+    (c .counted-of .ensures .0 ∙ says-told _ _ (r .0), (c .counted-of .ensures .1 ∙ r .1 .0, (search needs, search needs)))
+
+pub gearcard-mend-spec : {M : Type 1} → statement M
+gearcard-mend-spec =
+    tie.close (tie.spec (λ c κs. search needs) (λ c κs. search needs) (λ c. search needs) (λ c. search needs) returns)

@@ -1,0 +1,25 @@
+-- `capi::gearcard_read` meets its contract. `says-told` hands on what `read` promises.
+-- Assumes nothing.
+use mathlib.Core.Path.{_∙_}
+use Rattle.jobs.specs.Reader.{reading}
+use Rattle.capi.specs.Verdicts.{says-told}
+use borrow.Author.Needs.{needs}
+use Rattle.capi.proofs.gearcard_read.Statement.{statement}
+use Rattle.capi.proofs.gearcard_read.Tie as tie
+
+returns : tie.Need-returns
+unfolding reading
+returns c =
+    let r = c .before .before .before .before .before .before .read .ensures in
+    record {
+      answered = c .verdict-of .ensures ∙ says-told _ _ (r .answered);
+      the-version = search needs;
+      the-vehicle = search needs;
+      the-count = search needs;
+      speeds-left = search needs;
+      holds-left = search needs;
+    }
+
+pub gearcard-read-spec : {M : Type 1} → statement M
+gearcard-read-spec =
+    tie.close (tie.spec (λ c κs. search needs) (λ c κs. search needs) (λ c. search needs) (λ c. search needs) returns)

@@ -1,0 +1,15 @@
+-- `capi::gearcard_summary_of` meets its contract.
+-- Assumes nothing.
+use mathlib.Core.Path.{_∙_}
+use Rattle.capi.specs.Verdicts.{says-told}
+use borrow.Author.Needs.{needs}
+use Rattle.capi.proofs.gearcard_summary_of.Statement.{statement}
+use Rattle.capi.proofs.gearcard_summary_of.Tie as tie
+
+returns : tie.Need-returns
+returns c =
+    let r = c .before .summary-of .ensures in
+    (c .counted-of .ensures .0 ∙ says-told _ _ (r .0), c .counted-of .ensures .1 ∙ r .1)
+
+pub gearcard-summary-of-spec : {M : Type 1} → statement M
+gearcard-summary-of-spec = tie.close (tie.spec (λ c κs. search needs) (λ c κs. search needs) returns)

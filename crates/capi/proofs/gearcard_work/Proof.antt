@@ -1,0 +1,13 @@
+-- `capi::gearcard_work` meets its contract. `says-told` hands on what `work` promises.
+-- Assumes nothing.
+use mathlib.Core.Path.{_∙_}
+use Rattle.capi.specs.Verdicts.{says-told}
+use borrow.Author.Needs.{needs}
+use Rattle.capi.proofs.gearcard_work.Statement.{statement}
+use Rattle.capi.proofs.gearcard_work.Tie as tie
+
+returns : tie.Need-returns
+returns c = (c .verdict-of .ensures ∙ says-told _ _ (c .before .before .before .work .ensures .0), search needs)
+
+pub gearcard-work-spec : {M : Type 1} → statement M
+gearcard-work-spec = tie.close (tie.spec (λ c κs. search needs) (λ c κs. search needs) (λ c. search needs) returns)

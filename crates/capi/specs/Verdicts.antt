@@ -1,0 +1,57 @@
+-- What the C functions answer: the refusal's number and place, number 0 where there is none.
+-- Assumes nothing.
+use Prim.Native.Nat.{ℕ}
+use mathlib.Core.Path.{_≡_, refl, sym, ap, _∙_}
+use mathlib.Core.Option.{Option, none, some}
+use mathlib.Core.List.{List}
+use lib.ListN.{length}
+use lib.IntN.{pos}
+use Rattle.rules.specs.declared.Answer.{Answer}
+use Rattle.rules.specs.declared.Answer.the-variants.{Done, Refused}
+use Rattle.rules.specs.Refusals.{Fault, said, told, left}
+use Rattle.rules.specs.declared.Vehicle.{Vehicle}
+use Rattle.rules.specs.Job.{job-read, read-fault, job-of, filled}
+use Rattle.rules.specs.Write.{job-bytes, write-fault, write-room}
+use Rattle.exports.specs.Export.{export-read, numbers-of}
+use Rattle.capi.specs.declared.Verdict.{Verdict}
+use Rattle.capi.specs.declared.Job as answered
+use Rattle.capi.specs.declared.Written.{Written}
+use Rattle.capi.specs.declared.Coefficients.{Coefficients}
+
+-- a refusal as a C caller is told it
+unfoldable pub as-verdict : Option Fault → Verdict
+as-verdict none = record { number = 0; place = 0 }
+as-verdict (some f) = record { number = f .no; place = f .spot }
+
+-- an answer as a C caller is told it
+abbrev pub says : Answer → Verdict
+says a = record { number = told a .no; place = told a .spot }
+
+-- both say the same
+pub says-told : (a : Answer) (f : Option Fault) → said a ≡ f → says a ≡ as-verdict f
+unfolding said as-verdict
+says-told Done f e = ap as-verdict e
+says-told (Refused r) f e = ap as-verdict e
+
+-- the answer r, and the rooms as they are left, are what is read
+pub record JobRead (job speeds holds : List ℕ) (r : answered.Job) (speeds′ holds′ : List ℕ) : Type 0 where
+  pub answered : r .verdict ≡ as-verdict (read-fault (job-read job (length speeds) (length holds)))
+  pub the-version : r .version ≡ job-of (job-read job (length speeds) (length holds)) .version
+  pub the-vehicle : r .vehicle ≡ job-of (job-read job (length speeds) (length holds)) .vehicle
+  pub the-count : r .count ≡ length (job-of (job-read job (length speeds) (length holds)) .speeds)
+  pub speeds-left : speeds′ ≡ filled speeds (job-of (job-read job (length speeds) (length holds)) .speeds)
+  pub holds-left : holds′ ≡ filled holds (job-of (job-read job (length speeds) (length holds)) .holds)
+
+-- the answer r, and the room as it is left, are what is written
+pub record JobWritten (v : ℕ) (car : Vehicle) (vs hs room : List ℕ) (r : Written) (room′ : List ℕ) : Type 0 where
+  pub answered : r .verdict ≡ as-verdict (write-fault v car vs hs room)
+  pub the-length : r .length ≡ left (write-fault v car vs hs room) 0 (length (job-bytes v car vs hs))
+  pub room-left : room′ ≡ write-room v car vs hs room
+
+-- the answer r is what is read of the export; all 0 where it is refused
+pub record ExportRead (bytes : List ℕ) (r : Coefficients) : Type 0 where
+  pub answered : r .verdict ≡ as-verdict (read-fault (export-read bytes 0))
+  pub the-f0 : pos (r .f0) ≡ numbers-of (export-read bytes 0) .f0
+  pub the-f1 : r .f1 ≡ numbers-of (export-read bytes 0) .f1
+  pub the-f2 : pos (r .f2) ≡ numbers-of (export-read bytes 0) .f2
+  pub the-tm : pos (r .tm) ≡ numbers-of (export-read bytes 0) .tm

@@ -1,0 +1,25 @@
+-- `checks::calm::own_passes` meets its contract: the second is judged, and then the step from it.
+-- Assumes nothing.
+use native.Mathlib.Omega.{arith}
+use mathlib.Core.Path.{_≡_, refl, sym, _∙_}
+use borrow.Author.Tests.{not-true}
+use borrow.Author.Needs.{needs}
+use Rattle.rules.proofs.Laws.Words.{clash}
+use Rattle.checks.proofs.calm.own_passes.Statement.{statement}
+use Rattle.checks.proofs.calm.own_passes.Tie as tie
+
+returns : tie.Need-returns
+returns c = λ e. clash e refl
+
+returns-2 : tie.Need-returns-2
+returns-2 c = λ e.
+    let passes : c .before .before .before .fault-at .result ≡ 10 = omega arith in
+    record { here = λ car H hs g. sym passes ∙ c .before .before .before .fault-at .ensures car H hs g; next = λ h. absurd (omega arith) }
+
+returns-3 : tie.Need-returns-3
+returns-3 c = λ e.
+    let passes : c .before .before .before .before .fault-at .result ≡ 10 = omega arith in
+    record { here = λ car H hs g. sym passes ∙ c .before .before .before .before .fault-at .ensures car H hs g; next = λ h car hs. sym (c .step-over .ensures car hs) ∙ not-true _ e }
+
+pub own-passes-spec : {M : Type 1} → statement M
+own-passes-spec = tie.close (tie.spec (λ c κs. search needs) returns (λ c. search needs) returns-2 (λ c κs. search needs) returns-3)

@@ -1,0 +1,45 @@
+-- `checks::trips_asked::stop_asked` meets its contract. The invariant: the trip of `k` ends where that of `i` does.
+-- Assumes nothing.
+use Prim.Native.Nat.{_-_, _≤_}
+use lib.ListN.{length}
+use native.Mathlib.Omega.{arith}
+use mathlib.Core.Path.{_≡_, refl, sym, ap, _∙_}
+use borrow.Author.Needs.{needs}
+use Rattle.rules.specs.Units.{moving, stop}
+use Rattle.checks.specs.Asked.{speeds-with}
+use Rattle.checks.proofs.Through.{length-speeds}
+use Rattle.checks.proofs.Scans.{not-so, so, stop-here, stop-more, stop-end}
+use Rattle.checks.proofs.trips_asked.stop_asked.Statement.{statement}
+use Rattle.checks.proofs.trips_asked.stop_asked.Tie as tie
+
+abbrev Inv-loop : tie.InvT-loop
+Inv-loop speeds asked i k₀ k = (k ≤ length speeds) × (stop (speeds-with asked speeds) i ≡ stop (speeds-with asked speeds) k)
+
+abbrev μ-loop : tie.MeasureT-loop
+μ-loop speeds asked i k₀ k = length speeds - k
+
+loop-holds : tie.Need-loop-holds Inv-loop μ-loop
+loop-holds c = (omega arith, refl)
+
+returns : tie.Need-returns Inv-loop μ-loop
+returns c =
+    let l = c .before .before .before .before .loop in
+    let a = c .before .before .before .before .before .before .args in
+    let vs = speeds-with (a .asked) (a .speeds .now) in
+    stop-here vs (l .k) (omega (arith, length-speeds (a .asked) (a .speeds .now))) (not-so (c .before .moving .ensures ∙ ap moving (c .before .before .speed-at .ensures)) (c .if1 .taken)) ∙ sym (l .inv .1)
+
+loop-again : tie.Need-loop-again Inv-loop μ-loop
+loop-again c =
+    let l = c .before .before .before .before .loop in
+    let a = c .before .before .before .before .before .before .args in
+    let vs = speeds-with (a .asked) (a .speeds .now) in
+    (omega arith, l .inv .1 ∙ stop-more vs (l .k) (omega (arith, length-speeds (a .asked) (a .speeds .now))) (so (c .before .moving .ensures ∙ ap moving (c .before .before .speed-at .ensures)) (c .if1 .left)))
+
+returns-2 : tie.Need-returns-2 Inv-loop μ-loop
+returns-2 c =
+    let a = c .before .before .before .args in
+    let vs = speeds-with (a .asked) (a .speeds .now) in
+    stop-end vs (c .before .loop .k) (omega (arith, length-speeds (a .asked) (a .speeds .now))) ∙ sym (c .before .loop .inv .1)
+
+pub stop-asked-spec : {M : Type 1} → statement M
+stop-asked-spec = tie.close (tie.spec Inv-loop μ-loop loop-holds (λ c κs. search needs) (λ c κs. search needs) returns (λ c. search needs) (λ c. search needs) loop-again returns-2)

@@ -1,0 +1,145 @@
+-- `edits::judging::judge` meets its contract: one law for each stage says what is known from there on, one of `Answers` for each return.
+-- Assumes nothing.
+use native.Mathlib.Omega.{arith}
+use mathlib.Core.Path.{_≡_, refl, sym, ap, _∙_}
+use mathlib.Core.List.{List}
+use Prim.Native.Nat.{ℕ, _+_, _<_, min}
+use lib.ListN.{length}
+use Rattle.rules.specs.declared.Vehicle.{Vehicle}
+use Rattle.rules.specs.declared.Edit.{Edit}
+use Rattle.rules.specs.Refusals.{said}
+use Rattle.rules.specs.Edit.{second, span, asked-fault}
+use Rattle.gears.specs.Parts.{Lent, Counts}
+use Rattle.gears.proofs.Derating.{derates}
+use Rattle.checks.proofs.Rows.{Opened, opened, said-none}
+use Rattle.cards.proofs.Working.{its-parts}
+use Rattle.edits.proofs.Places.{spanned-at, since-at, resting-at, countable-at}
+use Rattle.edits.proofs.Answers.{not-done, asked-second, asked-speeds-are, own-at, at-opening, at-second, at-span}
+use Rattle.edits.proofs.Carried.{passes-at}
+use borrow.Author.Needs.{needs}
+use Rattle.edits.proofs.judging.judge.Statement.{statement}
+use Rattle.edits.proofs.judging.judge.Tie as tie
+
+-- a statement of the arguments, at a stage past the opening
+abbrev Of : (Vehicle → List ℕ → List ℕ → List ℕ → Edit → Type 0) → tie.After-enum-told → Type 0
+Of P c = let s = c .before .before .before .before .before .before in P (s .args .t1) (s .args .speeds .now) (s .args .holds .now) (s .args .card .now) (s .args .edit)
+
+-- the opening has passed
+opened-at : (c : tie.After-enum-told) → Of (λ car vs hs old e. Opened car vs hs old) c
+opened-at c = opened (c .before .before .check-opening .ensures _ _ _ refl refl refl) (c .enum-told .given .1)
+
+-- the second is one of the trace
+inside-at : (c : tie.Else1) → Of (λ car vs hs old e. second e < length vs) (c .before .before)
+inside-at c = let e = c .before .second-of .ensures in omega arith
+
+-- what is looked at is found
+from-at : (c : tie.After-looked-at) → Of (λ car vs hs old e. c .looked-at .result .lo ≡ span e vs .lo) (c .before .before .before .before .before .before .before .before .before .before .before .before .before .before)
+from-at c = c .looked-at .ensures .0 ∙ c .before .before .before .before .before .before .before .before .before .before .before .span-of .ensures .0
+
+to-at : (c : tie.After-looked-at) → Of (λ car vs hs old e. c .looked-at .result .hi ≡ min (span e vs .hi + 1) (length vs)) (c .before .before .before .before .before .before .before .before .before .before .before .before .before .before)
+to-at c = let s = c .before .before .before .before .before .before .before .before .before .before .before .before .before .before .before .before .before .before .before .before .args in c .looked-at .ensures .1 ∙ ap (λ (b : ℕ). min (b + 1) (length (s .speeds .now))) (c .before .before .before .before .before .before .before .before .before .before .before .span-of .ensures .1)
+
+-- the numbers are the vehicle's
+counts-at : (c : tie.After-numbers-of) → Of (λ car vs hs old e. Counts car (c .numbers-of .result)) (c .before .before .before .before .before .before .before .before)
+counts-at c = record { numbers = sym (c .numbers-of .ensures) }
+
+-- the checks of the span said what the edit's own checks say, of every vehicle of these parts
+own-says : (c : tie.After-check-span)
+    → Of (λ car vs hs old e. (one : Vehicle) → Lent one (c .before .before .before .before .before .before .before .numbers-of .result) (car .ratio) (car .n) (c .before .before .before .before .before .before .before .before .derate .result) → said (c .check-span .result) ≡ asked-fault one e vs hs) (c .before .before .before .before .before .before .before .before .before .before .before .before .before .before .before)
+own-says c = λ one L.
+    let s = c .before .before .before .before .before .before .before .before .before .before .before .before .before .before .before .before .before .before .before .before .before .args in
+    let O = opened-at (c .before .before .before .before .before .before .before .before .before .before .before .before .before .before .before) in
+    c .check-span .ensures one L
+    ∙ rw (c .before .before .asked-of .ensures) (own-at one (s .edit) (s .speeds .now) (s .holds .now) (inside-at (c .before .before .before .before .before .before .before .before .before .before .before .before .before)) (O .holds-long) (L .bounds .ng-to) (from-at (c .before)) (to-at (c .before)))
+
+-- the vehicle's own parts
+lent-at : (c : tie.After-looked-at) → Of (λ car vs hs old e. Lent car (c .before .before .before .before .before .before .numbers-of .result) (car .ratio) (car .n) (c .before .before .before .before .before .before .before .derate .result)) (c .before .before .before .before .before .before .before .before .before .before .before .before .before .before)
+lent-at c = its-parts (counts-at (c .before .before .before .before .before .before)) (opened-at (c .before .before .before .before .before .before .before .before .before .before .before .before .before .before)) (c .before .before .before .before .before .before .before .derate .ensures)
+
+returns : tie.Need-returns
+returns c =
+    let r = c .before .enum-told2 .given .1 in (
+      λ n. rw (c .refused .ensures) (at-opening _ _ _ _ _ n (c .before .before .before .check-opening .ensures _ _ _ refl refl refl) r),
+      λ d. not-done r (sym (c .refused .ensures) ∙ d),
+    )
+
+returns-2 : tie.Need-returns-2
+returns-2 c = (
+  λ n. rw (c .refused2 .ensures) (at-second _ _ _ _ _ n (c .before .before .second-of .ensures) (opened-at (c .before .before .before)) (omega arith)),
+  λ d. not-done refl (sym (c .refused2 .ensures) ∙ d),
+)
+
+derate-requires : tie.Need-derate-requires
+derate-requires c κs = derates _ (opened-at (c .before .before .before .before .before .before) .bounds)
+
+asked-of-requires : tie.Need-asked-of-requires
+asked-of-requires c κs =
+    let l = inside-at (c .before .before .before .before .before .before .before .before .before .before) in
+    (l, omega (arith, l, opened-at (c .before .before .before .before .before .before .before .before .before .before .before .before) .holds-long))
+
+check-span-requires : tie.Need-check-span-requires
+check-span-requires c κs =
+    let s = c .before .before .before .before .before .before .before .before .before .before .before .before .before .before .before .before .before .before .before .before .args in
+    let O = opened-at (c .before .before .before .before .before .before .before .before .before .before .before .before .before .before) in
+    let l = inside-at (c .before .before .before .before .before .before .before .before .before .before .before .before) in
+    let a = c .before .asked-of .ensures in
+    let z = asked-second (s .edit) (s .speeds .now) (s .holds .now) in (
+      record { car = _; lent = lent-at c },
+      spanned-at O (s .edit) l (from-at c) (to-at c) (counts-at (c .before .before .before .before .before .before)),
+      rw (a, z) (since-at O (s .edit) l (from-at c) (to-at c)),
+      resting-at O (s .edit) l (from-at c) (to-at c) (rw a (asked-speeds-are (s .edit) (s .speeds .now) (s .holds .now))),
+    )
+
+returns-3 : tie.Need-returns-3
+returns-3 c =
+    let r = c .before .enum-told4 .given .1 in
+    let x = c .before .before .before in (
+      λ n. rw (c .refused3 .ensures) (own-says x _ (lent-at (x .before)) ∙ at-span _ _ _ _ _ n (opened-at (x .before .before .before .before .before .before .before .before .before .before .before .before .before .before .before)) (inside-at (x .before .before .before .before .before .before .before .before .before .before .before .before .before))),
+      λ d. not-done r (sym (c .refused3 .ensures) ∙ d),
+    )
+
+count-requires : tie.Need-count-requires
+count-requires c κs =
+    let r = c .before .before .before .before .before .before .before .before .before .before .before .before .before .before .span-of .ensures in
+    countable-at (opened-at (c .before .before .before .before .before .before .before .before .before .before .before .before .before .before .before .before .before)) (c .before .before .before .before .before .before .before .before .before .before .before .before .before .before .before .before .before .before .before .before .before .before .before .args .edit) (inside-at (c .before .before .before .before .before .before .before .before .before .before .before .before .before .before .before)) (r .0) (r .1)
+
+returns-4 : tie.Need-returns-4
+returns-4 c =
+    let x = c .before .before .before in
+    let s = c .before .before .before .before .before .before .before .before .before .before .before .before .before .before .before .before .before .before .before .before .before .before .before .before .args in
+    let r = c .before .before .before .before .before .before .before .before .before .before .before .before .before .before .before .span-of .ensures in
+    let l = inside-at (x .before .before .before .before .before .before .before .before .before .before .before .before .before) in (
+      λ n. own-says x _ (lent-at (x .before)) ∙ at-span _ _ _ _ _ n (opened-at (x .before .before .before .before .before .before .before .before .before .before .before .before .before .before .before)) l,
+      λ d. record {
+        from = r .0;
+        to = r .1;
+        powers-are = x .before .before .before .before .before .before .before .before .derate .ensures;
+        passes = λ one L. passes-at one (s .edit) (s .speeds .now) (s .holds .now) l (said-none (own-says x one (rw (x .before .before .before .before .before .before .before .numbers-of .ensures) L)) d);
+        counted-are = c .count .ensures ∙ rw (r .0, r .1);
+      },
+    )
+
+pub judge-spec : {M : Type 1} → statement M
+judge-spec =
+    tie.close
+    (tie.spec
+    (λ c κs. search needs)
+    (λ c. search needs)
+    (λ c. search needs)
+    (λ c κs. search needs)
+    returns
+    (λ c κs. search needs)
+    (λ c κs. search needs)
+    returns-2
+    (λ c κs. search needs)
+    derate-requires
+    (λ c κs. search needs)
+    asked-of-requires
+    (λ c κs. search needs)
+    check-span-requires
+    (λ c. search needs)
+    (λ c. search needs)
+    (λ c κs. search needs)
+    returns-3
+    count-requires
+    returns-4)

@@ -1,0 +1,21 @@
+-- `edits::spans::around` meets its contract: the two scans, and the second before the first.
+-- Assumes nothing.
+use Prim.Native.Nat.{ℕ, _-_}
+use native.Mathlib.Numerals.{add-one}
+use mathlib.Core.Path.{_≡_, ap, _∙_}
+use Rattle.rules.specs.Units.{stop}
+use Rattle.rules.specs.Edit.{around}
+use borrow.Author.Needs.{needs}
+use Rattle.edits.proofs.spans.around.Statement.{statement}
+use Rattle.edits.proofs.spans.around.Tie as tie
+
+returns : tie.Need-returns
+unfolding around
+returns c =
+    let a = c .before .before .before .before .args in
+    (c .before .before2 .ensures ∙ ap (λ (x : ℕ). x - 1) (c .before .before .trip-start .ensures), c .trip-stop .ensures ∙ ap (stop (a .speeds .now)) (add-one (a .second)))
+
+pub around-spec : {M : Type 1} → statement M
+around-spec =
+    tie.close
+    (tie.spec (λ c κs. search needs) (λ c κs. search needs) (λ c. search needs) (λ c κs. search needs) returns)

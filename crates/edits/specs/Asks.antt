@@ -1,0 +1,36 @@
+-- What the code asks the checks of an edit, and what it knows where none of them refuses.
+-- Assumes nothing.
+use Prim.Native.Nat.{ℕ, _-_}
+use mathlib.Core.Path.{_≡_}
+use mathlib.Core.List.{List}
+use lib.Dec.{eqb}
+use Rattle.rules.specs.declared.Vehicle.{Vehicle}
+use Rattle.rules.specs.declared.Edit.{Edit}
+use Rattle.rules.specs.declared.Edit.the-variants.{Hold, Release, Mend}
+use Rattle.rules.specs.Words.{if_then_else_, at}
+use Rattle.rules.specs.Edit.{second, asked-speeds, asked-holds, span}
+use Rattle.gears.specs.Parts.{Lent, numbers-of}
+use Rattle.gears.specs.Choosing.{available}
+use Rattle.checks.specs.declared.Asked.{Asked}
+use Rattle.cards.specs.Rework.{Passes}
+use Rattle.summaries.specs.Tallies.{tallied}
+use Rattle.edits.specs.declared.Judged.{Judged}
+
+-- a gear as the checks judge it: 0 is no gear, and counts as 255, above every ng
+unfoldable pub gear-asked : ℕ → ℕ
+gear-asked g = if eqb g 0 then 255 else g
+
+-- a hold or a release keeps the speed that is there, a mended sample the hold
+unfoldable pub asked-of : Edit → List ℕ → List ℕ → Asked
+asked-of (Hold s g) vs hs = record { second = s; speed = at vs s; gear = gear-asked g }
+asked-of (Release s) vs hs = record { second = s; speed = at vs s; gear = 0 }
+asked-of (Mend s v) vs hs = record { second = s; speed = v; gear = at hs s }
+
+-- an edit that no check refuses: where it re-works, with what powers, that every check passes there, and what the card counts there
+pub record Ready (car : Vehicle) (e : Edit) (vs hs old : List ℕ) (j : Judged) : Type 0 where
+  pub from : j .range .lo ≡ span e vs .lo
+  pub to : j .range .hi ≡ span e vs .hi
+  pub powers-are : j .powers ≡ available (car .margin) (car .p) (car .m) (car .points)
+  pub passes : (one : Vehicle) → Lent one (numbers-of car) (car .ratio) (car .n) (j .powers)
+      → Passes one (asked-speeds e vs) (asked-holds e hs) (span e vs .lo) (span e vs .hi)
+  pub counted-are : j .counted ≡ tallied vs old (span e vs .lo) (span e vs .hi - span e vs .lo)

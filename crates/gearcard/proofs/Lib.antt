@@ -1,0 +1,4 @@
+-- What belongs to no one function.
+pub mod TextInTurn
+pub mod Jobs
+pub mod Determined

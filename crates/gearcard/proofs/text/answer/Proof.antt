@@ -1,0 +1,70 @@
+-- `gearcard::text::answer` meets its contract: the rooms begin with what was read, and what is put at place 0 begins the memory.
+-- Assumes nothing.
+use native.Mathlib.Omega.{arith}
+use mathlib.Core.Path.{_≡_, sym, _∙_}
+use lib.ListN.{length, take}
+use lib.Seq.{length-take-le}
+use Rattle.gearcard.proofs.TextInTurn.{begins}
+use Rattle.jobs.proofs.Rooms.{rooms}
+use Rattle.gearcard.proofs.Jobs.{room-is, printed-done, printed-stop}
+use borrow.Author.Needs.{needs}
+use Rattle.gearcard.proofs.text.answer.Statement.{statement}
+use Rattle.gearcard.proofs.text.answer.Tie as tie
+
+array-share-prefix-speeds : tie.Need-array-share-prefix-speeds
+array-share-prefix-speeds c = let w = rooms (c .before .before .before .before .before .read .ensures) in w .speeds-fit
+
+slice-aggregate-put-worked : tie.Need-slice-aggregate-put-worked
+slice-aggregate-put-worked c = let w = rooms (c .before .before .before .before .before .before .read .ensures) in sym (length-take-le _ _ (w .speeds-fit))
+
+array-share-prefix-holds : tie.Need-array-share-prefix-holds
+array-share-prefix-holds c = let w = rooms (c .before .before .before .before .before .before .read .ensures) in w .holds-fit
+
+slice-aggregate-put-worked-2 : tie.Need-slice-aggregate-put-worked-2
+slice-aggregate-put-worked-2 c = let w = rooms (c .before .before .before .before .before .before .before .read .ensures) in sym (length-take-le _ _ (w .holds-fit))
+
+array-borrow-prefix-card : tie.Need-array-borrow-prefix-card
+array-borrow-prefix-card c = let w = rooms (c .before .before .before .before .before .before .before .read .ensures) in w .few
+
+slice-aggregate-put-worked-3 : tie.Need-slice-aggregate-put-worked-3
+slice-aggregate-put-worked-3 c = let w = rooms (c .before .before .before .before .before .before .before .before .read .ensures) in sym (length-take-le _ _ (w .few))
+
+put-worked-requires : tie.Need-put-worked-requires
+put-worked-requires c κs =
+    let p = c .before .before .before .before .before .before .before .before .before in
+    let q = p .read in
+    let w = rooms (q .ensures) in
+    let n : length (take (q .result .count) (q .last .1 .0)) ≡ q .result .count = length-take-le _ _ (w .speeds-fit) in
+    let e = room-is in
+    (rw (n, e) (w .few), (length-take-le _ _ (w .few) ∙ sym n, omega (arith, e)))
+
+returns : tie.Need-returns
+returns c =
+    let p = c .before .before .before .before .before .before .before in
+    begins (rw (printed-done (p .before .before .before .before .read .ensures) (sym room-is) (sym room-is) (p .enum-told .given .1)) at (c .before .put-worked .ensures))
+
+returns-2 : tie.Need-returns-2
+returns-2 c =
+    let p = c .before .before .before .before in
+    begins (rw (c .before .before .as-printed .ensures, printed-stop (p .before .before .before .before .read .ensures) (sym room-is) (sym room-is) (p .judged .given .1)) at (c .put-refusal .ensures))
+
+pub answer-spec : {M : Type 1} → statement M
+answer-spec =
+    tie.close
+    (tie.spec
+    (λ c. search needs)
+    (λ c. search needs)
+    (λ c κs. search needs)
+    (λ c. search needs)
+    array-share-prefix-speeds
+    slice-aggregate-put-worked
+    array-share-prefix-holds
+    slice-aggregate-put-worked-2
+    array-borrow-prefix-card
+    slice-aggregate-put-worked-3
+    put-worked-requires
+    (λ c. search needs)
+    (λ c κs. search needs)
+    (λ c κs. search needs)
+    returns
+    returns-2)

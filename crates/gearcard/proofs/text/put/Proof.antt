@@ -1,0 +1,50 @@
+-- `gearcard::text::put` meets its contract. The loop's invariant: the bytes that are left, put after those that are put, make it whole.
+-- Assumes nothing.
+use Prim.Native.Nat.{_+_, _-_, _≤_}
+use native.Mathlib.Omega.{arith}
+use native.Mathlib.Nat.{add-zero, add-assoc}
+use native.Mathlib.Numerals.{add-one}
+use lib.ListN.{length, drop, drop-of-length-le}
+use lib.Seq.{drop-cons}
+use borrow.Author.Needs.{needs}
+use Rattle.jobs.proofs.PutInTurn.{Left, all-left, fewer-left, none-left, said-as, put-byte}
+use Rattle.gearcard.proofs.text.put.Statement.{statement}
+use Rattle.gearcard.proofs.text.put.Tie as tie
+
+abbrev Inv-loop : tie.InvT-loop
+Inv-loop out₀ at src i₀ out i = (i ≤ length src) × Left out₀ at src out (at + i) (drop i src)
+
+abbrev μ-loop : tie.MeasureT-loop
+μ-loop out₀ at src i₀ out i = length src - i
+
+loop-holds : tie.Need-loop-holds Inv-loop μ-loop
+loop-holds c = (omega arith, rw add-zero (all-left (c .args .out .now) (c .args .at) (c .args .src .now) (c .pre)))
+
+loop-again : tie.Need-loop-again Inv-loop μ-loop
+loop-again c =
+    let l = c .before .before .loop in
+    let s = c .before .before .before in
+    (omega arith, rw (← add-assoc (s .args .at) (l .i) 1, add-one (l .i)) (fewer-left (said-as (drop-cons (s .args .src .now) (l .i) 0 (omega arith)) (l .inv .1)) (put-byte _ _ _ (omega arith))))
+
+same-length : tie.Need-same-length Inv-loop μ-loop
+same-length c = c .before .loop .inv .1 .long
+
+returns : tie.Need-returns Inv-loop μ-loop
+returns c = let l = c .before .loop in none-left (said-as (drop-of-length-le _ {i = l .i} (omega arith)) (l .inv .1))
+
+pub put-spec : {M : Type 1} → statement M
+put-spec =
+    tie.close
+    (tie.spec
+    Inv-loop
+    μ-loop
+    loop-holds
+    (λ c. search needs)
+    (λ c. omega arith)
+    (λ c. omega arith)
+    (λ c. search needs)
+    (λ c. search needs)
+    loop-again
+    (λ c. search needs)
+    same-length
+    returns)

@@ -1,0 +1,48 @@
+-- `gearcard::text::put_line` meets its contract: four pieces in a row.
+-- Assumes nothing.
+use native.Mathlib.Omega.{arith}
+use Rattle.jobs.proofs.PutInTurn.{put-both}
+use Rattle.gearcard.proofs.TextInTurn.{line-is, line-lengths}
+use borrow.Author.Needs.{needs}
+use Rattle.gearcard.proofs.text.put_line.Statement.{statement}
+use Rattle.gearcard.proofs.text.put_line.Tie as tie
+
+put-decimal-requires : tie.Need-put-decimal-requires
+put-decimal-requires c κs = let s = c .before .before in omega (arith, line-lengths (s .args .i) (s .args .v) (s .args .byte))
+
+put-requires : tie.Need-put-requires
+put-requires c κs =
+    let s = c .before .before .before .before .before .before .before in
+    omega (arith, line-lengths (s .args .i) (s .args .v) (s .args .byte))
+
+put-speed-requires : tie.Need-put-speed-requires
+put-speed-requires c κs =
+    let s = c .before .before .before .before .before .before .before .before .before .before .before in
+    omega (arith, line-lengths (s .args .i) (s .args .v) (s .args .byte))
+
+put-gear-requires : tie.Need-put-gear-requires
+put-gear-requires c κs =
+    let s = c .before .before .before .before .before .before .before .before .before .before .before .before .before .before .before in
+    omega (arith, line-lengths (s .args .i) (s .args .v) (s .args .byte))
+
+returns : tie.Need-returns
+returns c =
+    let four = c .before .before in
+    let three = four .before .before .before .before in
+    let two = three .before .before .before .before in
+    let one = two .before .before .before .before .before in
+    let s = one .before .before .before in
+    rw (line-is (s .args .i) (s .args .v) (s .args .byte))
+    (put-both (one .put-decimal .ensures) (put-both (two .put .ensures) (put-both (three .put-speed .ensures) (four .put-gear .ensures))))
+
+pub put-line-spec : {M : Type 1} → statement M
+put-line-spec =
+    tie.close
+    (tie.spec
+    put-decimal-requires
+    (λ c. search needs)
+    put-requires
+    put-speed-requires
+    put-gear-requires
+    (λ c. search needs)
+    returns)

@@ -1,0 +1,56 @@
+-- `gearcard::text::put_lines` meets its contract. The loop's invariant: the lines of the first i seconds are put.
+-- Assumes nothing.
+use Prim.Native.Nat.{_-_, _<_}
+use native.Mathlib.Omega.{arith}
+use lib.ListN.{length, getD}
+use borrow.Author.Needs.{needs}
+use Rattle.rules.proofs.Laws.Lines.{line-short}
+use Rattle.gearcard.proofs.TextInTurn.{Lined, lines-begin, lines-again, lines-end}
+use Rattle.gearcard.proofs.text.put_lines.Statement.{statement}
+use Rattle.gearcard.proofs.text.put_lines.Tie as tie
+
+abbrev Inv-loop : tie.InvT-loop
+Inv-loop out₀ at speeds card next₀ i₀ out next i = Lined speeds card out₀ at out next i
+
+abbrev μ-loop : tie.MeasureT-loop
+μ-loop out₀ at speeds card next₀ i₀ out next i = length speeds - i
+
+loop-holds : tie.Need-loop-holds Inv-loop μ-loop
+loop-holds c = lines-begin _ _ _ _ (omega arith)
+
+put-line-requires : tie.Need-put-line-requires Inv-loop μ-loop
+put-line-requires c κs =
+    let l = c .before .before .before .before .loop in
+    let a = c .before .before .before .before .before .before .before .before .args in
+    let v : getD (a .speeds .now) (l .i) 0 < 65536 = omega (arith, c .before .before .shared-slice-known3 .given (l .i)) in
+    omega (arith, line-short (l .i) (getD (a .speeds .now) (l .i) 0) (getD (a .card .now) (l .i) 0) (omega arith) v)
+
+loop-again : tie.Need-loop-again Inv-loop μ-loop
+loop-again c =
+    let l = c .before .before .before .before .before .before .before .loop in
+    let a = c .before .before .before .before .before .before .before .before .before .before .before .args in
+    let v : getD (a .speeds .now) (l .i) 0 < 65536 = omega (arith, c .before .before .before .before .before .shared-slice-known3 .given (l .i)) in
+    lines-again _ _ _ _ (l .inv) (omega arith) (omega arith) v (c .before .before .put-line .ensures)
+
+same-length : tie.Need-same-length Inv-loop μ-loop
+same-length c = c .before .loop .inv .same
+
+returns : tie.Need-returns Inv-loop μ-loop
+returns c = lines-end _ _ _ _ (c .before .loop .inv) (omega arith)
+
+pub put-lines-spec : {M : Type 1} → statement M
+put-lines-spec =
+    tie.close
+    (tie.spec
+    Inv-loop
+    μ-loop
+    loop-holds
+    (λ c. search needs)
+    (λ c. search needs)
+    (λ c. search needs)
+    put-line-requires
+    (λ c. search needs)
+    (λ c. search needs)
+    loop-again
+    same-length
+    returns)

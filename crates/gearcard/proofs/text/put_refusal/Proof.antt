@@ -1,0 +1,60 @@
+-- `gearcard::text::put_refusal` meets its contract: five pieces in a row.
+-- Assumes nothing.
+use Prim.Native.Nat.{_≤_}
+use native.Mathlib.Omega.{arith}
+use lib.ListN.{length}
+use Rattle.rules.specs.Text.{decimal, refusal-text}
+use Rattle.rules.proofs.Laws.Lines.{tens, decimal-short}
+use Rattle.jobs.proofs.PutInTurn.{put-both}
+use borrow.Author.Needs.{needs}
+use Rattle.gearcard.proofs.text.put_refusal.Statement.{statement}
+use Rattle.gearcard.proofs.text.put_refusal.Tie as tie
+
+-- the number has at most 10 digits, the place at most 20
+short-at : (p : tie.After-place) → (length (decimal (p .before .number .result)) ≤ 10) × (length (decimal (p .place .result)) ≤ 20)
+unfolding tens
+short-at p = (decimal-short 9 (p .before .number .result) (omega arith), decimal-short 19 (p .place .result) (omega arith))
+
+put-decimal-requires : tie.Need-put-decimal-requires
+put-decimal-requires c κs = omega (arith, short-at (c .before .before .before .before .before .before))
+
+put-requires-2 : tie.Need-put-requires-2
+put-requires-2 c κs = omega (arith, short-at (c .before .before .before .before .before .before .before .before .before .before .before))
+
+put-decimal-requires-2 : tie.Need-put-decimal-requires-2
+put-decimal-requires-2 c κs = omega (arith, short-at (c .before .before .before .before .before .before .before .before .before .before .before .before .before .before .before))
+
+put-requires-3 : tie.Need-put-requires-3
+put-requires-3 c κs =
+    let p = c .before .before .before .before .before .before .before .before .before .before .before .before .before .before .before .before .before .before .before .before in
+    omega (arith, short-at p)
+
+returns : tie.Need-returns
+unfolding refusal-text
+returns c =
+    let five = c .before .before in
+    let four = five .before .before .before .before .before in
+    let three = four .before .before .before .before in
+    let two = three .before .before .before .before .before in
+    let one = two .before .before .before .before in
+    let p = one .before .before .before in
+    rw (← p .before .number .ensures, ← p .place .ensures)
+    (put-both (one .put .ensures) (put-both (two .put-decimal .ensures) (put-both (three .put2 .ensures) (put-both (four .put-decimal2 .ensures) (five .put3 .ensures)))))
+
+pub put-refusal-spec : {M : Type 1} → statement M
+put-refusal-spec =
+    tie.close
+    (tie.spec
+    (λ c κs. search needs)
+    (λ c. search needs)
+    (λ c κs. search needs)
+    (λ c. search needs)
+    (λ c κs. search needs)
+    put-decimal-requires
+    (λ c. search needs)
+    put-requires-2
+    put-decimal-requires-2
+    (λ c. search needs)
+    put-requires-3
+    (λ c. search needs)
+    returns)

@@ -1,0 +1,33 @@
+-- `gearcard::text::put_speed` meets its contract: three pieces in a row.
+-- Assumes nothing.
+use native.Mathlib.Omega.{arith}
+use Rattle.jobs.proofs.PutInTurn.{put-both}
+use Rattle.gearcard.proofs.TextInTurn.{speed-length}
+use borrow.Author.Needs.{needs}
+use Rattle.gearcard.proofs.text.put_speed.Statement.{statement}
+use Rattle.gearcard.proofs.text.put_speed.Tie as tie
+
+put-decimal-requires : tie.Need-put-decimal-requires
+put-decimal-requires c κs = let s = c .before .before in omega (arith, speed-length (s .args .v))
+
+put-requires : tie.Need-put-requires
+put-requires c κs = let s = c .before .before .before .before .before .before .before in omega (arith, speed-length (s .args .v))
+
+put-decimal-requires-2 : tie.Need-put-decimal-requires-2
+put-decimal-requires-2 c κs = let s = c .before .before .before .before .before .before .before .before .before .before .before in omega (arith, speed-length (s .args .v))
+
+returns : tie.Need-returns
+returns c = put-both (c .before .before .before .before .before .before .before .before .before .before .before .put-decimal .ensures) (put-both (c .before .before .before .before .before .before .put .ensures) (c .before .before .put-decimal2 .ensures))
+
+pub put-speed-spec : {M : Type 1} → statement M
+put-speed-spec =
+    tie.close
+    (tie.spec
+    (λ c. search needs)
+    put-decimal-requires
+    (λ c. search needs)
+    put-requires
+    (λ c. search needs)
+    put-decimal-requires-2
+    (λ c. search needs)
+    returns)

@@ -1,0 +1,46 @@
+-- `gearcard::text::put_worked` meets its contract: what the working answers is what the text says.
+-- Assumes nothing.
+use Rattle.gearcard.proofs.Jobs.{done-text, stop-text, room-is}
+use borrow.Author.Needs.{needs}
+use Rattle.gearcard.proofs.text.put_worked.Statement.{statement}
+use Rattle.gearcard.proofs.text.put_worked.Tie as tie
+
+put-card-requires : tie.Need-put-card-requires
+put-card-requires c κs = let e = room-is in search needs
+
+put-refusal-requires : tie.Need-put-refusal-requires
+put-refusal-requires c κs = let e = room-is in search needs
+
+returns : tie.Need-returns
+returns c =
+    let p = c .before .before .before .before .before in
+    let w = p .before .before .before .before in
+    let s = w .before .before .before .before .before .before in
+    rw (done-text (s .args .vehicle) (s .args .speeds .now) (s .args .holds .now) (s .args .card .now) (s .pre .1 .0)
+    (w .work .ensures .0) (p .enum-told .given .1) (w .work .ensures .1))
+    (c .before .before .put-card .ensures)
+
+returns-2 : tie.Need-returns-2
+returns-2 c =
+    let p = c .before .before .before .before .before in
+    let w = p .before .before .before .before in
+    let s = w .before .before .before .before .before .before in
+    rw (stop-text (s .args .vehicle) (s .args .speeds .now) (s .args .holds .now) (s .args .card .now) (s .pre .1 .0)
+    (w .work .ensures .0) (p .answer .given .1))
+    (c .before .before .put-refusal .ensures)
+
+pub put-worked-spec : {M : Type 1} → statement M
+put-worked-spec =
+    tie.close
+    (tie.spec
+    (λ c κs. search needs)
+    (λ c. search needs)
+    put-card-requires
+    (λ c. search needs)
+    put-refusal-requires
+    (λ c. search needs)
+    (λ c. search needs)
+    returns
+    (λ c. search needs)
+    (λ c. search needs)
+    returns-2)

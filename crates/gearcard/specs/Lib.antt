@@ -1,0 +1,2 @@
+-- What the card program prints.
+pub mod Printing

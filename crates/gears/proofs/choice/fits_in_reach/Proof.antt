@@ -1,0 +1,21 @@
+-- `gears::choice::fits_in_reach` meets its contract: one law of `fits` for each return.
+-- Assumes nothing.
+use mathlib.Core.Path.{sym, _∙_}
+use Rattle.gears.proofs.Choices.{later, fits-under-own, fits-else}
+use borrow.Author.Needs.{needs}
+use Rattle.gears.proofs.choice.fits_in_reach.Statement.{statement}
+use Rattle.gears.proofs.choice.fits_in_reach.Tie as tie
+
+returns : tie.Need-returns
+returns c = λ car H R.
+    let s = c .before .before .before in
+    fits-under-own H _ (later car (s .args .closes) (s .args .before)) _ _ (c .before .before .engine .ensures) (sym (c .if1 .taken) ∙ c .before .below-minimum .ensures car (H .counts))
+
+returns-2 : tie.Need-returns-2
+returns-2 c = λ car H R.
+    let s = c .before .before .before .before in
+    rw (c .top .ensures) (fits-else H _ (later car (s .args .closes) (s .args .before)) _ _ (c .before .before .before .engine .ensures) (s .pre .1) R (sym (c .before .if1 .left) ∙ c .before .before .below-minimum .ensures car (H .counts)))
+
+pub fits-in-reach-spec : {M : Type 1} → statement M
+fits-in-reach-spec =
+    tie.close (tie.spec (λ c κs. search needs) (λ c κs. search needs) returns (λ c κs. search needs) returns-2)

@@ -1,0 +1,11 @@
+-- `runs::lines::begun` is safe and ends: the part is as long as was asked for.
+-- Assumes nothing.
+use native.Mathlib.Omega.{arith}
+use mathlib.Core.Path.{sym}
+use lib.Seq.{length-take-le}
+use borrow.Author.Needs.{needs}
+use Rattle.runs.proofs.lines.begun.Statement.{statement}
+use Rattle.runs.proofs.lines.begun.Tie as tie
+
+pub begun-spec : {M : Type 1} → statement M
+begun-spec = tie.close (tie.spec (λ c. search needs) (λ c. sym (length-take-le _ _ (omega arith))) (λ c. search needs))

@@ -1,0 +1,29 @@
+-- `runs::lines::parse` is safe and ends: each call asks nothing that is not there.
+-- Assumes nothing.
+use native.Mathlib.Omega.{arith}
+use Prim.Native.Nat.{_≤_, _-_}
+use lib.ListN.{length}
+use borrow.Author.Needs.{needs}
+use Rattle.runs.proofs.lines.parse.Statement.{statement}
+use Rattle.runs.proofs.lines.parse.Tie as tie
+
+abbrev Inv-loop : tie.InvT-loop
+Inv-loop text line₀ i₀ line i = i ≤ length text
+
+abbrev μ-loop : tie.MeasureT-loop
+μ-loop text line₀ i₀ line i = length text - i
+
+pub parse-spec : {M : Type 1} → statement M
+parse-spec =
+    tie.close
+    (tie.spec
+    Inv-loop
+    μ-loop
+    (λ c. search needs)
+    (λ c. search needs)
+    (λ c. search needs)
+    (λ c κs. search needs)
+    (λ c. search needs)
+    (λ c. search needs)
+    (λ c. search needs)
+    (λ c. search needs))

@@ -1,0 +1,31 @@
+-- `runs::says::say_values` is safe and ends: each call asks nothing that is not there.
+-- Assumes nothing.
+use native.Mathlib.Omega.{arith}
+use Prim.Native.Nat.{_≤_, _-_}
+use lib.ListN.{length}
+use borrow.Author.Needs.{needs}
+use Rattle.runs.proofs.says.say_values.Statement.{statement}
+use Rattle.runs.proofs.says.say_values.Tie as tie
+
+abbrev Inv-loop : tie.InvT-loop
+Inv-loop values i₀ i = i ≤ length values
+
+abbrev μ-loop : tie.MeasureT-loop
+μ-loop values i₀ i = length values - i
+
+pub say-values-spec : {M : Type 1} → statement M
+say-values-spec =
+    tie.close
+    (tie.spec
+    Inv-loop
+    μ-loop
+    (λ c. search needs)
+    (λ c κs. search needs)
+    (λ c. search needs)
+    (λ c. search needs)
+    (λ c. search needs)
+    (λ c κs. search needs)
+    (λ c. search needs)
+    (λ c. search needs)
+    (λ c. search needs)
+    (λ c. search needs))

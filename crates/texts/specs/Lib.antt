@@ -1,2 +1,0 @@
--- What it is to put text into lent memory.
-pub mod Writing
