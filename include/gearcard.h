@@ -13,6 +13,9 @@
 #include <stddef.h>
 #include <stdint.h>
 
+/* The version of the library that is linked or loaded: "1.0.0" or another. */
+extern const char gearcard_version[];
+
 /* The longest trace, in seconds. */
 #define GEARCARD_LONGEST 16384
 

@@ -1,7 +1,10 @@
 # shellcheck shell=bash
-# For the scripts at the root, which source it and set top: one line where something fails, proving only after a change, and the kit's tools for x86-64
-# programs.
+# For the scripts at the root, which source it and set top: one line where something fails, proving only after a change, and the kit's tools.
 # shellcheck disable=SC2154
+
+# The crate of the C functions.
+# shellcheck disable=SC2034
+c_crate=capi
 
 # fail TEXT: ends the command with status 2 and one line that says what failed.
 fail() {
@@ -91,11 +94,16 @@ prove() (
   fi
 )
 
+# up_to_date FILE PART..: FILE is there, and no part, nor a file below one, is newer.
+up_to_date() {
+  [ -e "$1" ] && [ -z "$(find "${@:2}" -newer "$1" -print -quit)" ]
+}
+
 # proved FILE CRATE [WORD..]: proves CRATE, and gives rt the words, where FILE is missing or older than the crates.
 proved() {
   local file=$1 begun
   shift
-  if [ -e "$file" ] && [ -z "$(find "$top/crates" "$top/crates.txt" -newer "$file" -print -quit)" ]; then return 0; fi
+  if up_to_date "$file" "$top/crates" "$top/crates.txt"; then return 0; fi
   find_kit
   begun=$(date +%s.%N)
   prove "$@" || exit 2
@@ -114,21 +122,22 @@ needs() {
   fi
 }
 
-# find_kit: sets tools to the folder of the kit's tools for this machine. rt stands in the kit's bin/; only where it does not, as where a script
-# stands for it, is it asked, since that takes longer than all that ./gearcard does.
-tools=
+# find_kit: sets kit to the kit's folder, and tools to the folder of its tools for this machine. rt stands in the kit's bin/; only where it does not, as
+# where a script stands for it, is it asked, since that takes longer than all that ./gearcard does.
+kit='' tools=''
 find_kit() {
-  local home
   [ -z "$tools" ] || return 0
-  home=$(command -v rt) || fail 'the Rattle kit is missing: there is no command rt'
-  home=$(readlink -f "$home")
-  tools=${RATTLE_HOME:-${home%/bin/rt}}/on/$(uname -m)/toolchain
-  [ -d "$tools" ] || tools=$(dirname "$(dirname "$(rt doc)")")/on/$(uname -m)/toolchain
+  kit=$(command -v rt) || fail 'the Rattle kit is missing: there is no command rt'
+  kit=$(readlink -f "$kit")
+  kit=${RATTLE_HOME:-${kit%/bin/rt}}
+  [ -d "$kit/on" ] || kit=$(dirname "$(dirname "$(rt doc)")")
+  tools=$kit/on/$(uname -m)/toolchain
   [ -d "$tools" ] || fail "the Rattle kit is missing: there is no folder $tools"
 }
 
-# kit_run PROGRAM WORD..: with the kit's C library; on another processor than x86-64 under the emulator that stands beside the kit's compiler.
-kit_run() {
+# run_as_rt PROGRAM WORD..: a program that rt has built, as rt runs it: with the kit's C library, and on another processor than x86-64 under the emulator
+# that stands beside the kit's compiler.
+run_as_rt() {
   local emulator
   find_kit
   emulator=$tools/bin/qemu-x86_64

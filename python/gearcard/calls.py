@@ -1,4 +1,4 @@
-"""The functions of include/gearcard.h, for Python. Each is one request to the engine; none works anything out by itself.
+"""The functions of include/gearcard.h, for Python. Each is a call of the proved function; none works anything out by itself.
 
 Speeds are in tenths of km/h. A hold of 0 is no hold. A card has a byte a second: the gear, plus 16 where the clutch is down. A refusal raises
 `Refused`, and then no list has changed.
@@ -6,20 +6,24 @@ Speeds are in tenths of km/h. A hold of 0 is no hold. A card has a byte a second
 
 from __future__ import annotations
 
-import struct
 from array import array
-from typing import NamedTuple
+from operator import index
+from typing import Any, NamedTuple
 
-from .engine import ENGINE, SUMMARY_SIZE, Answer, Kind
-from .lists import Numbers, byte_bytes, counts_bytes, speeds_bytes, store, writable
+from . import structs
+from .engine import functions
+from .lists import Lent, Numbers, call
 from .refusals import Refused
-from .vehicle import WIRE_SIZE, Vehicle
+from .vehicle import Vehicle
 
 #: Seconds of the built-in cycle.
 CYCLE = 1801
 
 #: A count in a job is at most this, so rooms of this length are never too short.
 _ROOM = 65535
+
+#: The largest second that can be asked for, and the largest part or factor.
+_LAST, _MOST = 2**64 - 1, 2**32 - 1
 
 
 class Job(NamedTuple):
@@ -48,16 +52,44 @@ class Summary(NamedTuple):
     changes: int
 
 
-def _accepted(answer: Answer) -> Answer:
-    if answer.number:
-        raise Refused(answer.number, answer.place)
+def _accepted(answer: Any) -> Any:
+    verdict = getattr(answer, "verdict", answer)
+    if verdict.number:
+        raise Refused(verdict.number, verdict.place)
     return answer
 
 
-def _speeds(data: bytes) -> array[int]:
-    speeds = array("H")
-    speeds.frombytes(data)
-    return speeds
+def _number(what: str, value: int, most: int) -> int:
+    try:
+        number = index(value)
+    except TypeError:
+        raise TypeError(f"{value!r} is no {what}: it takes a whole number") from None
+    if not 0 <= number <= most:
+        raise ValueError(f"{number} is no {what} from 0 to {most}")
+    return number
+
+
+def _record(vehicle: Vehicle) -> structs.Vehicle:
+    if not isinstance(vehicle, Vehicle):
+        raise TypeError(f"vehicle is no Vehicle: {type(vehicle).__name__}")
+    return vehicle.record
+
+
+def _bytes(name: str, values: Numbers) -> Lent:
+    """Bytes to read: of a file, and so no list of numbers."""
+    try:
+        return Lent(name, memoryview(values).cast("B"), "B")
+    except TypeError:
+        raise TypeError(f"{name} are no bytes: {type(values).__name__}") from None
+
+
+def _speeds(values: Numbers, writes: bool = False) -> Lent:
+    return Lent("speeds", values, "H", writes)
+
+
+def _holds(values: Numbers | None, speeds: Lent) -> Lent:
+    """None is no hold at all."""
+    return Lent("holds", bytes(len(speeds)) if values is None else values, "B")
 
 
 def gear_of(byte: int) -> int:
@@ -72,59 +104,63 @@ def clutch_down(byte: int) -> bool:
 
 def read(job: bytes) -> Job:
     """Reads a job file's bytes."""
+    lent = _bytes("the job's bytes", job)
     # A whole job has no more seconds than bytes; one that is cut may say more, and is then read into rooms of any count.
-    answer = _read_into(min(len(job), _ROOM), bytes(job))
-    if answer.number == 2:
-        answer = _read_into(_ROOM, bytes(job))
+    answer, speeds, holds = _read_into(min(len(lent), _ROOM), lent)
+    if answer.verdict.number == 2:
+        answer, speeds, holds = _read_into(_ROOM, lent)
     _accepted(answer)
-    version, vehicle, count = struct.unpack(f"<H{WIRE_SIZE}sQ", answer.extra)
-    return Job(Vehicle.from_wire(vehicle), _speeds(answer.speeds[: 2 * count]), bytearray(answer.holds[:count]), version)
+    return Job(Vehicle.of(answer.vehicle), speeds[: answer.count], holds[: answer.count], answer.version)
 
 
-def _read_into(room: int, job: bytes) -> Answer:
-    return ENGINE.call(Kind.READ, speeds=bytes(2 * room), holds=bytes(room), third=job)
+def _read_into(room: int, job: Lent) -> tuple[structs.Job, array[int], bytearray]:
+    speeds, holds = array("H", bytes(2 * room)), bytearray(room)
+    return call(functions()["read"], (), (job, _speeds(speeds, writes=True), Lent("holds", holds, "B", writes=True))), speeds, holds
 
 
 def write(vehicle: Vehicle, speeds: Numbers, holds: Numbers | None = None, version: int = 1) -> bytes:
     """Writes a job: its bytes. What it writes reads back as the same job, and a job that was read is written in its version as the same bytes."""
-    if not 0 <= version <= 65535:
-        raise ValueError(f"{version} is no version from 0 to 65535")
-    v = speeds_bytes(speeds)
-    h = bytes(len(v) // 2) if holds is None else byte_bytes("holds", holds)
-    lent = {"vehicle": vehicle.wire(), "second": version, "speeds": v, "holds": h}
-    answer = ENGINE.call(Kind.WRITE, third=bytes(1024 + len(v)), **lent)
-    if answer.number == 17:
+    before, lent = (_number("version", version, 65535), _record(vehicle)), _speeds(speeds)
+    lists = (lent, _holds(holds, lent))
+    answer, room = _write_into(1024 + 2 * len(lent), before, lists)
+    if answer.verdict.number == 17:
         # The room was too short; the place is the length needed.
-        answer = ENGINE.call(Kind.WRITE, third=bytes(answer.place), **lent)
-    (length,) = struct.unpack("<Q", _accepted(answer).extra)
-    return answer.third[:length]
+        answer, room = _write_into(answer.verdict.place, before, lists)
+    return bytes(room[: _accepted(answer).length])
+
+
+def _write_into(length: int, before: tuple[int, structs.Vehicle], lists: tuple[Lent, Lent]) -> tuple[structs.Written, bytearray]:
+    room = bytearray(length)
+    return call(functions()["write"], before, (*lists, Lent("room", room, "B", writes=True))), room
 
 
 def work(vehicle: Vehicle, speeds: Numbers, holds: Numbers | None = None) -> bytearray:
     """Works the whole trace: its card."""
-    v = speeds_bytes(speeds)
-    h = bytes(len(v) // 2) if holds is None else byte_bytes("holds", holds)
-    return bytearray(_accepted(ENGINE.call(Kind.WORK, vehicle=vehicle.wire(), speeds=v, holds=h, third=bytes(len(v) // 2))).third)
+    lent = _speeds(speeds)
+    card = bytearray(len(lent))
+    _accepted(call(functions()["work"], (_record(vehicle),), (lent, _holds(holds, lent), Lent("card", card, "B", writes=True))))
+    return card
 
 
 def summary(speeds: Numbers, card: Numbers) -> Summary:
     """How long a card is in each gear, counted over the whole of it. `hold`, `release` and `mend` bring it up to date without counting again."""
-    return _counts(_accepted(ENGINE.call(Kind.SUMMARY, speeds=speeds_bytes(speeds), third=byte_bytes("card", card))))
+    return _counts(_accepted(call(functions()["summary_of"], (), (_speeds(speeds), Lent("card", card, "B")))))
 
 
-def _counts(answer: Answer) -> Summary:
-    standing, *gears, changes = struct.unpack("<12H", answer.extra)
-    return Summary(standing, tuple(gears), changes)
+def _counts(answer: structs.Counted) -> Summary:
+    found = answer.summary
+    return Summary(found.standing, tuple(found.gears), found.changes)
 
 
-def _summary_bytes(given: Summary | None) -> bytes:
-    """The counts, two bytes each; all 0 where none is given."""
+def _summary_of(given: Summary | None) -> structs.Summary:
+    """The counts; all 0 where none is given."""
     if given is None:
-        return bytes(SUMMARY_SIZE)
+        return structs.Summary()
     standing, gears, changes = given
-    if len(gears) != 10:
-        raise ValueError(f"summary.gears has {len(gears)} counts, and not 10")
-    return counts_bytes("summary.standing", [standing]) + counts_bytes("summary.gears", gears) + counts_bytes("summary.changes", [changes])
+    if len(gears) != structs.GEARS:
+        raise ValueError(f"summary.gears has {len(gears)} counts, and not {structs.GEARS}")
+    counts = [_number("count of a summary", each, 65535) for each in (standing, *gears, changes)]
+    return structs.Summary(counts[0], tuple(counts[1:-1]), counts[-1])
 
 
 def hold(
@@ -132,65 +168,61 @@ def hold(
 ) -> Summary | None:
     """Holds one second in a gear from 1: writes the hold, and the card of that second's trip and of the standing second before it. Given the card's summary, it
     answers the new one; where it is refused, the one given still holds."""
-    return _edit(Kind.HOLD, vehicle, speeds, holds, card, second, gear, summary)
+    lists = (_speeds(speeds), Lent("holds", holds, "B", writes=True), Lent("card", card, "B", writes=True))
+    return _edit("hold", vehicle, lists, (_number("second", second, _LAST), _number("gear", gear, 255)), summary)
 
 
 def release(vehicle: Vehicle, speeds: Numbers, holds: Numbers, card: Numbers, second: int, *, summary: Summary | None = None) -> Summary | None:
     """Releases one second, held or free: as `hold`, with no hold there."""
-    return _edit(Kind.RELEASE, vehicle, speeds, holds, card, second, 0, summary)
+    lists = (_speeds(speeds), Lent("holds", holds, "B", writes=True), Lent("card", card, "B", writes=True))
+    return _edit("release", vehicle, lists, (_number("second", second, _LAST),), summary)
 
 
 def mend(
     vehicle: Vehicle, speeds: Numbers, holds: Numbers, card: Numbers, second: int, speed: int, *, summary: Summary | None = None
 ) -> Summary | None:
     """Corrects one speed sample: writes the speed, and the card of the trips that hold this second or a neighbour. The summary as in `hold`."""
-    return _edit(Kind.MEND, vehicle, speeds, holds, card, second, speed, summary)
+    lists = (_speeds(speeds, writes=True), Lent("holds", holds, "B"), Lent("card", card, "B", writes=True))
+    return _edit("mend", vehicle, lists, (_number("second", second, _LAST), _number("speed", speed, 65535)), summary)
 
 
-def _edit(
-    kind: Kind, vehicle: Vehicle, speeds: Numbers, holds: Numbers, card: Numbers, second: int, value: int, given: Summary | None
-) -> Summary | None:
+def _edit(name: str, vehicle: Vehicle, lists: tuple[Lent, ...], numbers: tuple[int, ...], given: Summary | None) -> Summary | None:
     """One second changed, in the holds or in the speeds, and the card with it: written together, or nothing."""
-    changed = ("speeds", speeds, "H") if kind == Kind.MEND else ("holds", holds, "B")
-    writable(changed[0], changed[1])
-    writable("card", card)
-    lent = {"speeds": speeds_bytes(speeds), "holds": byte_bytes("holds", holds), "third": byte_bytes("card", card)}
-    answer = _accepted(ENGINE.call(kind, vehicle=vehicle.wire(), second=second, gear=value, summary=_summary_bytes(given), **lent))
-    store(changed[1], changed[2], answer.speeds if kind == Kind.MEND else answer.holds)
-    store(card, "B", answer.third)
+    answer = _accepted(call(functions()[name], (_record(vehicle),), lists, (*numbers, _summary_of(given))))
     return None if given is None else _counts(answer)
 
 
 def part_of(part: int) -> range:
     """The seconds of the built-in cycle that a part has, with the standing second on either side: 0 the whole, 1 to 4 Low to Extra High."""
-    _filled(Kind.CYCLE, part)
+    cycle(part)
     return _seconds(part)
 
 
 def cycle(part: int = 0) -> array[int]:
     """The speeds of the built-in Class 3 cycle, or of one of its parts."""
-    room, seconds = _filled(Kind.CYCLE, part), _seconds(part)
+    room, seconds = _filled("cycle", _number("part", part, _MOST)), _seconds(part)
     return room[seconds.start : seconds.stop]
 
 
 def downscale(factor: int, part: int = 0) -> array[int]:
     """That cycle, or a part of it, scaled down for a weak car. The factor is in thousandths, 0 to 500."""
-    room, seconds = _filled(Kind.DOWNSCALE, factor), part_of(part)
+    room, seconds = _filled("downscale", _number("factor", factor, _MOST)), part_of(part)
     return room[seconds.start : seconds.stop]
 
 
-def _filled(kind: Kind, number: int) -> array[int]:
+def _filled(name: str, number: int) -> array[int]:
     """The room that the cycle, or the scaled cycle, fills; the number is the part's, or the factor."""
-    if not 0 <= number < 1 << 32:
-        raise ValueError(f"{number} is not from 0 to {(1 << 32) - 1}")
-    return _speeds(_accepted(ENGINE.call(kind, second=number, speeds=bytes(2 * CYCLE))).speeds)
+    room = array("H", bytes(2 * CYCLE))
+    _accepted(call(functions()[name], (number,), (Lent("room", room, "H", writes=True),)))
+    return room
 
 
 def _seconds(part: int) -> range:
-    answer = ENGINE.call(Kind.CYCLE_PART, second=part, speeds=bytes(2 * CYCLE))
-    return range(answer.place, answer.place + answer.number)
+    found = functions()["cycle_part"](part, CYCLE)
+    return range(found.first, found.first + found.count)
 
 
 def export(data: bytes) -> Coefficients:
     """Reads the bench computer's export: F0, F1, F2 and TM."""
-    return Coefficients(*struct.unpack("<HiHH", _accepted(ENGINE.call(Kind.EXPORT, third=bytes(data))).extra))
+    found = _accepted(call(functions()["export"], (), (_bytes("the export's bytes", data),)))
+    return Coefficients(found.f0, found.f1, found.f2, found.tm)

@@ -1,68 +1,173 @@
-"""Lists as callers have them, and as bytes on the wire: plain lists, `array`, and any object with a buffer (`bytearray`, `memoryview`).
+"""Lists as callers have them, lent to the functions.
 
-The wire is little-endian, and so are the machines that the engine is for.
+A buffer of the right numbers (`array`, `bytearray`, `memoryview`, an array of numpy) is lent as it is. A plain list, and a buffer of other whole numbers or with
+gaps between them, is copied, and what a function writes is written back when it has accepted. Everything that can be wrong with a list is found before
+anything is called, and so an edit changes the lists that it is given, or none of them.
+
+Edits from several threads are one step each. A call that is lent all its lists is one by itself, for no other thread of Python runs in it. Where something is copied, one lock makes copying,
+calling and writing back one step; a fork waits for that lock, so that the child has it free, and no list half written.
 """
 
 from __future__ import annotations
 
-import struct
+import ctypes
+import os
+import threading
+from array import array
+from collections import deque
+from collections.abc import Callable, Sequence
+from itertools import combinations, repeat
+from operator import setitem
 from typing import Any
 
 #: What a list of speeds, of holds or of card bytes may be.
 Numbers = Any
 
+#: Formats of a buffer whose elements are whole numbers, and can be copied.
+_WHOLE = frozenset("bBhHiIlLqQ")
 
-def speeds_bytes(speeds: Numbers) -> bytes:
-    """The speeds, tenths of km/h, two bytes each."""
-    return _bytes("speeds", speeds, "H")
-
-
-def byte_bytes(name: str, values: Numbers) -> bytes:
-    """Holds or card bytes, one byte each."""
-    return _bytes(name, values, "B")
+_COPYING = threading.RLock()
+os.register_at_fork(before=_COPYING.acquire, after_in_parent=_COPYING.release, after_in_child=_COPYING.release)
 
 
-def counts_bytes(name: str, values: Numbers) -> bytes:
-    """Counts of a summary, two bytes each."""
-    return _bytes(name, values, "H")
+class _Buffer(ctypes.Structure):
+    """Py_buffer, as Python's stable interface for C has it."""
+
+    _fields_ = [
+        ("buf", ctypes.c_void_p),
+        ("obj", ctypes.c_void_p),
+        ("len", ctypes.c_ssize_t),
+        ("itemsize", ctypes.c_ssize_t),
+        ("readonly", ctypes.c_int),
+        ("ndim", ctypes.c_int),
+        ("format", ctypes.c_char_p),
+        ("shape", ctypes.c_void_p),
+        ("strides", ctypes.c_void_p),
+        ("suboffsets", ctypes.c_void_p),
+        ("internal", ctypes.c_void_p),
+    ]
 
 
-def _bytes(name: str, values: Numbers, code: str) -> bytes:
-    view = _view(values)
-    if view is not None and view.format == code:
-        return view.tobytes()
-    items = list(values if view is None else view.tolist())
-    try:
-        return struct.pack(f"<{len(items)}{code}", *items)
-    except struct.error:
-        most = 2 ** (8 * struct.calcsize(code)) - 1
-        place, value = next((k, value) for k, value in enumerate(items) if not isinstance(value, int) or not 0 <= value <= most)
-        raise ValueError(f"{name}[{place}] = {value!r} is no whole number from 0 to {most}") from None
+_get_buffer = ctypes.pythonapi.PyObject_GetBuffer
+_get_buffer.argtypes = (ctypes.py_object, ctypes.POINTER(_Buffer), ctypes.c_int)
+_release_buffer = ctypes.pythonapi.PyBuffer_Release
+_release_buffer.argtypes = (ctypes.POINTER(_Buffer),)
+_release_buffer.restype = None
+_STRIDES = 0x18
 
 
-def _view(values: Numbers) -> memoryview | None:
-    try:
-        return memoryview(values)
-    except TypeError:
-        return None
+def _address(view: memoryview) -> int:
+    """Of the first element. It stays there as long as the view is held."""
+    found = _Buffer()
+    _get_buffer(view, found, _STRIDES)
+    address = found.buf
+    _release_buffer(found)
+    return address
 
 
-def writable(name: str, values: Numbers) -> None:
-    """Raises where `store` could not write: asked before a call, so that nothing is left half done after it."""
-    view = _view(values)
-    if view.readonly if view is not None else not hasattr(values, "__setitem__"):
-        raise TypeError(f"{name} cannot be written: {type(values).__name__}")
+class Lent:
+    """A list for one call, looked at: `code` is "B" or "H", the numbers that the function takes, and `writes` says that it may write them."""
+
+    __slots__ = ("name", "values", "code", "writes", "view", "address", "low", "high", "as_it_is")
+
+    def __init__(self, name: str, values: Numbers, code: str, writes: bool = False) -> None:
+        self.name, self.values, self.code, self.writes = name, values, code, writes
+        try:
+            self.view: memoryview | None = memoryview(values)
+        except TypeError:
+            self._look_at_list()
+        else:
+            self._look_at(self.view)
+
+    def __len__(self) -> int:
+        return len(self.values if self.view is None else self.view)
+
+    def _look_at_list(self) -> None:
+        # A kind of list may store as it likes, and fail half-way.
+        if self.writes and type(self.values) is not list:
+            raise TypeError(f"{self.name} cannot be written: {type(self.values).__name__}")
+        if not isinstance(self.values, (list, tuple, range)):
+            raise TypeError(f"{self.name} is no list and no buffer: {type(self.values).__name__}")
+        # It shares no memory, and stands at its own.
+        self.view, self.as_it_is = None, False
+        self.address = self.low = id(self.values)
+        self.high = self.low + 1
+
+    def _look_at(self, view: memoryview) -> None:
+        if view.ndim != 1:
+            raise TypeError(f"{self.name} has {view.ndim} dimensions, and not one")
+        if view.format not in _WHOLE:
+            raise TypeError(f"{self.name} is a buffer of {view.format!r}, and not of whole numbers")
+        if self.writes and (view.readonly or abs(view.strides[0]) < view.itemsize):
+            raise TypeError(f"{self.name} cannot be written: {type(self.values).__name__}")
+        self.address = self.low = address = _address(view)
+        self.high = address + view.nbytes
+        if not view.c_contiguous:
+            last = address + view.strides[0] * (len(view) - 1)
+            self.low, self.high = min(address, last), max(address, last) + view.itemsize
+        self.as_it_is = view.format == self.code and view.c_contiguous and address % view.itemsize == 0
+
+    def shares(self, other: Lent) -> bool:
+        """Whether an element of one lies in an element of the other. Columns of one table lie between each other, and share nothing."""
+        if self.high <= other.low or other.high <= self.low:
+            return False
+        if self.view is None or other.view is None:
+            return True
+        return (self.view.c_contiguous and other.view.c_contiguous) or not _bytes(self).isdisjoint(_bytes(other))
+
+    def copied(self) -> array[int]:
+        """The numbers, in memory of their own."""
+        items = self.values if self.view is None else self.view.tolist()
+        try:
+            return array(self.code, items)
+        except (TypeError, OverflowError):
+            raise self._wrong(items) from None
+
+    def _wrong(self, items: Sequence[Any]) -> Exception:
+        most = 2 ** (8 * array(self.code).itemsize) - 1
+        for place, value in enumerate(items):
+            try:
+                array(self.code, (value,))
+            except TypeError:
+                return TypeError(f"{self.name}[{place}] = {value!r} is no whole number")
+            except OverflowError:
+                return ValueError(f"{self.name}[{place}] = {value!r} is no whole number from 0 to {most}")
+        return ValueError(f"{self.name} changed while it was read")
+
+    def back(self, copy: array[int]) -> tuple[Any, Any]:
+        """What is written into, and what: the whole of it, in the caller's own form."""
+        return (self.values, copy.tolist()) if self.view is None else (self.view, array(self.view.format, copy))
 
 
-def store(values: Numbers, code: str, data: bytes) -> None:
-    """Writes the elements back into the caller's list, which has as many places."""
-    view = _view(values)
-    if view is not None and view.format == code:
-        view[:] = memoryview(data).cast(code)
-        return
-    new = memoryview(data).cast(code).tolist()
-    if view is None:
-        values[:] = new
-        return
-    for place, value in enumerate(new):
-        view[place] = value
+def _bytes(lent: Lent) -> set[int]:
+    view = lent.view
+    assert view is not None
+    return {lent.address + k * view.strides[0] + byte for k in range(len(view)) for byte in range(view.itemsize)}
+
+
+def call(function: Callable[..., Any], before: tuple[Any, ...], lists: tuple[Lent, ...], after: tuple[Any, ...] = ()) -> Any:
+    """Calls a function with the lists between its other arguments, and answers what it answers."""
+    for one, two in combinations(lists, 2):
+        if (one.writes or two.writes) and one.shares(two):
+            raise ValueError(f"{one.name} and {two.name} share memory")
+    if all(each.as_it_is for each in lists):
+        return function(*before, *_arguments(lists), *after)
+    with _COPYING:
+        return _called_with_copies(function, before, lists, after)
+
+
+def _arguments(lists: Sequence[Lent]) -> list[int]:
+    return [number for each in lists for number in (each.address, len(each))]
+
+
+def _called_with_copies(function: Callable[..., Any], before: tuple[Any, ...], lists: tuple[Lent, ...], after: tuple[Any, ...]) -> Any:
+    # Where one that is written has to be copied, all are: then they are written back together.
+    together = any(each.writes and not each.as_it_is for each in lists)
+    copies = [each.copied() if not each.as_it_is or (each.writes and together) else None for each in lists]
+    lent = [each if copy is None else Lent(each.name, copy, each.code) for each, copy in zip(lists, copies)]
+    answer = function(*before, *_arguments(lent), *after)
+    if getattr(answer, "verdict", answer).number == 0:
+        backs = [each.back(copy) for each, copy in zip(lists, copies) if each.writes and copy is not None]
+        # One call that runs no Python: neither a signal nor another thread comes between two lists.
+        deque(map(setitem, [into for into, _ in backs], repeat(slice(None)), [new for _, new in backs]), maxlen=0)
+    return answer

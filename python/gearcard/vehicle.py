@@ -1,17 +1,16 @@
-"""The vehicle record of document 01, in its whole numbers, and its form on the wire."""
+"""The vehicle record of document 01, in its whole numbers, and as the functions take it."""
 
 from __future__ import annotations
 
-import struct
+import functools
 from dataclasses import dataclass
+from operator import index
 from typing import NamedTuple, Sequence
 
-#: Places of the record, as include/gearcard.h has them.
-GEARS, POINTS = 10, 64
+from . import structs
 
-#: ng, the ratios, idle to F0, F1, F2 to the point count, the points column by column, and the profile.
-_WIRE = struct.Struct(f"<H{GEARS}H4Hi4H{POINTS}H{POINTS}H{POINTS}HH")
-WIRE_SIZE = _WIRE.size
+#: The numbers of a vehicle that have the same name in the record, with their bounds there.
+_NUMBERS = dict.fromkeys(("idle", "rated", "nmax", "f0", "f2", "tm", "margin", "profile"), (0, 65535)) | {"f1": (-(2**31), 2**31 - 1)}
 
 
 class Point(NamedTuple):
@@ -56,40 +55,34 @@ class Vehicle:
         object.__setattr__(self, "ratios", tuple(self.ratios))
         object.__setattr__(self, "curve", tuple(Point(*point) for point in self.curve))
 
-    def wire(self) -> bytes:
-        """The record as the child program takes it. Past its places a list is cut: its count, which is sent whole, is refused before it is looked at."""
-        for name, value in (("ratios", len(self.ratios)), ("curve", len(self.curve))):
-            _within(f"len({name})", value, 0, 65535)
-        for name in ("idle", "rated", "nmax", "f0", "f2", "tm", "margin", "profile"):
-            _within(name, getattr(self, name), 0, 65535)
-        _within("f1", self.f1, -(2**31), 2**31 - 1)
-        ratios = _column("ratios", list(self.ratios), GEARS)
-        numbers = (self.idle, self.rated, self.nmax, self.f0, self.f1, self.f2, self.tm, self.margin)
-        columns = [number for k, name in enumerate(Point._fields) for number in _column(f"curve {name}", [point[k] for point in self.curve], POINTS)]
-        return _WIRE.pack(len(self.ratios), *ratios, *numbers, len(self.curve), *columns, self.profile)
+    @functools.cached_property
+    def record(self) -> structs.Vehicle:
+        """The record as the functions take it. Past its places a list is cut: its count, which is given whole, is refused before it is looked at."""
+        record = structs.Vehicle(ng=_within("len(ratios)", len(self.ratios), 0, 65535), points=_within("len(curve)", len(self.curve), 0, 65535))
+        for name, bounds in _NUMBERS.items():
+            setattr(record, name, _within(name, getattr(self, name), *bounds))
+        _fill(record.ratio, "ratios", self.ratios)
+        for k, name in enumerate(Point._fields):
+            _fill(getattr(record, name), f"curve {name}", [point[k] for point in self.curve])
+        return record
 
     @classmethod
-    def from_wire(cls, data: bytes) -> Vehicle:
+    def of(cls, record: structs.Vehicle) -> Vehicle:
         """The vehicle of such a record; places past the counts are no part of it."""
-        values = _WIRE.unpack(data)
-        ng, ratios, rest = values[0], values[1 : 1 + GEARS], values[1 + GEARS :]
-        numbers, points, columns = rest[:8], rest[8], rest[9:]
-        curve = zip(*(columns[k * POINTS :][:points] for k in range(len(Point._fields))))
-        return cls(ratios[:ng], *numbers, curve, values[-1])
+        curve = zip(*(getattr(record, name)[: record.points] for name in Point._fields))
+        return cls(ratios=record.ratio[: record.ng], curve=curve, **{name: getattr(record, name) for name in _NUMBERS})
 
 
-#: Lent where a function takes no vehicle.
-NO_VEHICLE = bytes(WIRE_SIZE)
+def _within(name: str, value: int, least: int, most: int) -> int:
+    try:
+        number = index(value)
+    except TypeError:
+        raise TypeError(f"{name} = {value!r} is no whole number") from None
+    if not least <= number <= most:
+        raise ValueError(f"{name} = {number} is not from {least} to {most}, which is what the record can carry")
+    return number
 
 
-def _within(name: str, value: int, least: int, most: int) -> None:
-    if not isinstance(value, int):
-        raise TypeError(f"{name} = {value!r} is no whole number")
-    if not least <= value <= most:
-        raise ValueError(f"{name} = {value} is not from {least} to {most}, which is what the record can carry")
-
-
-def _column(name: str, values: list[int], places: int) -> list[int]:
-    for value in values:
-        _within(name, value, 0, 65535)
-    return values[:places] + [0] * (places - len(values))
+def _fill(places: Sequence[int], name: str, values: Sequence[int]) -> None:
+    numbers = [_within(name, value, 0, 65535) for value in values][: len(places)]
+    places[: len(numbers)] = numbers

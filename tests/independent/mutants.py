@@ -9,7 +9,7 @@ import os, shutil, subprocess, sys
 HERE = os.path.dirname(os.path.abspath(__file__))
 TOP = os.path.dirname(os.path.dirname(HERE))
 OUT = os.path.join(TOP, "target", "independent")
-DRIVER = [os.path.join(TOP, "library"), "serve"]
+DRIVER = [os.path.join(OUT, "driver")]
 SLIPS = [
     ("rounding minimum down", "(2 * top + bottom).div_euclid(2 * bottom)", "top / bottom"),
     ("halves down", "(2 * top + bottom).div_euclid", "(2 * top + bottom - 1).div_euclid"),

@@ -1,4 +1,4 @@
-//! The library, called through scripts/driver.c: each lent slice lies inside a larger one, whose other places are compared too.
+//! The library, called through driver.c or driver.mjs: each lent slice lies inside a larger one, whose other places are compared too.
 
 use crate::events::{note, Event};
 use crate::exports::Coefficients;

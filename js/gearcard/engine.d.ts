@@ -1,0 +1,130 @@
+/** A point of the full-load power curve. */
+export interface Point {
+  /** engine speed, min^-1 */
+  n: number;
+  /** power, tenths of kW */
+  p: number;
+  /** the point's own safety margin, per cent; 0 where it is left out */
+  m?: number;
+}
+
+/** A vehicle in document 01's units. Gear count and point count are the lengths of the lists. The functions refuse what is out of bounds, by 3 at its field. */
+export interface Vehicle {
+  /** engine speed over road speed of each gear, hundredths of min^-1 per km/h */
+  ratios: ArrayLike<number>;
+  /** min^-1 */
+  idle: number;
+  /** min^-1 */
+  rated: number;
+  /** min^-1 */
+  nmax: number;
+  /** tenths of N */
+  f0: number;
+  /** thousandths of N/(km/h) */
+  f1: number;
+  /** hundred-thousandths of N/(km/h)^2 */
+  f2: number;
+  /** test mass, kg */
+  tm: number;
+  /** safety margin, per cent */
+  margin: number;
+  /** the power curve */
+  curve: ReadonlyArray<Point | [n: number, p: number, m?: number]>;
+  /** 1 where first gear is a crawler that is not driven, else 0, also where it is left out */
+  profile?: number;
+}
+
+/** A vehicle as `read` gives it: everything is there. */
+export interface ReadVehicle extends Vehicle {
+  ratios: number[];
+  curve: Required<Point>[];
+  profile: number;
+}
+
+/** What a job says. The arrays are the caller's to change. */
+export interface Job {
+  version: number;
+  vehicle: ReadVehicle;
+  /** tenths of km/h */
+  speeds: Uint16Array;
+  /** the held gear of each second, 0 where there is none */
+  holds: Uint8Array;
+}
+
+/** How long in each gear. */
+export interface Summary {
+  /** standing seconds */
+  standing: number;
+  /** moving seconds in gears 1, 2, .. 10 */
+  gears: ArrayLike<number>;
+  /** gear changes */
+  changes: number;
+}
+
+/** What a bench export says, in the vehicle's units. */
+export interface Coefficients {
+  f0: number;
+  f1: number;
+  f2: number;
+  tm: number;
+}
+
+/** Seconds that follow each other. */
+export interface Part {
+  first: number;
+  count: number;
+}
+
+/** The engine refuses, by the number and the place of the table; nothing was changed. `words` says it for people. */
+export class Refused extends Error {
+  constructor(number: number, place: number, words?: string);
+  readonly number: number;
+  readonly place: number;
+  readonly words: string;
+}
+
+/** The functions. Each throws `Refused` where the engine refuses, and `TypeError` or `RangeError` before anything is called where a value is none that it takes. */
+export interface Engine {
+  /** Reads a job file's bytes. */
+  read(job: Uint8Array): Job;
+  /** Writes a job: its bytes. What it writes reads back as the same job. */
+  write(vehicle: Vehicle, speeds: Uint16Array, holds?: Uint8Array | null, version?: number): Uint8Array;
+  /** Works the whole trace: its card. */
+  work(vehicle: Vehicle, speeds: Uint16Array, holds?: Uint8Array | null): Uint8Array;
+  /** How long a card is in each gear, counted over the whole of it. */
+  summary(speeds: Uint16Array, card: Uint8Array): Summary;
+  /** Holds one second in a gear from 1. Given the card's summary, it answers the new one, else null. */
+  hold(vehicle: Vehicle, speeds: Uint16Array, holds: Uint8Array, card: Uint8Array, second: number, gear: number, summary?: Summary | null): Summary | null;
+  /** Releases one second, held or free. */
+  release(vehicle: Vehicle, speeds: Uint16Array, holds: Uint8Array, card: Uint8Array, second: number, summary?: Summary | null): Summary | null;
+  /** Corrects one speed sample. */
+  mend(vehicle: Vehicle, speeds: Uint16Array, holds: Uint8Array, card: Uint8Array, second: number, speed: number, summary?: Summary | null): Summary | null;
+  /** The seconds of the built-in cycle that a part has: 0 the whole, 1 to 4 Low to Extra High. */
+  partOf(part: number): Part;
+  /** The speeds of the built-in Class 3 cycle, or of one of its parts. */
+  cycle(part?: number): Uint16Array;
+  /** That cycle, or a part of it, scaled down for a weak car. The factor is in thousandths, 0 to 500. */
+  downscale(factor: number, part?: number): Uint16Array;
+  /** Reads the bench computer's export. */
+  exportOf(bytes: Uint8Array): Coefficients;
+  /** The gear of a card byte, 0 for neutral. */
+  gearOf(byte: number): number;
+  /** Whether a card byte has the clutch down. */
+  clutchDown(byte: number): boolean;
+  readonly Refused: typeof Refused;
+  /** The longest trace, in seconds. */
+  readonly LONGEST: number;
+  /** Seconds of the built-in cycle. */
+  readonly CYCLE: number;
+  /** Elements of one list that is taken. */
+  readonly MOST: number;
+}
+
+/** The engine from the bytes of gearcard.wasm, or from a module that was compiled of them. */
+export function load(source: BufferSource | WebAssembly.Module): Promise<Engine>;
+export const LONGEST: number;
+export const CYCLE: number;
+/** Bytes of the engine's stack. */
+export const STACK: number;
+export function gearOf(byte: number): number;
+export function clutchDown(byte: number): boolean;

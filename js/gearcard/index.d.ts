@@ -1,0 +1,14 @@
+import { Engine } from './engine.js';
+
+export const read: Engine['read'];
+export const write: Engine['write'];
+export const work: Engine['work'];
+export const summary: Engine['summary'];
+export const hold: Engine['hold'];
+export const release: Engine['release'];
+export const mend: Engine['mend'];
+export const partOf: Engine['partOf'];
+export const cycle: Engine['cycle'];
+export const downscale: Engine['downscale'];
+export const exportOf: Engine['exportOf'];
+export { CYCLE, Coefficients, Engine, Job, LONGEST, Part, Point, ReadVehicle, Refused, STACK, Summary, Vehicle, clutchDown, gearOf, load } from './engine.js';
