@@ -6,25 +6,32 @@
     card = work(job.vehicle, job.speeds, job.holds)
     hold(job.vehicle, job.speeds, job.holds, card, second=60, gear=3)
 
-Only Python's standard library is used. The first call proves and builds the engine where that has not been done.
+Only Python's standard library is used. In a checkout the first call proves and builds the library where that has not been done; an installed package has it.
 """
 
 from .calls import Coefficients, Job, Summary, clutch_down, cycle, downscale, export, gear_of, hold, mend, part_of, read, release, summary, work, write
-from .engine import Failure
+from .edits import Hold, Mend, RefusedEdit, Release, edit
+from .engine import VERSION as __version__, Failure
 from .refusals import Refused
 from .vehicle import Point, Vehicle
 
 __all__ = [
     "Coefficients",
     "Failure",
+    "Hold",
     "Job",
+    "Mend",
     "Point",
     "Refused",
+    "RefusedEdit",
+    "Release",
     "Summary",
     "Vehicle",
+    "__version__",
     "clutch_down",
     "cycle",
     "downscale",
+    "edit",
     "export",
     "gear_of",
     "hold",

@@ -10,29 +10,19 @@ from dataclasses import dataclass
 from decimal import Decimal
 from functools import cached_property
 from pathlib import Path as File
-from typing import Any, Callable, Iterable, NamedTuple, NoReturn, Sequence
+from typing import Any, Callable, Iterable, NoReturn, Sequence
 
 from . import units
+from .blame import RATIOS, at_fault
 from .calls import Job, cycle, downscale
 from .errors import BadText, Misuse
-from .lines import Path, lines_of
-from .names import Names
+from .lines import Path, lines_of, outsized
+from .names import Draft, Names
+from .output import short
 from .refusals import FIELDS, Refused
-from .tables import read_speeds
-from .units import NotExact, Unit
+from .tables import HERTZ, Layout, read_speeds
+from .units import SCALARS, NotExact, Unit, number_of
 from .vehicle import Point, Vehicle
-
-#: The vehicle's keys with one number: the key, the field of `Vehicle`, its unit.
-SCALARS: tuple[tuple[str, str, Unit], ...] = (
-    ("idle", "idle", units.ENGINE_SPEED),
-    ("rated", "rated", units.ENGINE_SPEED),
-    ("nmax", "nmax", units.ENGINE_SPEED),
-    ("f0", "f0", units.F0),
-    ("f1", "f1", units.F1),
-    ("f2", "f2", units.F2),
-    ("mass", "tm", units.MASS),
-    ("margin", "margin", units.PER_CENT),
-)
 
 #: A point of the curve; its margin from version 2 on.
 CURVE: tuple[Unit, ...] = (units.ENGINE_SPEED, units.POWER, units.PER_CENT)
@@ -41,7 +31,13 @@ CURVE: tuple[Unit, ...] = (units.ENGINE_SPEED, units.POWER, units.PER_CENT)
 PROFILE = 3
 
 #: Where a trace comes from, and the keys that go with each.
-WAYS = {"speeds": ("speeds",), "csv": ("csv", "column"), "cycle": ("cycle", "part", "downscale")}
+WAYS = {"speeds": ("speeds",), "csv": ("csv", "column", "time", "hertz", "decimal", "skip"), "cycle": ("cycle", "part", "downscale")}
+
+#: What a text keeps for people, and no job has.
+ABOUT = ("name", "note")
+
+#: Places that a list of a job can have.
+PLACES = 65535
 
 #: The built-in cycle's name.
 CLASS_3 = "class 3"
@@ -49,20 +45,35 @@ CLASS_3 = "class 3"
 #: Speeds in a line of `show`.
 ROW = 10
 
-_TYPES = {bool: "true or false", int: "a whole number", Decimal: "a number", str: "a string", list: "a list", dict: "a table"}
+
+class _Vast:
+    """A number of a size that nothing has, in place of its value."""
+
+    def __init__(self, word: str) -> None:
+        pass
 
 
-class Draft(NamedTuple):
-    """A job as a file has it, and what its parts are called there; a text's is still to be made."""
-
-    job: Job
-    names: Names
-    text: bool = False
+_TYPES = {
+    bool: "true or false",
+    int: "a whole number",
+    Decimal: "a number",
+    str: "a string",
+    list: "a list",
+    dict: "a table",
+    _Vast: "one of a size that nothing has",
+}
 
 
 def _dotted(path: Path) -> str:
     """`vehicle.curve[3][0]`, as a person would write it."""
-    return "".join(f"[{part}]" if isinstance(part, int) else f".{part}" for part in path).lstrip(".")
+    return "".join(f"[{part}]" if isinstance(part, int) else f".{short(part)}" for part in path).lstrip(".")
+
+
+def _value(value: int | Decimal) -> str:
+    """A number in a message; of one with very many digits not all, which Python would refuse to print."""
+    if isinstance(value, int) and value.bit_length() > 300:
+        return "a number of very many digits"
+    return short(value)
 
 
 @dataclass
@@ -76,11 +87,18 @@ class _Source:
     def lines(self) -> dict[Path, int]:
         return lines_of(self.text)
 
-    def wrong(self, path: Path, words: str) -> NoReturn:
-        """A key that is missing is told with the line of its table."""
+    def line(self, path: Path) -> int:
+        """The line of a value; of one that is missing, of its table."""
         while path and path not in self.lines:
             path = path[:-1]
-        raise BadText(self.name, self.lines.get(path, 1), words)
+        return self.lines.get(path, 1)
+
+    def at(self, *path: str | int) -> str:
+        """What a refusal's words begin with, where it is about a value of the text."""
+        return f"{self.name} line {self.line(path)}: "
+
+    def wrong(self, path: Path, words: str) -> NoReturn:
+        raise BadText(self.name, self.line(path), words)
 
     def typed(self, path: Path, value: Any, *types: type) -> Any:
         if type(value) not in types:
@@ -93,7 +111,7 @@ class _Source:
         try:
             return unit.whole(value)
         except NotExact as why:
-            self.wrong(path, f"{_dotted(path)} = {value} {why}")
+            self.wrong(path, f"{_dotted(path)} = {_value(value)} {why}")
 
 
 class _Table:
@@ -103,7 +121,7 @@ class _Table:
         self.source, self.path, self.values = source, path, values
         for key in values if known is not None else ():
             if key not in known:
-                near = difflib.get_close_matches(key, known, 1)
+                near = difflib.get_close_matches(short(key), known, 1)
                 hint = f"; did you mean {near[0]}?" if near else f" (there are {', '.join(known)})"
                 self.wrong(key, f"there is no key {self.dotted(key)}{hint}")
 
@@ -130,10 +148,39 @@ class _Table:
     def table(self, key: str, known: Sequence[str] | None) -> _Table:
         return _Table(self.source, self.path + (key,), self.typed(key, dict), known)
 
+    def whole(self, key: str, allowed: Sequence[int], otherwise: int) -> int:
+        """A whole number of those allowed, or the one that stands for a missing key."""
+        number = self.typed(key, int) if self.has(key) else otherwise
+        if number not in allowed:
+            self.wrong(key, f"{self.dotted(key)} = {_value(number)} is none of {_listed_numbers(allowed)}")
+        return number
+
+    def many(self, key: str) -> list[Any]:
+        """A list, of no more places than a job can have."""
+        values = self.typed(key, list)
+        if len(values) > PLACES:
+            self.wrong(key, f"{self.dotted(key)} has {len(values):,} places, and a job can carry {PLACES:,}")
+        return values
+
+
+def _listed_numbers(allowed: Sequence[int]) -> str:
+    return f"{allowed[0]} to {allowed[-1]}" if isinstance(allowed, range) else ", ".join(map(str, allowed))
+
+
+def _float(word: str) -> Decimal | _Vast:
+    """A number with a point or an exponent, nan and inf as TOML has them."""
+    number = number_of(word.replace("_", ""))
+    if number is not None:
+        return number
+    return Decimal(word) if "n" in word else _Vast(word)
+
 
 def _read_toml(source: _Source) -> dict[str, Any]:
+    found = outsized(source.text)
+    if found is not None:
+        raise BadText(source.name, found[0], f"it has {found[1]}, which no job has")
     try:
-        return tomllib.loads(source.text, parse_float=Decimal)
+        return tomllib.loads(source.text, parse_float=_float)
     except tomllib.TOMLDecodeError as why:
         found = re.fullmatch(r"(.*) \(at (?:line (\d+), column \d+|end of document)\)", str(why))
         line = int(found[2]) if found and found[2] else source.text.count("\n") + 1
@@ -143,21 +190,30 @@ def _read_toml(source: _Source) -> dict[str, Any]:
 def parse(text: str, name: str, folder: File) -> Draft:
     """A job from its text. `name` is what the text is called where something is wrong, `folder` where its CSV file is looked for."""
     source = _Source(name, text)
-    top = _Table(source, (), _read_toml(source), ("version", "vehicle", "trace", "holds"))
+    top = _Table(source, (), _read_toml(source), ("version", "about", "vehicle", "trace", "holds"))
     version = _version(top)
-    profile = ("profile",) if version >= PROFILE else ()
-    vehicle = _vehicle(top.table("vehicle", ("ratios", *(key for key, _, _ in SCALARS), *profile, "curve")), version)
+    about = _about(top.table("about", ABOUT)) if top.has("about") else ""
+    vehicle = _vehicle(top.table("vehicle", ("ratios", *(key for key, _, _ in SCALARS), "profile", "curve")), version)
     speeds, speed_name = _trace(top.table("trace", [key for keys in WAYS.values() for key in keys]), folder)
     holds = _holds(top.table("holds", None), len(speeds)) if top.has("holds") else bytearray(len(speeds))
-    names = Names(_field_name(source, vehicle), speed_name, lambda second, gear: f"holds.{second} = {gear}")
-    return Draft(Job(vehicle, speeds, holds, version), names, text=True)
+    names = Names(
+        _field_name(source, vehicle, version), speed_name, lambda second, gear: f"{source.at('holds', str(second))}holds.{second} = {gear}", source.at
+    )
+    return Draft(Job(vehicle, speeds, holds, version), names, True, about)
 
 
 def _version(top: _Table) -> int:
     version = top.typed("version", int)
     if not 0 <= version <= 65535:
-        top.wrong("version", f"version = {version} is not from 0 to 65535, which is what a job can carry")
+        top.wrong("version", f"version = {_value(version)} is not from 0 to 65535, which is what a job can carry")
     return version
+
+
+def _about(table: _Table) -> str:
+    """The vehicle's name; it and the note are for people."""
+    for key in table.values:
+        table.typed(key, str)
+    return table.values.get("name", "")
 
 
 def _curve(version: int) -> tuple[Unit, ...]:
@@ -166,11 +222,13 @@ def _curve(version: int) -> tuple[Unit, ...]:
 
 def _vehicle(table: _Table, version: int) -> Vehicle:
     source = table.source
-    ratios = [source.number(table.path + ("ratios", k), ratio, units.RATIO) for k, ratio in enumerate(table.typed("ratios", list))]
+    ratios = [source.number(table.path + ("ratios", k), ratio, units.RATIO) for k, ratio in enumerate(table.many("ratios"))]
     numbers = {field: table.number(key, unit) for key, field, unit in SCALARS}
-    curve = [_point(source, table.path + ("curve", k), row, version) for k, row in enumerate(table.typed("curve", list))]
+    curve = [_point(source, table.path + ("curve", k), row, version) for k, row in enumerate(table.many("curve"))]
     if version >= PROFILE:
         numbers["profile"] = table.number("profile", units.PROFILE)
+    elif table.has("profile"):
+        table.wrong("profile", f"vehicle.profile needs version {PROFILE}, and version = {version}")
     return Vehicle(ratios=tuple(ratios), curve=tuple(curve), **numbers)
 
 
@@ -206,35 +264,42 @@ def _trace(table: _Table, folder: File) -> tuple[array[int], Callable[[int], str
 
 def _listed(table: _Table, folder: File) -> tuple[Sequence[int], Callable[[int], str]]:
     path = table.path + ("speeds",)
-    speeds = [table.source.number(path + (k,), value, units.SPEED) for k, value in enumerate(table.typed("speeds", list))]
-    return speeds, lambda second: f"trace.speeds[{second}]"
+    speeds = [table.source.number(path + (k,), value, units.SPEED) for k, value in enumerate(table.many("speeds"))]
+    return speeds, lambda second: f"{table.source.at(*path, second)}trace.speeds[{second}]"
 
 
 def _from_csv(table: _Table, folder: File) -> tuple[Sequence[int], Callable[[int], str]]:
     name = table.typed("csv", str)
-    column = table.typed("column", str, int) if table.has("column") else None
     try:
-        speeds, lines = read_speeds(folder / name, name, column)
+        speeds, lines = read_speeds(folder / name, name, _layout(table))
     except BadText:
         raise
     except Misuse as why:
         table.wrong("csv", str(why))
-    return speeds, lambda second: f"{name} line {lines[second]}, second {second}" if second < len(lines) else f"second {second}"
+    return speeds, lambda second: f"{name} line {lines[second]}: second {second}" if second < len(lines) else f"second {second}"
+
+
+def _layout(table: _Table) -> Layout:
+    columns = {key: table.typed(key, str, int) for key in ("column", "time") if table.has(key)}
+    decimal = table.typed("decimal", str) if table.has("decimal") else None
+    if decimal not in (None, ".", ","):
+        table.wrong("decimal", f"trace.decimal = '{short(decimal)}' is neither '.' nor ','")
+    return Layout(**columns, hertz=table.whole("hertz", HERTZ, 1), decimal=decimal, skip=table.whole("skip", range(PLACES + 1), 0))
 
 
 def _built_in(table: _Table, folder: File) -> tuple[Sequence[int], Callable[[int], str]]:
-    if (which := table.typed("cycle", str)) != CLASS_3:
-        table.wrong("cycle", f"trace.cycle = '{which}' is not '{CLASS_3}', the cycle that is built in")
+    if (which := table.typed("cycle", str)).casefold() != CLASS_3:
+        table.wrong("cycle", f"trace.cycle = '{short(which)}' is not '{CLASS_3}', the cycle that is built in")
     part = table.typed("part", int) if table.has("part") else 0
     factor = table.number("downscale", units.FACTOR) if table.has("downscale") else 0
     if not 0 <= part < 1 << 32:
-        table.wrong("part", f"trace.part = {part} is no number of a part")
+        table.wrong("part", f"trace.part = {_value(part)} is no number of a part")
     try:
         speeds = downscale(factor, part) if table.has("downscale") else cycle(part)
     except Refused as refused:
-        key = {18: f"trace.part = {part}", 23: f"trace.downscale = {units.FACTOR.text(factor)}"}[refused.number]
-        raise Refused(refused.number, refused.place, f"{key}: {refused.words}") from None
-    return speeds, lambda second: f"second {second} of the trace"
+        key, value = {18: ("part", str(part)), 23: ("downscale", units.FACTOR.text(factor))}[refused.number]
+        raise Refused(refused.number, refused.place, f"{table.source.at('trace', key)}trace.{key} = {value}: {refused.words}") from None
+    return speeds, lambda second: f"{table.source.at('trace', 'cycle')}second {second} of the trace"
 
 
 def _holds(table: _Table, count: int) -> bytearray:
@@ -242,27 +307,35 @@ def _holds(table: _Table, count: int) -> bytearray:
     for key in table.values:
         gear = table.typed(key, int)
         if not re.fullmatch("0|[1-9][0-9]{0,9}", key):
-            table.wrong(key, f"holds.{key}: '{key}' is no second")
+            table.wrong(key, f"holds.{short(key)}: '{short(key)}' is no second")
         if int(key) >= count:
             table.wrong(key, f"holds.{key} is past the trace, which has {count} seconds, from 0")
         if not 1 <= gear <= 255:
-            table.wrong(key, f"holds.{key} = {gear} is no gear that can be held: 1 to 255 (a second that is not held has no line)")
+            table.wrong(key, f"holds.{key} = {_value(gear)} is no gear that can be held: 1 to 255 (a second that is not held has no line)")
         holds[int(key)] = gear
     return holds
 
 
-def _field_name(source: _Source, vehicle: Vehicle) -> Callable[[int], str]:
-    """What a field of the vehicle is called: its key, with the value where it has one."""
+def _field_name(source: _Source, vehicle: Vehicle, version: int) -> Callable[[int], str]:
+    """What a field of the vehicle is called: its line, its key, and the value that is refused where it has one."""
     shown = {key: unit.text(getattr(vehicle, field)) for key, field, unit in SCALARS}
 
     def name(number: int) -> str:
-        if number == 1 and vehicle.profile > 1:
-            return f"vehicle.profile = {vehicle.profile}"
         key = FIELDS[number][0]
-        value = f" = {shown[key]}" if key in shown else ""
-        return f"vehicle.{key}{value}"
+        if number == 1 and vehicle.profile > 1:
+            key, shown["profile"] = "profile", str(vehicle.profile)
+        place = at_fault(vehicle, version, number)
+        if place is None:
+            return f"{source.at('vehicle', key)}vehicle.{key}{f' = {shown[key]}' if key in shown else ''}"
+        value = f"{units.RATIO.text(vehicle.ratios[place])}, gear {place + 1}" if number == RATIOS else f"[{_row(vehicle.curve[place], version)}]"
+        return f"{source.at('vehicle', key, place)}vehicle.{key}[{place}] = {value}"
 
     return name
+
+
+def _row(point: Sequence[int], version: int) -> str:
+    """A point of the curve as a text has it."""
+    return ", ".join(unit.text(value) for unit, value in zip(_curve(version), point))
 
 
 def show(job: Job) -> str:
@@ -278,8 +351,7 @@ def show(job: Job) -> str:
     columns = _curve(job.version)
     lines.append(_beside("curve = [", f"{_columns(columns)}; {_and(unit.paper for unit in columns)}"))
     for point in vehicle.curve:
-        row = ", ".join(unit.text(value) for unit, value in zip(columns, point))
-        lines.append(_beside(f"  [{row}],", " ".join(map(str, point[: len(columns)]))))
+        lines.append(_beside(f"  [{_row(point, job.version)}],", " ".join(map(str, point[: len(columns)]))))
     lines += ["]", "", "[trace]", _beside("speeds = [", f"{units.SPEED.people}; {units.SPEED.paper}")]
     for start in range(0, len(job.speeds), ROW):
         row = ", ".join(map(units.SPEED.text, job.speeds[start : start + ROW]))

@@ -1,7 +1,9 @@
-"""Where in a TOML text each key and each value stands. `tomllib` reads a text and does not say; this goes over a text that it has read."""
+"""Where in a TOML text each key and each value stands. `tomllib` reads a text and does not say; this goes over a text that it has read. And what is
+looked at before: `tomllib` goes into a text as deep as it is, and takes long over a long key."""
 
 from __future__ import annotations
 
+import re
 import tomllib
 
 #: A value's way through the text: keys, and places in lists.
@@ -9,6 +11,34 @@ Path = tuple[str | int, ...]
 
 _SPACE = " \t"
 _BARE_END = set(" \t\r\n=,.#[]{}")
+
+#: How deep lists, tables and keys may go; a job's go to three.
+_DEEP = 16
+
+#: Digits of a whole number that Python takes in reasonable time.
+_DIGITS = 1000
+
+_WORD = "[A-Za-z0-9_-]"
+_PART = rf"""(?:{_WORD}++|"[^"\n]*+"|'[^'\n]*+')"""
+
+#: What decides how deep a text is; strings and comments are matched to be passed over. Each alternative begins where a word does and gives nothing
+#: back, so that a long text is gone over once.
+_SHAPE = re.compile(
+    rf"""(?<!{_WORD})(?:(?P<key>{_PART}(?:[ \t]*+\.[ \t]*+{_PART}){{{_DEEP},}})|(?P<digits>[0-9_]{{{_DIGITS},}}+))"""
+    r"""|\"\"\"(?s:\\.|[^\\])*?(?:\"\"\"|\Z)|\'\'\'(?s:.)*?(?:\'\'\'|\Z)|"(?:\\.|[^"\\\n])*+"?|'[^'\n]*+'?"""
+    r"""|\#[^\n]*+|(?P<open>[\[{])|(?P<close>[\]}])"""
+)
+
+
+def outsized(text: str) -> tuple[int, str] | None:
+    """The line of what is deeper or longer than anything that a job's text has, and what it is; None where there is no such thing."""
+    depth = 0
+    for found in _SHAPE.finditer(text):
+        depth += (found["open"] is not None) - (found["close"] is not None)
+        what = "a key of too many parts" if found["key"] else "a number of too many digits" if found["digits"] else "a list or a table too deep"
+        if found["key"] or found["digits"] or depth > _DEEP:
+            return text.count("\n", 0, found.start()) + 1, what
+    return None
 
 
 class _Scan:

@@ -10,6 +10,7 @@ import textwrap
 from typing import Iterator, NamedTuple, Sequence
 
 from .calls import Job, clutch_down, gear_of
+from .output import plain
 from .refusals import BYTES, SECONDS, Refused
 
 #: A second is moving from this speed on, tenths of km/h: document 01's word, by which trips are drawn.
@@ -76,7 +77,7 @@ def _rect(kind: str, x: float, y: float, width: float, height: float) -> str:
 
 
 def _text(kind: str, x: float, y: float, words: object) -> str:
-    escaped = str(words).replace("&", "&amp;").replace("<", "&lt;").replace(">", "&gt;")
+    escaped = plain(words).replace("&", "&amp;").replace("<", "&lt;").replace(">", "&gt;")
     return f'<text class="{kind}" x="{_n(x)}" y="{_n(y)}">{escaped}</text>'
 
 

@@ -8,7 +8,7 @@ from decimal import Decimal
 from fractions import Fraction
 
 #: A decimal number as a text or a spreadsheet has it.
-_NUMBER = re.compile(r"[+-]?(\d+(\.\d*)?|\.\d+)([eE][+-]?\d+)?")
+_NUMBER = re.compile(r"[+-]?([0-9]+(\.[0-9]*)?|\.[0-9]+)([eE][+-]?[0-9]{1,9})?")
 
 #: Digits before or after the point that a number may have: more is no number of a bench, and would only take time.
 _DIGITS = 30
@@ -51,8 +51,12 @@ class Unit:
         return f"{'-' if whole < 0 else ''}{digits[: -self.decimals]}.{digits[-self.decimals :]}"
 
 
-def number_of(word: str) -> Decimal | None:
-    """The decimal number that a word writes, with a decimal point; None where it writes none."""
+def number_of(word: str, mark: str = ".") -> Decimal | None:
+    """The decimal number that a word writes, in ASCII digits and with that decimal mark; None where it writes none, or one of a size that nothing has."""
+    if mark != ".":
+        if "." in word:
+            return None
+        word = word.replace(mark, ".", 1)
     return Decimal(word) if _NUMBER.fullmatch(word) else None
 
 
@@ -66,4 +70,17 @@ PER_CENT = Unit(0, "per cent", "per cent")
 POWER = Unit(1, "kW", "tenths of kW")
 PROFILE = Unit(0, "1 where first gear is a crawler that is not driven, else 0", "profile")
 SPEED = Unit(1, "km/h", "tenths of km/h")
+TIME = Unit(3, "s", "milliseconds", -(10**12), 10**12)
 FACTOR = Unit(3, "of the speed", "thousandths", 0, 2**32 - 1)
+
+#: The vehicle's keys with one number: the key, the field of `Vehicle`, its unit.
+SCALARS: tuple[tuple[str, str, Unit], ...] = (
+    ("idle", "idle", ENGINE_SPEED),
+    ("rated", "rated", ENGINE_SPEED),
+    ("nmax", "nmax", ENGINE_SPEED),
+    ("f0", "f0", F0),
+    ("f1", "f1", F1),
+    ("f2", "f2", F2),
+    ("mass", "tm", MASS),
+    ("margin", "margin", PER_CENT),
+)

@@ -1,14 +1,18 @@
-"""The Python package: every function on the examples, every kind of list, and a child that dies or lies."""
+"""The Python package: every function on the examples, the structs and words against the header, and the library that is loaded."""
 
 from __future__ import annotations
 
 import contextlib
+import ctypes
 import os
 import platform
 import random
 import re
+import shutil
 import statistics
+import subprocess
 import sys
+import tempfile
 import time
 import unittest
 from array import array
@@ -16,8 +20,8 @@ from dataclasses import replace
 from pathlib import Path
 
 import gearcard
-from gearcard import Failure, Refused, Summary, clutch_down, cycle, downscale, export, gear_of, hold, mend, part_of, read, release, summary, work, write
-from gearcard.engine import Engine, Kind
+from gearcard import Refused, Summary, clutch_down, cycle, downscale, export, gear_of, hold, mend, part_of, read, release, summary, work, write
+from gearcard import engine, structs
 from gearcard.refusals import BYTES, FIELDS, SECONDS, WORDS, in_words
 from gearcard.vehicle import Vehicle
 
@@ -135,13 +139,13 @@ class Functions(unittest.TestCase):
             with self.assertRaises(Refused) as raised:
                 summary(trace, lent)
             self.assertEqual((raised.exception.number, raised.exception.place), (number, 0))
-        for given, words in (
-            (found._replace(standing=65536), r"summary.standing\[0\] = 65536 is no whole number from 0 to 65535"),
-            (found._replace(gears=(0,) * 9), "summary.gears has 9 counts, and not 10"),
-            (found._replace(gears=(*[0] * 9, -1)), r"summary.gears\[9\] = -1 is no whole number"),
-            (found._replace(changes=1.0), r"summary.changes\[0\] = 1.0 is no whole number"),
+        for given, error, words in (
+            (found._replace(standing=65536), ValueError, "65536 is no count of a summary from 0 to 65535"),
+            (found._replace(gears=(0,) * 9), ValueError, "summary.gears has 9 counts, and not 10"),
+            (found._replace(gears=(*[0] * 9, -1)), ValueError, "-1 is no count of a summary"),
+            (found._replace(changes=1.0), TypeError, "1.0 is no count of a summary: it takes a whole number"),
         ):
-            with self.assertRaisesRegex(ValueError, words):
+            with self.assertRaisesRegex(error, words):
                 release(z, speeds, holds, card, 2, summary=given)
 
     def test_edits_as_the_whole_working(self) -> None:
@@ -237,7 +241,7 @@ class Functions(unittest.TestCase):
         for call, error, words in (
             (lambda: work(z, [0, 65536, 0]), ValueError, r"speeds\[1\] = 65536 is no whole number from 0 to 65535"),
             (lambda: work(z, [0, -1, 0]), ValueError, r"speeds\[1\] = -1"),
-            (lambda: work(z, [0, 5.0, 0]), ValueError, r"speeds\[1\] = 5.0 is no whole number"),
+            (lambda: work(z, [0, 5.0, 0]), TypeError, r"speeds\[1\] = 5.0 is no whole number"),
             (lambda: work(z, trace, [0, 256, 0]), ValueError, r"holds\[1\] = 256 is no whole number from 0 to 255"),
             (lambda: work(replace(z, idle=65536), trace), ValueError, "idle = 65536 is not from 0 to 65535"),
             (lambda: work(replace(z, idle=800.0), trace), TypeError, "idle = 800.0 is no whole number"),
@@ -245,100 +249,124 @@ class Functions(unittest.TestCase):
             (lambda: hold(z, trace, holds, card, -1, 1), ValueError, "-1 is no second"),
             (lambda: hold(z, trace, bytes(3), card, 1, 1), TypeError, "holds cannot be written: bytes"),
             (lambda: hold(z, trace, holds, (17, 1, 0), 1, 1), TypeError, "card cannot be written: tuple"),
-            (lambda: work(z, bytes(1 << 22)), ValueError, "a list has more than"),
+            (lambda: hold(2.0, trace, holds, card, 1, 1), TypeError, "vehicle is no Vehicle: float"),
+            (lambda: hold(z, trace, holds, card, 1.0, 1), TypeError, "1.0 is no second: it takes a whole number"),
+            (lambda: hold(z, trace, holds, card, 1, "2"), TypeError, "'2' is no gear"),
+            (lambda: mend(z, [0, 50, 0], holds, card, 1, 60.0), TypeError, "60.0 is no speed"),
+            (lambda: write(z, trace, None, 1.0), TypeError, "1.0 is no version"),
+            (lambda: cycle(1.0), TypeError, "1.0 is no part"),
+            (lambda: downscale(0.5), TypeError, "0.5 is no factor"),
+            (lambda: export(5), TypeError, "the export's bytes are no bytes: int"),
+            (lambda: export([1, 2]), TypeError, "the export's bytes are no bytes: list"),
+            (lambda: read("text"), TypeError, "the job's bytes are no bytes: str"),
+            (lambda: read(None), TypeError, "the job's bytes are no bytes: NoneType"),
+            (lambda: work(z, None), TypeError, "speeds is no list and no buffer: NoneType"),
         ):
             with self.assertRaisesRegex(error, words):
                 call()
+        self.assertEqual((trace, holds, card), ([0, 50, 0], bytearray(3), bytearray(3)))
 
-    def test_threads_and_forks(self) -> None:
-        from concurrent.futures import ThreadPoolExecutor
-
-        jobs = [seeded.job(seed) for seed in range(40)]
-        alone = [read(seeded.encoded(job)) for job in jobs]
-        with ThreadPoolExecutor(8) as pool:
-            self.assertEqual(list(pool.map(lambda job: read(seeded.encoded(job)), jobs * 5)), alone * 5)
-        child = os.fork()
-        if child == 0:
-            ok = all(read(seeded.encoded(job)) == job for job in jobs)
-            gearcard.engine.ENGINE.close()
-            os._exit(0 if ok else 1)
-        mine = [read(seeded.encoded(job)) for job in jobs]
-        self.assertEqual(os.waitpid(child, 0)[1], 0)
-        self.assertEqual(mine, jobs)
-
-    def test_one_hold_in_a_millisecond(self) -> None:
-        if platform.machine() != "x86_64":
-            self.skipTest("the engine is emulated here")
+    def test_one_hold(self) -> None:
+        """Where the machine is busy a time says little, so the bound is ten times what was measured; the figure is printed."""
         job = read(Path("examples/class-3.job").read_bytes())
         card = work(job.vehicle, job.speeds, job.holds)
         times = []
-        for k in range(400):
+        for k in range(2000):
             begun = time.perf_counter()
             hold(job.vehicle, job.speeds, job.holds, card, 60, 2 + k % 2)
             times.append(time.perf_counter() - begun)
-        self.assertLess(statistics.median(times), 1e-3, "median of 400 holds on the Class 3 cycle")
+        median = statistics.median(times)
+        print(f"tools: one hold on the Class 3 cycle from Python: {median * 1e6:.1f} us, median of {len(times)}")
+        self.assertLess(median, 100e-6)
 
 
-class Children(unittest.TestCase):
-    """A child that dies, or answers what was not asked, is an error and never a wrong answer."""
+class Loading(unittest.TestCase):
+    """The words of a package whose library is missing, of another processor, of another version or none at all: one line and status 2."""
 
-    def engine(self, program: str) -> Engine:
-        engine = Engine([sys.executable, "-c", program])
-        self.addCleanup(engine.close)
-        return engine
+    def setUp(self) -> None:
+        self.folder = Path(tempfile.mkdtemp())
+        self.addCleanup(shutil.rmtree, self.folder)
+        shutil.copytree("python/gearcard", self.folder / "gearcard", ignore=shutil.ignore_patterns("__pycache__"))
+        shutil.copy("VERSION", self.folder / "gearcard")
+        self.beside = self.folder / "gearcard/libgearcard.so"
+        shutil.copy("target/lib/libgearcard.so", self.beside)
 
-    def call(self, engine: Engine) -> object:
-        return engine.call(Kind.WORK, vehicle=seeded.CAR_Z.wire(), speeds=bytes(10), holds=bytes(5), third=bytes(5))
+    def said(self) -> tuple[int, str, str]:
+        ran = subprocess.run(
+            [sys.executable, "-m", "gearcard", "card", "examples/car-z.job"], env={**os.environ, "PYTHONPATH": str(self.folder)}, capture_output=True, text=True
+        )
+        return ran.returncode, ran.stdout, ran.stderr
 
-    def test_dead(self) -> None:
-        answer = "import sys; sys.stdout.buffer.write(bytes(12) + bytes(20)); sys.stdout.flush()"
-        for program, words in (
-            ("pass", r"ended before its answer \(status 0\)"),
-            ("import os; os.kill(os.getpid(), 9)", r"ended before its answer \(status -9\)"),
-            ("import sys; sys.stdin.read(1); sys.exit(3)", r"ended before its answer \(status 3\)"),
-            ("import sys; sys.exit(2)", r"ended before its answer \(status 2\); it says why on standard error"),
-            (answer.replace("bytes(20)", "bytes(19)"), r"ended before its answer \(status 0\)"),
-            (answer.replace("bytes(20)", "b'x' * 20"), "does not fit the request"),
-        ):
-            with self.subTest(program), self.assertRaisesRegex(Failure, words):
-                self.call(self.engine(program))
-        self.assertEqual(self.call(self.engine(answer)), (0, 0, b"", bytes(10), bytes(5), bytes(5)))
-        with self.assertRaisesRegex(Failure, "could not be started"):
-            self.call(Engine(["/nonexistent/engine"]))
+    def fails(self, words: str) -> None:
+        status, out, line = self.said()
+        self.assertEqual((status, out, line.count("\n")), (2, "", 1), line)
+        self.assertRegex(line, words)
 
-    def test_another_after_it(self) -> None:
-        engine = gearcard.engine.ENGINE
-        job = seeded.job(7)
-        self.assertEqual(read(seeded.encoded(job)), job)
-        assert engine._child is not None
-        engine._child.kill()
-        engine._child.wait()
-        with self.assertRaises(Failure):
-            read(seeded.encoded(job))
-        self.assertEqual(read(seeded.encoded(job)), job)
-        engine.close()
-        self.assertEqual(read(seeded.encoded(job)), job)
+    def test_as_installed(self) -> None:
+        self.assertEqual(self.said(), (0, Path("examples/car-z.txt").read_text(), ""))
+
+    def test_another_processor(self) -> None:
+        other = {"x86_64": "aarch64", "aarch64": "x86_64"}[platform.machine()]
+        subprocess.run(["./library", "--all"], check=True, stdout=subprocess.DEVNULL)
+        shutil.copy(f"target/lib/{other}/libgearcard.so", self.beside)
+        self.fails(f"libgearcard.so is no shared library for this machine, {platform.machine()}: ")
+
+    def test_another_version(self) -> None:
+        (self.folder / "gearcard/VERSION").write_text("0.9.9\n")
+        self.fails(f"libgearcard.so has version {engine.VERSION}, and this package 0.9.9")
+
+    def test_no_library(self) -> None:
+        self.beside.write_bytes(b"no library")
+        self.fails("is no shared library for this machine")
+        libc = next(line.split()[-1] for line in Path("/proc/self/maps").read_text().splitlines() if "/libc.so.6" in line)
+        shutil.copy(libc, self.beside)
+        self.fails("libgearcard.so is no library of the gear card")
+
+    def test_no_child(self) -> None:
+        """A word starts no other program: what a process starts, its kernel counts."""
+        program = (
+            "import os, resource, sys; from gearcard.cli import main; status = main(sys.argv[1:]); used = resource.getrusage(resource.RUSAGE_CHILDREN);"
+            "sys.exit(status or (used.ru_utime + used.ru_stime + used.ru_minflt > 0))"
+        )
+        job = self.folder / "class-3.job"
+        shutil.copy("examples/class-3.job", job)
+        for words in (["card", str(job)], ["hold", str(job), "60", "3"], ["picture", str(job), "-o", str(self.folder / "drawn.svg")]):
+            ran = subprocess.run([sys.executable, "-c", program, *words], env={**os.environ, "PYTHONPATH": "python"}, capture_output=True, text=True)
+            self.assertEqual((ran.returncode, ran.stderr), (0, ""), words)
 
 
 class Agreement(unittest.TestCase):
     """What Python repeats of the header and of the driver is what they have."""
 
-    def test_kinds(self) -> None:
-        driver = Path("scripts/driver.c").read_text()
-        names = re.search(r"enum \{ (READ, [A-Z_, ]*) \};", driver)
-        assert names is not None
-        self.assertEqual([kind.name for kind in Kind], names[1].split(", "))
-        most = re.search(r"enum \{ SECONDS = 1 << (\d+), BYTES = 1 << (\d+) \};", driver)
-        assert most is not None
-        self.assertEqual(gearcard.engine.MOST, min(1 << int(most[1]), 1 << int(most[2])))
+    def test_structs(self) -> None:
+        kinds = {"uint16_t": ctypes.c_uint16, "uint32_t": ctypes.c_uint32, "int32_t": ctypes.c_int32, "size_t": ctypes.c_size_t}
+        found = re.findall(r"^struct gearcard_(\w+) \{(.*?)\n\};", HEADER, re.M | re.S)
+        self.assertEqual({name.capitalize() for name, _ in found}, {name for name in vars(structs) if re.fullmatch("[A-Z][a-z]+", name)} - {"Structure"})
+        for name, body in found:
+            fields = []
+            for struct, kind, field, places in re.findall(r"^  (?:struct gearcard_(\w+)|(\w+)) (\w+)(?:\[(\d+)\])?;", body, re.M):
+                each = getattr(structs, struct.capitalize()) if struct else kinds[kind]
+                fields.append((field, each * int(places) if places else each))
+            self.assertEqual(getattr(structs, name.capitalize())._fields_, fields, name)
+        self.assertEqual((ctypes.sizeof(structs.Vehicle), ctypes.sizeof(structs.Summary)), (432, 24))
+
+    def test_functions(self) -> None:
+        """Every function of the header, its answer and its arguments."""
+        kinds = {"uint8_t": ctypes.c_uint8, "uint16_t": ctypes.c_uint16, "uint32_t": ctypes.c_uint32, "size_t": ctypes.c_size_t}
+        declared = re.findall(r"^struct gearcard_(\w+) gearcard_(\w+)\((.*?)\);", HEADER, re.M | re.S)
+        self.assertEqual({name for _, name, _ in declared}, set(engine._TYPES))
+        for answer, name, words in declared:
+            takes = []
+            for word in words.split(","):
+                *kind, last = word.replace("const ", "").split()
+                if last.startswith("*"):
+                    takes.append(ctypes.c_void_p)
+                else:
+                    takes.append(getattr(structs, kind[1].removeprefix("gearcard_").capitalize()) if kind[0] == "struct" else kinds[kind[0]])
+            self.assertEqual(engine._TYPES[name], (getattr(structs, answer.capitalize()), tuple(takes)), name)
 
     def test_vehicle(self) -> None:
-        record = re.search(r"struct gearcard_vehicle \{(.*?)\n\};", HEADER, re.S)
-        assert record is not None
-        sizes = {"uint16_t": 2, "int32_t": 4}
-        fields = re.findall(r"^  (\w+) (\w+)(?:\[(\d+)\])?;", record[1], re.M)
-        self.assertEqual(sum(sizes[kind] * int(places or 1) for kind, _, places in fields), gearcard.vehicle.WIRE_SIZE)
-        self.assertEqual(Vehicle.from_wire(seeded.CAR_Z.wire()), seeded.CAR_Z)
+        self.assertEqual(Vehicle.of(seeded.CAR_Z.record), seeded.CAR_Z)
 
     def test_words(self) -> None:
         table = re.search(r"/\* The answer: number 0.*?\*/", HEADER, re.S)

@@ -81,8 +81,8 @@ class RoundTrips(unittest.TestCase):
         self.assertEqual(trace("downscale = 0.5"), list(downscale(500)))
         self.assertNotEqual(trace("downscale = 0.5"), trace(""))
         for words, said in (
-            ("part = 5", "refused 18 at 0: trace.part = 5: the part is none of 1 to 4, or 0 for the whole cycle"),
-            ("downscale = 0.501", "refused 23 at 0: trace.downscale = 0.501: the downscaling factor is over 0.500"),
+            ("part = 5", "refused 18 at 0: car.toml line 22: trace.part = 5: the part is none of 1 to 4, or 0 for the whole cycle"),
+            ("downscale = 0.501", "refused 23 at 0: car.toml line 22: trace.downscale = 0.501: the downscaling factor is over 0.500"),
         ):
             with self.assertRaises(Refused) as raised:
                 trace(words)
@@ -114,10 +114,10 @@ FAULTS: tuple[tuple[str, str, int, str], ...] = (
     ("version = 1\n", "\n", 1, "version is missing"),
     ("version = 1\n", "version = '1'\n", 1, "version must be a whole number, and not a string"),
     ("version = 1\n", "version = 2\n", 14, "vehicle.curve[0] must have 3 numbers in version 2, min^-1, kW and per cent, and has 2"),
-    ("margin = 10\n", "margin = 10\nprofile = 0\n", 13, "there is no key vehicle.profile"),
+    ("margin = 10\n", "margin = 10\nprofile = 0\n", 13, "vehicle.profile needs version 3, and version = 1"),
     ("version = 1\n", "version = 65536\n", 1, "version = 65536 is not from 0 to 65535, which is what a job can carry"),
     ("version = 1\n", "version = 1.0\n", 1, "version must be a whole number, and not a number"),
-    ("[vehicle]", "[car]", 3, "there is no key car (there are version, vehicle, trace, holds)"),
+    ("[vehicle]", "[car]", 3, "there is no key car (there are version, about, vehicle, trace, holds)"),
     (TEXT[TEXT.index("[vehicle]") : TEXT.index("[trace]")], "", 1, "vehicle is missing"),
     ("[holds]", "[colour]\nred = 1\n[holds]", 28, "there is no key colour"),
     ("idle = 800\n", "", 3, "vehicle.idle is missing"),

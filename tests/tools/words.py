@@ -77,7 +77,7 @@ class Card(Words):
         self.assertEqual(self.answers("card", "car.toml"), (EXAMPLES / "car-z-held.txt").read_text())
         for name in ("car-z", "van", "class-3"):
             self.assertEqual(self.answers("card", EXAMPLES / f"{name}.toml"), (EXAMPLES / f"{name}.txt").read_text())
-            self.answers("make", EXAMPLES / f"{name}.toml", "-o", "again.job")
+            self.answers("make", EXAMPLES / f"{name}.toml", "-o", "again.job", "--drop-holds")
             self.assertEqual((self.folder / "again.job").read_bytes(), (EXAMPLES / f"{name}.job").read_bytes())
         self.file("car.txt", TEXT)
         self.assertEqual(self.answers("card", "car.txt"), (EXAMPLES / "car-z-held.txt").read_text())
@@ -112,19 +112,19 @@ class Card(Words):
             self.file("car.toml", TEXT.replace(old, new))
 
         for old, new, said in (
-            (TEXT[TEXT.index("  0.0, 5.0,") :], "]\n", "refused 1 at 0: the trace is empty or over 16,384 seconds"),
-            ("ratios = [120.00, 70.00, 45.00, 35.00, 28.00]", "ratios = [28.00]", f"refused 3 at 1: vehicle.ratios: {FIELDS[1][1]}"),
-            ("120.00, 70.00", "70.00, 120.00", "refused 3 at 2: vehicle.ratios: each is 0.01 to 500.00 min^-1 per km/h, and falls with the gear"),
-            ("idle = 800", "idle = 200", "refused 3 at 3: vehicle.idle = 200: it is 300 to 3,000 min^-1"),
-            ("nmax = 6000", "nmax = 5000", "refused 3 at 5: vehicle.nmax = 5000: it is from rated to 15,000 min^-1"),
-            ("f1 = 0.000", "f1 = 5.001", "refused 3 at 7: vehicle.f1 = 5.001: it is -5.000 to 5.000 N/(km/h)"),
-            ("mass = 1500", "mass = 15", "refused 3 at 9: vehicle.mass = 15: it is 400 to 4,000 kg"),
-            ("[6000, 88.0],", "", "refused 3 at 13: vehicle.curve: the first point is at most idle, the last at least nmax"),
-            ("15, # whole", "200.1, # whole", "refused 4 at 2: trace.speeds[2], 200.1 km/h, is over 200 km/h"),
-            ("15, # whole", "20.1, # whole", "refused 5 at 2: trace.speeds[2], 20.1 km/h, is more than 15 km/h from the second before"),
-            ("  0,\n", "  1,\n", "refused 6 at 4: trace.speeds[4], 1.0 km/h, is not at rest, as the first and the last second must be"),
-            ("2 = 3", "2 = 6", "refused 7 at 2: holds.2 = 6 is no gear to hold: the vehicle has 5"),
-            ("2 = 3", "4 = 3", "refused 8 at 4: holds.4 = 3 is at a standing second"),
+            (TEXT[TEXT.index("  0.0, 5.0,") :], "]\n", "refused 1 at 0: car.toml line 20: the trace is empty or over 16,384 seconds"),
+            ("ratios = [120.00, 70.00, 45.00, 35.00, 28.00]", "ratios = [28.00]", f"refused 3 at 1: car.toml line 4: vehicle.ratios: {FIELDS[1][1]}"),
+            ("120.00, 70.00", "70.00, 120.00", "refused 3 at 2: car.toml line 4: vehicle.ratios[1] = 120.00, gear 2: each is 0.01 to 500.00 min^-1 per km/h, and falls with the gear"),
+            ("idle = 800", "idle = 200", "refused 3 at 3: car.toml line 5: vehicle.idle = 200: it is 300 to 3,000 min^-1"),
+            ("nmax = 6000", "nmax = 5000", "refused 3 at 5: car.toml line 7: vehicle.nmax = 5000: it is from rated to 15,000 min^-1"),
+            ("f1 = 0.000", "f1 = 5.001", "refused 3 at 7: car.toml line 9: vehicle.f1 = 5.001: it is -5.000 to 5.000 N/(km/h)"),
+            ("mass = 1500", "mass = 15", "refused 3 at 9: car.toml line 11: vehicle.mass = 15: it is 400 to 4,000 kg"),
+            ("[6000, 88.0],", "", "refused 3 at 13: car.toml line 13: vehicle.curve: the first point is at most idle, the last at least nmax"),
+            ("15, # whole", "200.1, # whole", "refused 4 at 2: car.toml line 23: trace.speeds[2], 200.1 km/h, is over 200 km/h"),
+            ("15, # whole", "20.1, # whole", "refused 5 at 2: car.toml line 23: trace.speeds[2], 20.1 km/h, is more than 15 km/h from the second before"),
+            ("  0,\n", "  1,\n", "refused 6 at 4: car.toml line 25: trace.speeds[4], 1.0 km/h, is not at rest, as the first and the last second must be"),
+            ("2 = 3", "2 = 6", "refused 7 at 2: car.toml line 29: holds.2 = 6 is no gear to hold: the vehicle has 5"),
+            ("2 = 3", "4 = 3", "refused 8 at 4: car.toml line 29: holds.4 = 3 is at a standing second"),
         ):
             with self.subTest(new):
                 change(old, new)
@@ -134,26 +134,26 @@ class Card(Words):
             later = later.replace(f", {kw}.0]", f", {kw}.0, 40]")
         later = later.replace("margin = 10\n", "margin = 10\nprofile = 1\n")
         self.file("car.toml", later)
-        self.ends(1, "refused 14 at 0: version = 7: the version is none of 1, 2 and 3", "card", "car.toml")
+        self.ends(1, "refused 14 at 0: car.toml line 1: version = 7: the version is none of 1, 2 and 3", "card", "car.toml")
         self.file("car.toml", later.replace("version = 7", "version = 3").replace("88.0, 40", "88.0, 51"))
-        self.ends(1, f"refused 3 at 12: vehicle.curve: {FIELDS[12][1]}", "card", "car.toml")
+        self.ends(1, f"refused 3 at 12: car.toml line 18: vehicle.curve[6] = [6000, 88.0, 51]: {FIELDS[12][1]}", "card", "car.toml")
         self.file("car.toml", later.replace("version = 7", "version = 3").replace("2 = 3", "2 = 1"))
-        self.ends(1, "refused 7 at 2: holds.2 = 1 is no gear to hold: the vehicle has 5, of which the first is not driven", "card", "car.toml")
+        self.ends(1, "refused 7 at 2: car.toml line 30: holds.2 = 1 is no gear to hold: the vehicle has 5, of which the first is not driven", "card", "car.toml")
         self.file("car.toml", later.replace("version = 7", "version = 3").replace("profile = 1", "profile = 2"))
-        self.ends(1, f"refused 3 at 1: vehicle.profile = 2: {FIELDS[1][1]}", "card", "car.toml")
+        self.ends(1, f"refused 3 at 1: car.toml line 13: vehicle.profile = 2: {FIELDS[1][1]}", "card", "car.toml")
         self.file("car.toml", later.replace("version = 7", "version = 3").replace("[120.00, 70.00, 45.00, 35.00, 28.00]", "[70.00, 28.00]"))
-        self.ends(1, f"refused 3 at 1: vehicle.ratios: {FIELDS[1][1]}", "card", "car.toml")
+        self.ends(1, f"refused 3 at 1: car.toml line 4: vehicle.ratios: {FIELDS[1][1]}", "card", "car.toml")
         fast = TEXT.replace("15, # whole numbers too\n", "15, 30, 45, 51, 45, 30, 15, # whole numbers too\n").replace("2 = 3", "5 = 1")
         self.file("car.toml", fast)
-        self.ends(1, "refused 9 at 5: holds.5 = 1 would turn the engine past nmax", "card", "car.toml")
+        self.ends(1, "refused 9 at 5: car.toml line 29: holds.5 = 1 would turn the engine past nmax", "card", "car.toml")
         gap = fast.replace("ratios = [120.00, 70.00, 45.00, 35.00, 28.00]", "ratios = [120.00, 0.01]").replace("5 = 1", "1 = 1")
         self.file("car.toml", gap)
-        self.ends(1, "refused 10 at 5: trace.speeds[5], 51.0 km/h, has no gear that fits, and no hold", "card", "car.toml")
-        self.file("drive.csv", "speed\n0\n\n20\n0\n")
+        self.ends(1, "refused 10 at 5: car.toml line 23: trace.speeds[5], 51.0 km/h, has no gear that fits, and no hold", "card", "car.toml")
+        self.file("drive.csv", "speed\n0\n20\n0\n")
         self.file("car.toml", TEXT[: TEXT.index("speeds = [")] + "csv = 'drive.csv'\n")
-        self.ends(1, "refused 5 at 1: drive.csv line 4, second 1, 20.0 km/h, is more than 15 km/h from the second before", "card", "car.toml")
+        self.ends(1, "refused 5 at 1: drive.csv line 3: second 1, 20.0 km/h, is more than 15 km/h from the second before", "card", "car.toml")
         self.file("car.toml", TEXT[: TEXT.index("speeds = [")] + "cycle = 'class 3'\npart = 9\n")
-        self.ends(1, "refused 18 at 0: trace.part = 9: the part is none of 1 to 4, or 0 for the whole cycle", "card", "car.toml")
+        self.ends(1, "refused 18 at 0: car.toml line 22: trace.part = 9: the part is none of 1 to 4, or 0 for the whole cycle", "card", "car.toml")
 
     def test_damaged_jobs(self) -> None:
         whole = (EXAMPLES / "car-z-held.job").read_bytes()
@@ -175,16 +175,16 @@ class Make(Words):
         for path in sorted(EXAMPLES.glob("*.job")):
             self.file("again.toml", self.answers("show", path))
             if path.name == "refused.job":
-                self.ends(1, "refused 9 at 4: holds.4 = 1 would turn the engine past nmax", "make", "again.toml")
+                self.ends(1, "refused 9 at 4: again.toml line 29: holds.4 = 1 would turn the engine past nmax", "make", "again.toml")
                 continue
-            self.assertEqual(self.answers("make", "again.toml"), "")
+            self.assertEqual(self.answers("make", "again.toml", "--drop-holds"), "")
             self.assertEqual((self.folder / "again.job").read_bytes(), path.read_bytes(), path)
 
     def test_seeded(self) -> None:
         for seed in range(300):
             path = self.file("a.job", seeded.encoded(seeded.job(seed)))
             self.file("a.toml", self.answers("show", "a.job"))
-            self.answers("make", "a.toml", "-o", "b.job")
+            self.answers("make", "a.toml", "-o", "b.job", "--drop-holds")
             self.assertEqual((self.folder / "b.job").read_bytes(), path.read_bytes(), f"seed {seed}")
 
     def test_where_to(self) -> None:
@@ -198,7 +198,7 @@ class Make(Words):
     def test_nothing_written(self) -> None:
         self.file("car.toml", TEXT.replace("idle = 800", "idle = 200"))
         self.file("car.job", b"as it was")
-        self.ends(1, "refused 3 at 3: vehicle.idle = 200: it is 300 to 3,000 min^-1", "make", "car.toml")
+        self.ends(1, "refused 3 at 3: car.toml line 5: vehicle.idle = 200: it is 300 to 3,000 min^-1", "make", "car.toml")
         self.file("car.toml", TEXT.replace("idle = 800", "idle = 'low'"))
         self.ends(2, "gearcard: car.toml line 5: vehicle.idle must be a number, and not a string", "make", "car.toml")
         self.assertEqual((self.folder / "car.job").read_bytes(), b"as it was")
@@ -244,8 +244,8 @@ class Edits(Words):
         ):
             self.ends(1, said, "mend", "car-z.job", *words)
         self.ends(1, "refused 8 at 2: gear 3, held at second 2, is at a standing second", "mend", "car-z-held.job", 2, "0.9")
-        self.ends(2, "gearcard: SPEED 10.05 is no whole number of tenths of km/h: the nearest that are, are 10.0 and 10.1", "mend", "car-z.job", 3, "10.05")
-        self.ends(2, "gearcard: SPEED fast is no number", "mend", "car-z.job", 3, "fast")
+        self.ends(2, "gearcard: argument SPEED: the speed 10.05 is no whole number of tenths of km/h: the nearest that are, are 10.0 and 10.1 (./gearcard mend --help says what it takes)", "mend", "car-z.job", 3, "10.05")
+        self.ends(2, "gearcard: argument SPEED: the speed fast is no number (./gearcard mend --help says what it takes)", "mend", "car-z.job", 3, "fast")
         self.assertEqual(self.bytes_of("car-z.job"), before)
 
     def test_mends_a_refused_job(self) -> None:
@@ -267,7 +267,7 @@ class Edits(Words):
             self.ends(1, said, *words)
         self.ends(1, "refused 9 at 4: gear 1, held at second 4, would turn the engine past nmax", "hold", "refused.job", 2, 1)
         self.ends(2, "gearcard: argument GEAR: '256' is no gear from 0 to 255 (./gearcard hold --help says what it takes)", "hold", "car-z.job", 2, 256)
-        self.ends(2, "gearcard: argument SECOND: 'two' is no second from 0 to 18446744073709551615 (./gearcard release --help says what it takes)", "release", "car-z.job", "two")
+        self.ends(2, "gearcard: argument SECONDS: 'two' is no second from 0 to 18446744073709551615 (./gearcard release --help says what it takes)", "release", "car-z.job", "two")
         self.file("car.toml", TEXT)
         self.ends(2, "gearcard: car.toml is a text, and not a job", "hold", "car.toml", 2, 3)
         self.assertEqual(self.bytes_of("car-z.job"), before)
@@ -282,8 +282,8 @@ class Edits(Words):
         self.assertTrue((self.folder / "link.job").is_symlink())
         self.assertEqual(new.st_mode & 0o7777, 0o640)
         self.assertNotEqual(new.st_ino, old.st_ino)
-        with unittest.mock.patch("os.replace", side_effect=OSError(28, "No space left on device")):
-            self.ends(2, f"gearcard: {self.folder.resolve()}/car-z.job could not be written: No space left on device", "release", "car-z.job", 2)
+        with unittest.mock.patch("os.fsync", side_effect=OSError(28, "No space left on device")):
+            self.ends(2, f"gearcard: car-z.job could not be changed: No space left on device", "release", "car-z.job", 2)
         self.assertEqual(self.bytes_of("car-z.job"), (EXAMPLES / "car-z-held.job").read_bytes())
         self.assertEqual([path.name for path in self.folder.iterdir() if path.name.startswith(".")], [])
 
@@ -307,9 +307,9 @@ class Pictures(Words):
         self.assertIn("refused 12 at 2", (self.folder / "cut.svg").read_text())
 
     def test_unwritten(self) -> None:
-        self.ends(2, f"gearcard: {self.folder.resolve()}/none/a.svg could not be written: No such file or directory", "picture", "car-z.job", "-o", "none/a.svg")
+        self.ends(2, "gearcard: none/a.svg could not be written: No such file or directory", "picture", "car-z.job", "-o", "none/a.svg")
         (self.folder / "folder.svg").mkdir()
-        self.ends(2, f"gearcard: {self.folder.resolve()}/folder.svg could not be written: Is a directory", "picture", "car-z.job", "-o", "folder.svg")
+        self.ends(2, "gearcard: folder.svg is a folder", "picture", "car-z.job", "-o", "folder.svg")
 
 
 class Others(Words):
@@ -372,7 +372,7 @@ class Others(Words):
     def test_help(self) -> None:
         status, listed, said = self.run_command("--help")
         self.assertEqual((status, said), (0, ""))
-        for word in ("make", "show", "card", "picture", "hold", "release", "mend", "cycle", "coefficients"):
+        for word in ("make", "show", "card", "summary", "holds", "compare", "picture", "hold", "release", "mend", "edit", "export", "cycle", "coefficients"):
             self.assertIn(f"  {word} ", listed)
             self.assertIn(f"usage: gearcard {word}", self.answers(word, "--help"))
 
@@ -385,7 +385,7 @@ class Others(Words):
         copy = self.folder / "copy"
         for name in ("python", "scripts", "include", "examples"):
             shutil.copytree(TOP / name, copy / name, ignore=shutil.ignore_patterns("__pycache__"))
-        for name in ("gearcard", "library", "crates.txt"):
+        for name in ("gearcard", "library", "crates.txt", "VERSION"):
             shutil.copy(TOP / name, copy)
         (copy / "crates").mkdir()
         few = self.folder / "few"
