@@ -10,6 +10,7 @@
 #ifndef GEARCARD_H
 #define GEARCARD_H
 
+#include <stdbool.h>
 #include <stddef.h>
 #include <stdint.h>
 
@@ -44,8 +45,8 @@ struct gearcard_vehicle {
 };
 
 /* The answer: number 0 and place 0 where it is accepted, else the refusal and its place. Seconds and bytes count from 0. Where several apply,
-   gearcard_work, gearcard_summary_of, gearcard_hold, gearcard_release, gearcard_mend and gearcard_write give the first in this order, at its lowest
-   second; gearcard_read the first fault of the job from left to right.
+   gearcard_work, gearcard_summary_of, gearcard_hold, gearcard_release, gearcard_mend, gearcard_why and gearcard_write give the first in this order, at its
+   lowest second; gearcard_read the first fault of the job from left to right.
 
     1  trace empty or over 16,384 seconds                             place 0
     2  holds or card not as long as the trace;                        place 0
@@ -58,7 +59,7 @@ struct gearcard_vehicle {
        in gearcard_write also profile 1 in version 1 or 2,            1
        and a margin m above 0 in version 1                            12
    11  second outside the trace (gearcard_hold, gearcard_release,     second asked
-       gearcard_mend)
+       gearcard_mend, gearcard_why)
     4  speed over 2,000                                               second
     5  step from the second before over 150                           second
     6  first, then last, sample is moving                             second
@@ -159,6 +160,58 @@ struct gearcard_counted gearcard_release(struct gearcard_vehicle vehicle, const 
 struct gearcard_counted gearcard_mend(struct gearcard_vehicle vehicle, uint16_t *speeds, size_t speeds_length, const uint8_t *holds, size_t holds_length,
                                       uint8_t *card, size_t card_length, size_t second, uint16_t speed, struct gearcard_summary summary);
 
+/* Why this gear: what is said of one gear of the car at a moving second. */
+struct gearcard_gear {
+  int64_t q;         /* available power is q / (100,000 w) tenths of kW; q and w are 0 where the gear turns past nmax, where no power is read */
+  int64_t w;
+  uint32_t engine;   /* engine speed X, thousandths of min^-1 */
+  uint32_t minimum;  /* the gear's minimum speed there, min^-1 */
+  uint8_t rule;      /* of that minimum: 1 the lowest gear, idle; of the next gear 2 nine tenths of idle, 3 in the closing run idle itself, 4 after a second
+                        whose first choice is the lowest gear 1.15 times idle; 5 the gears above, idle plus an eighth of rated less idle */
+  bool allowed;      /* at the first second of a trip only the lowest gear may fit */
+  bool over_minimum; /* X is at least 1000 x minimum; the lowest gear also fits below */
+  bool under_nmax;   /* X is at most 1000 x nmax */
+  bool fits;         /* all three */
+  bool enough;       /* enough power, 3,240,000 q >= required w; said up to nmax of gears that do not fit too */
+};
+
+/* How the byte of a second came about. The lowest gear is gear 1, in profile 1 gear 2. */
+struct gearcard_reasons {
+  size_t about;                   /* the moving second of which the rest is said: the second asked, or before a trip the trip's first second */
+  size_t first;                   /* its trip's first second */
+  size_t last;                    /* and last */
+  int64_t required;               /* required power E; E / (3.24 x 10^12) kW, negative while braking */
+  struct gearcard_gear gears[10]; /* gear 1, 2, .. 10; zeros for gears that are not driven: the crawler and those above ng */
+  uint8_t kind;                   /* 0 standing; 1 standing, the second before a trip; 2 moving */
+  uint8_t role;                   /* 1 the trip's first second; 2 in the closing run; 3 after a first choice of the lowest gear; 4 any other */
+  uint8_t held;                   /* the held gear, 0 for none */
+  uint8_t choice;                 /* the first choice; 0 where no gear fits */
+  uint8_t sentence;               /* which sentence gave it: 1 the held gear; 2 the highest gear that fits and has enough power; 3 if none has enough, the
+                                     fitting gear with most power; 4 at the first second of a trip only the lowest gear; 5 none fits */
+  uint8_t after_a;                /* the gear after correction A, one-second peak */
+  uint8_t after_b;                /* after B, rising speed */
+  uint8_t after_c;                /* after C, closing run: the card's gear */
+  uint8_t floor;                  /* the lowest gear whose X is at most 1000 x nmax; ng + 1 where there is none */
+  uint8_t ceiling;                /* B's ceiling where it looks: no hold, not the trip's first second, the speed before lower; otherwise 0 */
+  bool clutch;                    /* clutch down at the second asked */
+  uint8_t clutch_reason;          /* 1 down, the second before a trip; 2 down, D is 0 or less and X of the final gear below 1000 x idle; 3 up, D is above 0;
+                                     4 up, X is not below */
+  uint8_t byte;                   /* the card's byte at the second asked */
+};
+
+/* A verdict with the reasons. */
+struct gearcard_why {
+  struct gearcard_verdict verdict;
+  struct gearcard_reasons reasons;
+};
+
+/* Why the byte of a second is what it is. Nothing is written. It refuses by 1, 2, 3 and 11, then by 4 to 10 on the seconds that holding the second spoken of
+   would check, and on no others: its trip with the standing second on either side, or a standing second that no trip follows alone. Refused by 1 to 9 the
+   reasons are all 0, as they are at such a standing second. Refused by 10, at the lowest second of the trip without a gear, they are given but for the
+   corrections: after_a, after_b, after_c, ceiling, clutch, clutch_reason and byte are 0. Where gearcard_work accepts, byte is its byte at that second. */
+struct gearcard_why gearcard_why(struct gearcard_vehicle vehicle, const uint16_t *speeds, size_t speeds_length, const uint8_t *holds, size_t holds_length,
+                                 size_t second);
+
 /* Fills the first 1,801 places of the room with the Class 3 cycle for top speeds of 120 km/h and over, the whole of it whatever the part. Room beyond is
    untouched. Part 0 is the whole cycle, 1 to 4 are Low, Medium, High and Extra High. */
 struct gearcard_verdict gearcard_cycle(uint32_t part, uint16_t *room, size_t room_length);
@@ -191,5 +244,21 @@ struct gearcard_coefficients {
    the test mass in kg, each exactly once and in either order; kind 0 ends it. Each number is the nearest whole number of its units to the exact
    value of the float, halves away from zero, so -0.0 gives 0; accepted, it is within the bounds of its field. */
 struct gearcard_coefficients gearcard_export(const uint8_t *bytes, size_t length);
+
+/* Bytes of stack that a call takes below its arguments and its return address, on x86-64: the most that was measured over the benchmark's inputs and 6,000
+   random cars and traces, of up to 16,384 seconds (./bench --stack).
+
+     gearcard_read        1,816
+     gearcard_write       1,568
+     gearcard_work        2,136
+     gearcard_summary_of     56
+     gearcard_hold        3,192
+     gearcard_release     3,192
+     gearcard_mend        3,192
+     gearcard_why        18,952
+     gearcard_cycle          32
+     gearcard_cycle_part      0
+     gearcard_downscale      64
+     gearcard_export        352 */
 
 #endif

@@ -17,6 +17,8 @@ use Rattle.capi.proofs.gearcard_release.Kinds as release-kinds
 use Rattle.capi.proofs.gearcard_release.Reads as release-reads
 use Rattle.capi.proofs.gearcard_mend.Kinds as mend-kinds
 use Rattle.capi.proofs.gearcard_mend.Reads as mend-reads
+use Rattle.capi.proofs.gearcard_why.Kinds as why-kinds
+use Rattle.capi.proofs.gearcard_why.Reads as why-reads
 use Rattle.capi.proofs.gearcard_cycle.Kinds as cycle-kinds
 use Rattle.capi.proofs.gearcard_cycle.Reads as cycle-reads
 use Rattle.capi.proofs.gearcard_cycle_part.Kinds as cycle-part-kinds
@@ -66,6 +68,9 @@ gearcard-mend κs a asked z z′ ws ws′ p q = (
   λ i. record { verdict = (p .0 ∙ sym (q .0)) i; summary = (p .1 .0 ∙ sym (q .1 .0)) i },
   λ i. (tt, ((p .1 .1 .0 ∙ sym (q .1 .1 .0)) i, (tt, ((p .1 .1 .1 ∙ sym (q .1 .1 .1)) i, (tt, (tt, (tt, tt))))))),
 )
+
+pub gearcard-why : Determined why-kinds.ps why-kinds.r why-reads.Asked why-reads.Learnt
+gearcard-why κs a asked z z′ ws ws′ p q = (λ i. record { verdict = (p .0 ∙ sym (q .0)) i; reasons = (p .1 ∙ sym (q .1)) i }, refl)
 
 pub gearcard-cycle : Determined cycle-kinds.ps cycle-kinds.r cycle-reads.Asked cycle-reads.Learnt
 gearcard-cycle κs a asked z z′ ws ws′ p q = (p .0 ∙ sym (q .0), λ i. (tt, ((p .1 ∙ sym (q .1)) i, tt)))

@@ -1,16 +1,18 @@
-// The C functions: thin wrappers over the readers, the writer, the working, the summary, the edits of one second and the built-in cycle.
+// The C functions: thin wrappers over the readers, the writer, the working, the summary, the edits of one second, its reasons and the built-in cycle.
 // include/gearcard.h declares them.
 ghost use mathlib.Core.Path.{_≡_};
 ghost use Rattle.rules.specs.Refusals.{work-fault, work-card};
 ghost use Rattle.rules.specs.declared.Edit.the-variants.{Hold, Release, Mend};
 ghost use Rattle.rules.specs.Summary.{summary-fault, counted-summary};
 ghost use Rattle.rules.specs.Edit.{showing, edit-fault, edited};
+ghost use Rattle.rules.specs.Why.{why-fault, why};
 ghost use lib.ListN.{length};
 ghost use Rattle.cycles.specs.Parts.{fill-fault, fill-room, stretch};
 ghost use Rattle.downscale.specs.Steps.{down-fault, down-room};
 ghost use Rattle.capi.specs.Verdicts.{says, as-verdict, JobRead, JobWritten, ExportRead};
 use cycles::Stretch;
 use rules::Answer;
+use rules::Reasons;
 use rules::Summary;
 use rules::Vehicle;
 
@@ -42,6 +44,13 @@ pub struct Counted {
 pub struct Written {
     pub verdict: Verdict,
     pub length: usize,
+}
+
+// What is said of one second, with the verdict.
+#[repr(C)]
+pub struct Why {
+    pub verdict: Verdict,
+    pub reasons: Reasons,
 }
 
 // What the export reader answers: where it refuses, all are 0.
@@ -78,7 +87,7 @@ fn counted_of(counted: summaries::Counted) -> Counted
 pub extern "C" fn gearcard_read(job: &[u8], speeds: &mut [u16], holds: &mut [u8]) -> Job
     ensures { λ r. ⌜ JobRead (now (job .entry)) (now (speeds .entry)) (now (holds .entry)) r (now (speeds .exit)) (now (holds .exit)) ⌝ }
 {
-    let reading = jobs::read(job, speeds, holds);
+    let reading = reading::read(job, speeds, holds);
     let answer = reading.answer;
     let vehicle = reading.vehicle;
     let verdict = verdict_of(answer);
@@ -101,7 +110,7 @@ pub extern "C" fn gearcard_write<'a>(
 ) -> Written
     ensures { λ r. ⌜ JobWritten version vehicle (now (speeds .entry)) (now (holds .entry)) (now (room .entry)) r (now (room .exit)) ⌝ }
 {
-    let written = jobs::write(version, vehicle, speeds, holds, room);
+    let written = writing::write(version, vehicle, speeds, holds, room);
     let said = written.answer;
     let verdict = verdict_of(said);
     Written {
@@ -192,6 +201,27 @@ pub extern "C" fn gearcard_mend(
 {
     let counted = edits::mend(vehicle, speeds, holds, card, second, speed, summary);
     counted_of(counted)
+}
+
+// Why the byte of a second is what it is.
+#[no_mangle]
+pub extern "C" fn gearcard_why<'a>(
+    vehicle: Vehicle,
+    speeds: &'a [u16],
+    holds: &'a [u8],
+    second: usize,
+) -> Why
+    ensures answer { λ r. ⌜ r .verdict ≡ as-verdict (why-fault vehicle (now (speeds .entry)) (now (holds .entry)) second) ⌝ }
+    ensures reasons { λ r. ⌜ r .reasons ≡ why vehicle (now (speeds .entry)) (now (holds .entry)) second ⌝ }
+{
+    let told = reasons::why(vehicle, speeds, holds, second);
+    let heard = told.answer;
+    let found = told.reasons;
+    let verdict = verdict_of(heard);
+    Why {
+        verdict,
+        reasons: found,
+    }
 }
 
 // Fills the first 1,801 places with the Class 3 cycle.

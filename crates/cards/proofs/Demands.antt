@@ -1,17 +1,7 @@
 -- The demands on the whole working, over the contract of `work` as the check reads it, and document 01's definitions. Those on the edits stand in
 -- rules/proofs/Demands, once for all.
 -- Assumes nothing.
-use Prim.Native.Nat.{ℕ, _<_}
-use native.Mathlib.Nat.{zero-add}
-use mathlib.Core.Path.{_≡_, sym, ap, _∙_}
-use mathlib.Core.Logic.{_↔_}
-use mathlib.Core.Option.{none, some}
-use mathlib.Core.List.{List}
-use lib.ListN.{length}
-use denote.Ref.{now}
-use denote.Triple.Clauses.{Lasts, atExit}
-use contract.Lifetimes.{Lfts}
-use borrow.Fn.Kinds.{Dens, endedOf, resT}
+use Rattle.rules.proofs.Base.{ℕ, _<_, zero-add, _≡_, sym, ap, _∙_, _↔_, none, some, List, length, now, Lasts, atExit, Lfts, Dens, endedOf, resT}
 use Rattle.rules.specs.declared.Vehicle.{Vehicle}
 use Rattle.rules.specs.declared.Answer.{Answer}
 use Rattle.rules.specs.declared.Summary.{Summary}
@@ -19,11 +9,13 @@ use Rattle.rules.specs.Words.{at}
 use Rattle.rules.specs.Corrections.{card-at, card}
 use Rattle.rules.specs.Refusals.{Fault, said, work-fault, left, work-card}
 use Rattle.rules.specs.Edit.{showing}
-use Rattle.rules.specs.Vocabulary.{Wanting, PassesOthers, Right, Spares}
+use Rattle.rules.specs.Vocabulary.Choosing.{Wanting, PassesOthers}
+use Rattle.rules.specs.Vocabulary.Edits.{Right, Spares}
 use Rattle.rules.proofs.Laws.Words.{at-table}
 use Rattle.rules.proofs.Laws.Checks.{left-some}
 use Rattle.rules.proofs.Laws.Edits.{anew}
-use Rattle.rules.proofs.Theorems.{want-of-a-gear, right-card-spares}
+use Rattle.rules.proofs.Theorems.Cards.{want-of-a-gear}
+use Rattle.rules.proofs.Theorems.Edits.{right-card-spares}
 use Rattle.rules.proofs.Demands.{Worked}
 use Rattle.cards.proofs.whole.work.Kinds as work-kinds
 use Rattle.cards.proofs.whole.work.Reads as work-reads
@@ -48,7 +40,7 @@ module _ {car : Vehicle} {vs hs old : List ℕ} {z : Answer} {new : List ℕ} (W
   demand-1-untouched q e = W .card-left ∙ left-some old (card car vs hs) (sym (W .answer) ∙ e)
 
   -- ---- Demand 2. An accepted trace gets, at every second, the gear and clutch that document 01 prescribes. Of the job, in both directions, it stands in
-  -- the Demands of `jobs`
+  -- the Demands of `writing`
 
   pub demand-2-card : said z ≡ none → new ≡ card car vs hs
   unfolding work-card left

@@ -1,36 +1,26 @@
 -- The card worked in place, stretch by stretch.
 -- Assumes nothing.
-use Prim.Native.Nat.{ℕ, zero, suc, _+_, _-_, _≤_, _<_, _%_, min}
-use native.Mathlib.Nat.{add-zero}
-use native.Mathlib.Numerals.{add-one}
-use native.Mathlib.Omega.{arith}
-use mathlib.Core.Path.{_≡_, refl, sym, ap, _∙_}
-use mathlib.Core.Logic.{_⊎_, inl, inr}
-use mathlib.Core.Bool.{Bool, true, false}
-use mathlib.Core.Option.{none}
-use mathlib.Core.List.{List, _++_}
-use lib.Dec.{ltb, eqb}
-use lib.IntN.{natAbs}
-use lib.ListN.{length, set, take, drop}
-use borrow.Author.Tests.{lt-ltb, ltb-false, eq-eqb, ne-eqb}
+use Rattle.rules.proofs.Base.{ℕ, zero, suc, _+_, _-_, _≤_, _<_, _%_, min, add-zero, add-one, arith, _≡_, refl, sym, ap, _∙_, _⊎_, inl, inr, Bool, true, false, none, List, _++_, ltb, eqb, natAbs, length, set, take, drop, lt-ltb, ltb-false, eq-eqb, ne-eqb}
 use Rattle.rules.specs.declared.Vehicle.{Vehicle}
 use Rattle.rules.specs.Words.{if_then_else_, _and_, _or_, at, part, table, patch}
 use Rattle.rules.specs.Units.{steepest, moving, rise, start, stop}
 use Rattle.rules.specs.Corrections.{gear-at, card-at, card}
 use Rattle.rules.specs.Refusals.{Check, speed, step, ends, over-ng, bad, span-fault}
-use Rattle.rules.specs.Vocabulary.{IsTrip}
+use Rattle.rules.specs.Vocabulary.Choosing.{IsTrip}
 use Rattle.rules.proofs.Laws.Words.{patch-in, clash, by-test, by-order, both, or-left, or-right, at-part, length-part}
 use Rattle.rules.proofs.Laws.Range.{natAbs-gap}
 use Rattle.rules.proofs.Laws.Trips.{trip-of, stop-le, stop-to, stop-after, stop-in, stop-standing, standing-past}
 use Rattle.rules.proofs.Laws.Checks.{passed, driven}
-use Rattle.rules.proofs.Laws.Cards.{fit-of, byte-gear}
+use Rattle.rules.proofs.Laws.Limits.{floor-low}
+use Rattle.rules.proofs.Laws.Vehicle.{low-from}
+use Rattle.rules.proofs.Laws.Cards.{fit-of, gear-in-range, byte-gear}
 use Rattle.rules.specs.Inside.{InBounds}
 use Rattle.gears.specs.declared.Numbers.{Numbers}
 use Rattle.gears.specs.Parts.{Counts}
 use Rattle.gears.proofs.Parts.{ng-of}
-use Rattle.trips.specs.Trip.{trip-bytes}
+use Rattle.trips.specs.Trip.{AllGeared, trip-bytes}
 use Rattle.checks.proofs.Dry.{step-small, end-second}
-use Rattle.trips.proofs.Bytes.{trip-is}
+use Rattle.trips.proofs.Bytes.{gear-part, trip-is}
 use Rattle.cards.proofs.Patches.{length-patch, patch-none, patch-join, patch-join-back, patch-one, patch-part}
 use Rattle.cards.specs.Rework.{Between, Fitting, Range, Passes, At}
 use Rattle.trips.specs.Ready.{Ready}
@@ -98,6 +88,18 @@ module _ {vs hs old : List ℕ} {a b : ℕ} (B : Between vs hs old a b) where
       })
 
   module _ (car : Vehicle) (C : InBounds car) (F : Fitting car vs hs a b) where
+    -- every second of the trip has a gear
+    pub geared : AllGeared car (part vs a (b + 1)) (part hs a b)
+    geared = rw add-one (record {
+      gear = λ j h.
+          let x = B .trip .some-second in
+          let l = B .after in
+          let i : a + j < b = omega (arith, length-part hs a b (omega (arith, B .holds))) in
+          let m : moving (at vs (a + j)) ≡ true = B .trip .inside (a + j) (omega arith) i in
+          let r = gear-in-range car vs hs (B .holds) (a + j) m C (F (a + j) (omega arith) i) in
+          rw (gear-part car vs hs (B .trip) (B .holds) l j i) (record { from = omega (arith, floor-low car C (at vs (a + j)), low-from car, r .0); to = omega (arith, r .1, C .ng-to) });
+    })
+
     -- the standing second before shows the gear of the trip's first second
     shows-first : 16 + card-at car vs hs a % 16 ≡ card-at car vs hs (a - 1)
     shows-first =

@@ -1,13 +1,6 @@
 -- Each way out of the whole working.
 -- Assumes nothing.
-use Prim.Native.Nat.{ℕ, suc, min}
-use native.Mathlib.Omega.{arith}
-use mathlib.Core.Path.{_≡_, refl, sym, ap, _∙_}
-use mathlib.Core.Logic.{inl}
-use mathlib.Core.Option.{Option}
-use mathlib.Core.List.{List}
-use lib.ListN.{length, set, length-set}
-use lib.Seq.{set-out, set-getD}
+use Rattle.rules.proofs.Base.{ℕ, suc, min, arith, _≡_, refl, sym, ap, _∙_, inl, Option, List, length, set, length-set, set-out, set-getD}
 use Rattle.rules.specs.declared.Vehicle.{Vehicle}
 use Rattle.rules.specs.declared.Refusal.{Refusal}
 use Rattle.rules.specs.declared.Answer.{Answer}

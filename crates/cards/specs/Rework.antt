@@ -11,7 +11,7 @@ use Rattle.rules.specs.declared.Vehicle.{Vehicle}
 use Rattle.rules.specs.Words.{at}
 use Rattle.rules.specs.Units.{fastest, steepest, moving, rise}
 use Rattle.rules.specs.Refusals.{span-fault}
-use Rattle.rules.specs.Vocabulary.{IsTrip}
+use Rattle.rules.specs.Vocabulary.Choosing.{IsTrip}
 use Rattle.rules.specs.Inside.{Fit}
 
 -- a trip from a up to b, between two standing seconds, whose speeds and steps pass the checks

@@ -1,9 +1,6 @@
 -- Each public function's contract allows one outcome. `Reads` is the contract's own reading, which the check makes of the clauses.
 -- Assumes nothing.
-use Prim.Native.Nat.{ℕ}
-use mathlib.Core.Path.{_≡_, refl, sym, _∙_}
-use lib.ListN.{length, replicate, length-replicate}
-use denote.Ref.{now}
+use Rattle.rules.proofs.Base.{ℕ, _≡_, refl, sym, _∙_, length, replicate, length-replicate, now}
 use Rattle.rules.proofs.Laws.Refusals.{said-once}
 use Rattle.gears.proofs.Parts.{built-has}
 use Rattle.once.specs.Determined.{Determined}

@@ -1,37 +1,20 @@
--- The dry run of first choices: a second on the way through its trip, a whole trip, and the trips of a span one after the other.
+-- The dry run of first choices: a span that it can go through, a trip part by part, and the trips of the span one after the other.
 -- Assumes nothing.
-use Prim.Native.Nat.{ℕ, zero, suc, _+_, _-_, _≤_, _<_}
-use native.Mathlib.Numerals.{add-one}
-use native.Mathlib.Omega.{arith}
-use mathlib.Core.Path.{_≡_, refl, sym, ap, _∙_}
-use mathlib.Core.Logic.{_≢_, _⊎_, inl, inr}
-use mathlib.Core.Bool.{Bool, true, false}
-use mathlib.Core.Option.{Option, none, some}
-use mathlib.Core.List.{List, [], _∷_}
-use lib.Dec.{leb, eqb, lit<}
-use lib.IntN.{pos, natAbs, _-ℤ_}
-use lib.ListN.{length, drop}
-use borrow.Author.Tests.{ltb-false, lt-ltb, le-leb, lt-leb, eq-eqb, ne-eqb, eqb-true, eqb-false}
+use Rattle.rules.proofs.Base.{ℕ, zero, suc, _+_, _-_, _≤_, _<_, add-one, arith, _≡_, refl, sym, ap, _∙_, _≢_, _⊎_, inl, inr, Bool, true, false, Option, none, some, List, eqb, lit<, natAbs, length, ltb-false, lt-ltb, eq-eqb, eqb-true, eqb-false}
 use Rattle.rules.specs.declared.Vehicle.{Vehicle}
-use Rattle.rules.specs.Words.{_and_, _or_, at, part, first, pass}
+use Rattle.rules.specs.Words.{_and_, _or_, at, part, first}
 use Rattle.rules.specs.Units.{fastest, steepest, moving, rise, start, stop}
-use Rattle.rules.specs.Corrections.{closing, role-of, first-at}
+use Rattle.rules.specs.Corrections.{first-at}
 use Rattle.rules.specs.Refusals.{speed, step, ends, no-gear, checks, bad, seconds-fault}
-use Rattle.rules.specs.Vocabulary.{IsTrip, role-at}
 use Rattle.rules.proofs.Laws.Words.{clash, by-test, by-order, by-eq, both, and-no, or-left, or-right, at-part, length-part}
 use Rattle.rules.proofs.Laws.Range.{natAbs-gap}
 use Rattle.rules.proofs.Laws.Walk.{Left, again}
-use Rattle.rules.proofs.Laws.Trips.{trip-of, trip-start, start-le, stop-le, stop-after, stop-standing}
-use Rattle.rules.proofs.Laws.Closing.{closing-part}
-use Rattle.rules.proofs.Laws.Cards.{first-at-is}
+use Rattle.rules.proofs.Laws.Trips.{trip-of, start-le, stop-le, stop-after, stop-standing}
 use Rattle.rules.proofs.Laws.Checks.{listed, step-passed}
-use Rattle.gears.specs.Choosing.{first-of}
-use Rattle.trips.specs.Ready.{Aligned, Paced}
-use Rattle.trips.specs.Trip.{AllMoving, RunFrom, on-way}
-use Rattle.trips.proofs.Clutch.{rise-here}
+use Rattle.trips.specs.Trip.{AllMoving}
 use Rattle.trips.proofs.Closing.{Closing, run-start}
 use Rattle.checks.specs.Calm.{Stands}
-use Rattle.checks.specs.Want.{Resting, Level, Ahead, OnWay, LowestAt}
+use Rattle.checks.specs.Want.{Resting, Level, Ahead, Through, LowestAt}
 
 -- ---- a span that passes 4 to 9
 
@@ -79,63 +62,6 @@ module _ (car : Vehicle) (vs hs : List ℕ) (lo hi : ℕ) (e : seconds-fault car
       step-to = λ i x y. step-small car vs hs lo i x (omega arith) (step-passed car vs hs lo hi e (suc i) (omega arith) y);
     }
 
--- ---- a second on the way through its trip
-
-and-yes : (b : Bool) → b and true ≡ b
-unfolding _and_
-and-yes true = refl
-and-yes false = refl
-
--- nothing is left of the way to a run that has begun
-left-none : (run done : ℕ) → leb (run - done) 0 ≡ leb run done
-left-none run done =
-    by-order done run
-    (λ l. lt-leb (run - done) 0 (omega arith) ∙ sym (lt-leb run done l))
-    (λ l. le-leb (run - done) 0 (omega arith) ∙ sym (le-leb run done l))
-
--- one second, with the speed that follows
-pub one-aligned : (v next h g : ℕ) → Aligned (v ∷ next ∷ []) (h ∷ []) (g ∷ [])
-one-aligned v next h g = record { speeds = refl; gears = refl }
-
-module _ {vs hs : List ℕ} {a b run i : ℕ} (W : OnWay vs hs a b run i) where
-  its-trip : IsTrip vs a b
-  its-trip = record { some-second = omega (arith, W .since, W .until); inside = W .trip .moves; before = W .trip .before; after = W .trip .after }
-
-  closes-here : closing (drop i vs) ≡ leb run (i - a)
-  closes-here =
-      let n = length-part vs a (suc b) (W .trip .inside) in
-      sym (closing-part vs its-trip (omega (arith, W .trip .inside)) i (W .since) (W .until)) ∙ W .closes .run (i - a) (omega (arith, W .since, W .until, n))
-
-  -- its speed with the one that follows: D of the two is its own
-  module _ {v next : ℕ} (here : v ≡ at vs i) (after : next ≡ at vs (i + 1)) where
-    one-rise : rise (v ∷ next ∷ []) 0 ≡ rise vs i
-    one-rise = rise-here (v ∷ next ∷ []) 0 (lit< tt) ∙ rw (here, after) (sym (rise-here vs i (omega (arith, W .until, W .trip .inside))))
-
-    -- so that they can be chosen for
-    pub one-paced : (h : ℕ) → Paced (v ∷ next ∷ []) (h ∷ [])
-    one-paced h = record {
-      speed = λ j l. let z : j ≡ 0 = omega arith in rw (z, here) (W .trip .speed-to i (W .since) (W .until));
-      step = λ j l. let z : j ≡ 0 = omega arith in rw (z, one-rise) (W .trip .step-to i (W .since) (W .until));
-    }
-
-  module _ (car : Vehicle) (ks : List ℕ) (same : length ks ≡ length hs) {before : ℕ} (last : (i ≡ a → ⊥) → before ≡ first-at car vs ks (i - 1)) where
-    -- what it is in its trip
-    place-here : role-of car (eqb i a) (leb run (i - a)) before ≡ role-at car vs ks i
-    unfolding role-at role-of
-    place-here =
-        let s : start vs i ≡ a = trip-start vs its-trip i (W .since) (W .until) in
-        by-order a i
-        (λ l. rw (s, closes-here, ← last (λ z. omega arith)))
-        (λ l. let e : i ≡ a = omega (arith, W .since) in rw (s, eq-eqb i a e))
-
-    -- so that going through this one second gives its first choice
-    pub way-choice : {v next held left : ℕ} → v ≡ at vs i → next ≡ at vs (i + 1) → held ≡ at ks i → left ≡ run - (i - a) → {one : List ℕ}
-        → one ≡ pass (on-way car (v ∷ next ∷ []) (held ∷ []) (eqb i a) left before) 1 (0 ∷ []) → at one 0 ≡ first-at car vs ks i
-    unfolding pass on-way first-of
-    way-choice here after held left e =
-        rw (e, and-yes (eqb i a), left, left-none run (i - a), one-rise here after, here, held, place-here)
-        (sym (first-at-is car vs ks (same ∙ W .rooms) i (W .trip .moves i (W .since) (W .until))))
-
 -- ---- the seconds of a trip
 
 -- the closing run is looked for in the trip's own speeds
@@ -161,24 +87,20 @@ pub record Dry (car : Vehicle) (vs hs : List ℕ) (a i before : ℕ) : Type 0 wh
 pub dry-start : {car : Vehicle} {vs hs : List ℕ} {a before : ℕ} → Dry car vs hs a a before
 dry-start = record { last = λ z. absurd (z refl); good = λ lo j p q. absurd (omega arith) }
 
-module _ {car : Vehicle} {vs hs : List ℕ} {a i before : ℕ} (inv : Dry car vs hs a i before) {g : ℕ} (e : g ≡ first-at car vs hs i) where
-  -- a gear
-  pub dry-more : (g ≡ 0 → ⊥) → Dry car vs hs a (i + 1) g
+module _ {car : Vehicle} {vs hs : List ℕ} {a i before : ℕ} (inv : Dry car vs hs a i before) {to r last : ℕ} (T : Through car vs hs i to r last) where
+  -- none of them is refused
+  good-so-far : (lo j : ℕ) → a ≤ j → j < r → bad no-gear car vs hs lo j ≡ false
   unfolding bad
-  dry-more n = record {
-    last = λ z. let x : i + 1 - 1 ≡ i = omega arith in rw x e;
-    good = λ lo j p q. by-eq (omega arith) (λ (x : j ≡ i). rw x (and-no _ _ (ne-eqb (first-at car vs hs i) 0 (λ z. n (e ∙ z))))) (λ (l : j < i). inv .good lo j p l);
-  }
+  good-so-far lo j p q = by-order j i (λ l. inv .good lo j p l) (λ l. and-no _ _ (T .until .fails j l q))
 
-  -- none
-  pub dry-stops : {b : ℕ} → a ≤ i → i < b → moving (at vs i) ≡ true → g ≡ 0 → (lo : ℕ) → LowestAt (bad no-gear car vs hs lo) a b i
+  -- the whole part has gears
+  pub dry-more : to ≤ r → Dry car vs hs a to last
+  dry-more h = record { last = λ z. T .last-is; good = λ lo j p q. good-so-far lo j p (omega arith) }
+
+  -- a second of it has none
+  pub dry-stops : {b : ℕ} → a ≤ i → to ≤ b → r < to → moving (at vs r) ≡ true → (lo : ℕ) → LowestAt (bad no-gear car vs hs lo) a b r
   unfolding bad
-  dry-stops p q m z lo = record {
-    from = p;
-    to = omega arith;
-    fails = λ j x y. inv .good lo j x y;
-    holds = λ h. both m (eq-eqb (first-at car vs hs i) 0 (sym e ∙ z));
-  }
+  dry-stops p q h m lo = record { from = omega (arith, T .until .from); to = omega arith; fails = good-so-far lo; holds = λ l. both m (T .until .holds h) }
 
 pub dry-ends : {car : Vehicle} {vs hs : List ℕ} {a b i before : ℕ} → Dry car vs hs a i before → a ≤ b → i ≡ b → (lo : ℕ) → LowestAt (bad no-gear car vs hs lo) a b b
 dry-ends inv h e lo = record { from = h; to = omega arith; fails = λ j x y. inv .good lo j x (omega arith); holds = λ l. absurd (omega arith) }

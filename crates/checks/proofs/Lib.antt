@@ -7,5 +7,6 @@ pub mod Tests
 pub mod Calmness
 pub mod Pieces
 pub mod Wanting
+pub mod Way
 pub mod Dry
 pub mod Determined

@@ -1,15 +1,6 @@
 -- The checks of a span in one pass from left to right, where the table has one search a number: what a pass has to keep, and that it is enough.
 -- Assumes nothing.
-use Prim.Native.Nat.{ℕ, zero, suc, _+_, _-_, _≤_, _<_}
-use native.Mathlib.Nat.{suc-add, add-suc, add-zero, sub-self}
-use native.Mathlib.Numerals.{add-one}
-use native.Mathlib.Omega.{arith}
-use mathlib.Core.Path.{_≡_, refl, sym, _∙_}
-use mathlib.Core.Bool.{Bool, true, false}
-use mathlib.Core.Option.{Option, none, some}
-use mathlib.Core.List.{List, [], _∷_}
-use lib.Dec.{ltb}
-use borrow.Author.Tests.{ltb-true, ltb-false, lt-ltb, le-ltb}
+use Rattle.rules.proofs.Base.{ℕ, zero, suc, _+_, _-_, _≤_, _<_, suc-add, add-suc, add-zero, sub-self, add-one, arith, _≡_, refl, sym, _∙_, Bool, true, false, Option, none, some, List, [], _∷_, ltb, ltb-true, ltb-false, lt-ltb, le-ltb}
 use Rattle.rules.specs.declared.Vehicle.{Vehicle}
 use Rattle.rules.specs.Words.{if_then_else_, _and_, first}
 use Rattle.rules.specs.Refusals.{Fault, refuse-at, _orelse_, when, Check, check-number, checks, bad, fault-of}

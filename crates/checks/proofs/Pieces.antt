@@ -1,23 +1,16 @@
 -- A span with what is asked for at one second: what is found of the pieces before and after it, and of the second itself, is found of the span.
 -- Assumes nothing.
-use Prim.Native.Nat.{ℕ, suc, _+_, _-_, _≤_, _<_}
-use native.Mathlib.Nat.{le-trans}
-use native.Mathlib.Omega.{arith}
-use mathlib.Core.Path.{_≡_, sym, _∙_}
-use mathlib.Core.Logic.{_≢_}
-use mathlib.Core.Bool.{false}
-use mathlib.Core.Option.{none}
-use mathlib.Core.List.{List}
-use lib.ListN.{length}
+use Rattle.rules.proofs.Base.{ℕ, suc, _+_, _-_, _≤_, _<_, le-trans, arith, _≡_, sym, _∙_, _≢_, false, none, List, eqb, length, eqb-true, eqb-false}
 use Rattle.rules.specs.declared.Vehicle.{Vehicle}
 use Rattle.rules.specs.Words.{at}
+use Rattle.rules.specs.Units.{fastest, steepest}
 use Rattle.rules.specs.Refusals.{step, bad, seconds-fault}
-use Rattle.rules.proofs.Laws.Words.{by-order, by-eq}
+use Rattle.rules.proofs.Laws.Words.{by-test, by-order, by-eq}
 use Rattle.gears.specs.declared.Numbers.{Numbers}
 use Rattle.gears.specs.Parts.{Has}
 use Rattle.checks.specs.declared.Asked.{Asked}
 use Rattle.checks.specs.Asked.{speeds-with, holds-with}
-use Rattle.checks.specs.Calm.{Each, AtMost, Stands, HoldsPass, Quiet, OwnPasses}
+use Rattle.checks.specs.Calm.{Each, AtMost, Seen, Stands, HoldsPass, Quiet, OwnPasses}
 use Rattle.checks.proofs.Through.{length-speeds, speed-is, gear-is, speed-else, hold-else}
 use Rattle.checks.proofs.Calmness.{Good, second-good, nothing-wrong}
 use Rattle.checks.proofs.Tests.{step-out, step-small}
@@ -27,20 +20,22 @@ pieces : (P : ℕ → Type 0) (lo hi s : ℕ) → Each P lo s → (lo ≤ s → 
 pieces P lo hi s before here after i a b =
     by-order i s (λ h. before i a h) (λ h. by-eq {P = P i} {i = s} {j = i} h (λ e. rw (sym e) (here (omega arith) (omega arith))) (λ l. after i (omega arith) b))
 
+-- so a part of a span is quiet where its holds pass
+pub quiet-part : {k : Numbers} {ratio vs hs : List ℕ} {lo hi most step : ℕ} → Seen vs lo hi most step → most ≤ fastest → step ≤ steepest → (a b : ℕ) → lo ≤ a → b ≤ hi
+    → Each (HoldsPass k ratio vs hs) a b → Quiet k ratio vs hs a b
+quiet-part S m s a b from to held = record {
+  speeds = λ i x y. le-trans (S .speeds i (omega arith) (omega arith)) m;
+  steps = λ i x y. le-trans (S .steps i (omega arith) (omega arith)) s;
+  holds = held;
+}
+
 module _ (e : Asked) (vs : List ℕ) (lo hi : ℕ) where
-  -- ---- the highest speed
-
-  -- nothing of the span is asked for
-  pub most-apart : {r : ℕ} → hi ≤ e .second → AtMost (at vs) lo hi r → AtMost (at (speeds-with e vs)) lo hi r
-  most-apart h m i a b = rw (speed-else e vs i (λ z. omega arith)) (m i a b)
-
-  pub most-with : {before after two r : ℕ} → e .second < length vs → AtMost (at vs) lo (e .second) before → AtMost (at vs) (e .second + 1) hi after
-      → before ≤ two → after ≤ two → two ≤ r → e .speed ≤ r → AtMost (at (speeds-with e vs)) lo hi r
-  most-with {before} {after} {two} {r} in-trace b a x y z w =
-      pieces (λ i. at (speeds-with e vs) i ≤ r) lo hi (e .second)
-      (λ i p q. rw (speed-else e vs i (λ n. omega arith)) (le-trans (b i p q) (le-trans x z)))
-      (λ p q. rw (speed-is e vs in-trace) w)
-      (λ i p q. rw (speed-else e vs i (λ n. omega arith)) (le-trans (a i p q) (le-trans y z)))
+  -- no speed is above the highest that is written and the one that is asked for
+  pub most-asked : {m r : ℕ} → hi ≤ length vs → AtMost (at vs) lo hi m → m ≤ r → e .speed ≤ r → AtMost (at (speeds-with e vs)) lo hi r
+  most-asked {m} {r} inside most x y i a b =
+      by-test (eqb i (e .second))
+      (λ t. let z : i ≡ e .second = eqb-true _ _ t in rw (z, speed-is e vs (omega arith)) y)
+      (λ t. rw (speed-else e vs i (eqb-false _ _ t)) (le-trans (most i a b) x))
 
   -- ---- nothing is wrong
 

@@ -1,15 +1,6 @@
 -- The two scans of a trip, as a loop meets them: here, one second further, and at the end of the trace.
 -- Assumes nothing.
-use Prim.Native.Nat.{ℕ, zero, suc, _+_, _-_, _≤_, _<_}
-use native.Mathlib.Nat.{add-zero, add-suc, suc-add}
-use native.Mathlib.Numerals.{add-one}
-use native.Mathlib.Omega.{arith}
-use mathlib.Core.Path.{_≡_, sym, ap, _∙_}
-use mathlib.Core.Bool.{Bool, true, false, not}
-use mathlib.Core.List.{List}
-use lib.ListN.{length, drop, drop-of-length-le}
-use lib.Seq.{drop-cons}
-use borrow.Author.Tests.{not-true, not-false}
+use Rattle.rules.proofs.Base.{ℕ, zero, suc, _+_, _-_, _≤_, _<_, add-zero, add-suc, suc-add, add-one, arith, _≡_, sym, ap, _∙_, Bool, true, false, not, List, length, drop, drop-of-length-le, drop-cons, not-true, not-false}
 use Rattle.rules.specs.Words.{at}
 use Rattle.rules.specs.Units.{moving, start, run, stop}
 

@@ -1,11 +1,6 @@
 -- What is asked for changes its own second and no other, and no length.
 -- Assumes nothing.
-use Prim.Native.Nat.{ℕ, _<_}
-use mathlib.Core.Path.{_≡_}
-use mathlib.Core.Logic.{_≢_}
-use mathlib.Core.List.{List}
-use lib.ListN.{length, length-set}
-use lib.Seq.{getD-set-same, getD-set-other}
+use Rattle.rules.proofs.Base.{ℕ, _<_, _≡_, _≢_, List, length, length-set, getD-set-same, getD-set-other}
 use Rattle.rules.specs.Words.{at}
 use Rattle.checks.specs.declared.Asked.{Asked}
 use Rattle.checks.specs.Asked.{speeds-with, holds-with}

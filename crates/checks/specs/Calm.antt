@@ -39,6 +39,11 @@ AtMost f lo hi r = Each (λ i. f i ≤ r) lo hi
 abbrev pub gap-at : List ℕ → ℕ → ℕ
 gap-at vs i = (at vs (i - 1) - at vs i) + (at vs i - at vs (i - 1))
 
+-- no speed from lo up to hi is above `most`, and no step between two of them above `step`
+pub record Seen (vs : List ℕ) (lo hi most step : ℕ) : Type 0 where
+  pub speeds : AtMost (at vs) lo hi most
+  pub steps : AtMost (gap-at vs) (lo + 1) hi step
+
 -- the span has seconds, and the first and the last stand
 pub record Stands (vs : List ℕ) (lo hi : ℕ) : Type 0 where
   pub some : lo < hi

@@ -1,16 +1,19 @@
 -- What the check for want of a gear asks and finds.
 -- Assumes nothing.
-use Prim.Native.Nat.{ℕ, suc, _-_, _≤_, _<_}
+use Prim.Native.Nat.{ℕ, suc, _+_, _-_, _≤_, _<_}
 use mathlib.Core.Path.{_≡_}
 use mathlib.Core.Logic.{_≢_}
 use mathlib.Core.Bool.{Bool, true, false}
 use mathlib.Core.List.{List}
+use lib.Dec.{eqb}
 use lib.IntN.{natAbs}
 use lib.ListN.{length}
+use Rattle.rules.specs.declared.Vehicle.{Vehicle}
 use Rattle.rules.specs.Words.{at, part}
 use Rattle.rules.specs.Units.{fastest, steepest, moving, rise}
+use Rattle.rules.specs.Corrections.{first-at}
 use Rattle.trips.specs.Trip.{RunFrom}
-use Rattle.checks.specs.Calm.{Stands}
+use Rattle.checks.specs.Calm.{Each, Stands}
 
 -- a span that begins and ends with a standing second, or with the trace
 pub record Resting (vs : List ℕ) (lo hi : ℕ) : Type 0 where
@@ -50,3 +53,20 @@ pub record LowestAt (p : ℕ → Bool) (a b r : ℕ) : Type 0 where
   pub to : r ≤ b
   pub fails : (i : ℕ) → a ≤ i → i < r → p i ≡ false
   pub holds : r < b → p r ≡ true
+
+-- a part of a trip that ends at b, from second i up to r: at most 64 seconds. The second that is asked for is neither among them nor the one after, or
+-- the part is second i alone
+pub record PartEnd (asked i b r : ℕ) : Type 0 where
+  pub some : i < r
+  pub to : r ≤ b
+  pub few : r ≤ i + 64
+  pub apart : i ≤ asked → asked ≤ r → r ≡ i + 1
+
+-- the first choices of m seconds from second i on
+abbrev pub Firsts : Vehicle → List ℕ → List ℕ → ℕ → ℕ → List ℕ → Type 0
+Firsts car vs hs i m gs = Each (λ j. at gs j ≡ first-at car vs hs (i + j)) 0 m
+
+-- each first choice from second i up to r is a gear; r is `to`, and `last` the first choice before it, or there is no gear at r
+pub record Through (car : Vehicle) (vs hs : List ℕ) (i to r last : ℕ) : Type 0 where
+  pub until : LowestAt (λ j. eqb (first-at car vs hs j) 0) i to r
+  pub last-is : last ≡ first-at car vs hs (to - 1)

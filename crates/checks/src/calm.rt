@@ -1,17 +1,16 @@
-// A cheap test of a span: what it lets through passes checks 4 to 9, and what it does not is judged second by second. It is made of the pieces before and
-// after the second that is asked for, which are as they are written; that second itself is judged. Its loops over the speeds neither branch nor leave
-// early, so that several seconds are looked at at once.
+// A cheap test of a span: what it lets through passes checks 4 to 9, and what it does not is judged second by second. It is of the seconds as they are
+// written, but for the one that is asked for, which is judged. Its loops neither branch nor leave early, so that several seconds are looked at at once.
 ghost use mathlib.Core.Path.{_≡_};
 ghost use mathlib.Core.Bool.{true};
 ghost use mathlib.Core.Option.{none};
-ghost use Prim.Native.Nat.{_+_, _≤_};
+ghost use Prim.Native.Nat.{_≤_};
 ghost use Rattle.rules.specs.declared.Vehicle.{Vehicle};
 ghost use Rattle.rules.specs.Words.{at};
 ghost use Rattle.rules.specs.Refusals.{seconds-fault};
 ghost use Rattle.gears.specs.Parts.{Has};
 ghost use Rattle.checks.specs.Asked.{speeds-with, holds-with};
 ghost use Rattle.checks.specs.Checks.{TraceSecond, Spanned};
-ghost use Rattle.checks.specs.Calm.{Seconds, Around, Each, AtMost, gap-at, Stands, HoldsPass, Quiet, OwnPasses};
+ghost use Rattle.checks.specs.Calm.{Seconds, Seen, Around, Each, AtMost, Stands, HoldsPass, OwnPasses};
 use crate::Asked;
 use crate::Span;
 use crate::seconds::fault_at;
@@ -23,6 +22,12 @@ use gears::Numbers;
 use rules::FASTEST;
 use rules::STEEPEST;
 use rules::moving;
+
+// What a look at the speeds of a span finds: the highest, and the largest step.
+pub struct Sight {
+    pub fastest: u16,
+    pub steepest: u16,
+}
 
 // The larger of two.
 fn larger(a: u16, b: u16) -> u16
@@ -46,32 +51,30 @@ fn higher(a: u8, b: u8) -> u8
     a
 }
 
-// The highest speed of a span.
-fn fastest(speeds: &[u16], span: Span) -> u16
+// The highest speed of a span, and the largest step between two seconds of it, up or down, in one look.
+pub fn look(speeds: &[u16], span: Span) -> Sight
     requires { ⌜ Seconds (now speeds) (span .lo) (span .hi) ⌝ }
-    ensures { λ r. ⌜ AtMost (at (now (speeds .entry))) (span .lo) (span .hi) r ⌝ }
+    ensures { λ r. ⌜ Seen (now (speeds .entry)) (span .lo) (span .hi) (r .fastest) (r .steepest) ⌝ }
 {
-    let mut most: u16 = 0;
-    let mut i = span.lo;
+    let lo = span.lo;
+    if span.hi <= lo {
+        return Sight {
+            fastest: 0,
+            steepest: 0,
+        };
+    }
+    let mut most: u16 = speeds[lo];
+    let mut step: u16 = 0;
+    let mut i = lo + 1;
     while i < span.hi {
         most = larger(most, speeds[i]);
+        step = larger(step, gap(speeds[i - 1], speeds[i]));
         i += 1;
     }
-    most
-}
-
-// The largest step between two seconds of a span, up or down.
-fn steepest(speeds: &[u16], span: Span) -> u16
-    requires { ⌜ Seconds (now speeds) (span .lo) (span .hi) ⌝ }
-    ensures { λ r. ⌜ AtMost (gap-at (now (speeds .entry))) (span .lo + 1) (span .hi) r ⌝ }
-{
-    let mut most: u16 = 0;
-    let mut i = span.lo + 1;
-    while i < span.hi {
-        most = larger(most, gap(speeds[i - 1], speeds[i]));
-        i += 1;
+    Sight {
+        fastest: most,
+        steepest: step,
     }
-    most
 }
 
 // The highest hold of a span: 0 where no second is held.
@@ -112,28 +115,21 @@ fn each_passes<'a>(
     true
 }
 
-// Whether nothing is wrong with the speeds, the steps and the holds of a piece in which nothing is asked for, by the highest speed and the largest step
-// alone where no second is held.
-fn quiet<'a>(
+// The same. Where no second is held there is nothing to pass.
+fn holds_pass<'a>(
     k: Numbers,
     ratio: &'a [u16; 10],
     speeds: &'a [u16],
     holds: &'a [u8],
-    piece: Span,
+    span: Span,
 ) -> bool
-    requires { ⌜ Spanned k (now speeds) (now holds) (piece .lo) (piece .hi) ⌝ }
-    ensures { λ r. ⌜ (r ≡ true → Quiet k (now (ratio .entry)) (now (speeds .entry)) (now (holds .entry)) (piece .lo) (piece .hi)) ⌝ }
+    requires { ⌜ Spanned k (now speeds) (now holds) (span .lo) (span .hi) ⌝ }
+    ensures { λ r. ⌜ (r ≡ true → Each (HoldsPass k (now (ratio .entry)) (now (speeds .entry)) (now (holds .entry))) (span .lo) (span .hi)) ⌝ }
 {
-    if STEEPEST < steepest(speeds, piece) {
-        return false;
-    }
-    if FASTEST < fastest(speeds, piece) {
-        return false;
-    }
-    if most_held(holds, piece) == 0 {
+    if most_held(holds, span) == 0 {
         return true;
     }
-    each_passes(k, ratio, speeds, holds, piece)
+    each_passes(k, ratio, speeds, holds, span)
 }
 
 // Whether the second that is asked for passes, and the step from it to the next.
@@ -176,7 +172,7 @@ fn stands(speeds: &[u16], asked: Asked, span: Span) -> bool
     !moving(last)
 }
 
-// Whether nothing is wrong in the span.
+// Whether nothing is wrong in the span, of which `seen` is what a look at its speeds found.
 pub fn calm<'a>(
     k: Numbers,
     ratio: &'a [u16; 10],
@@ -184,46 +180,40 @@ pub fn calm<'a>(
     holds: &'a [u8],
     asked: Asked,
     span: Span,
+    seen: Sight,
 ) -> bool
-    requires { ⌜ Spanned k (now speeds) (now holds) (span .lo) (span .hi) × (span .lo ≤ asked .second) ⌝ }
+    requires { ⌜ Spanned k (now speeds) (now holds) (span .lo) (span .hi) × (span .lo ≤ asked .second) × Seen (now speeds) (span .lo) (span .hi) (seen .fastest) (seen .steepest) ⌝ }
     ensures { λ r. ⌜ (r ≡ true → (car : Vehicle) → Has car k (now (ratio .entry)) → none ≡ seconds-fault car (speeds-with asked (now (speeds .entry))) (holds-with asked (now (holds .entry))) (span .lo) (span .hi)) ⌝ }
 {
+    if STEEPEST < seen.steepest {
+        return false;
+    }
+    if FASTEST < seen.fastest {
+        return false;
+    }
     if !stands(speeds, asked, span) {
         return false;
     }
     let s = asked.second;
     if span.hi <= s {
-        return quiet(k, ratio, speeds, holds, span);
+        return holds_pass(k, ratio, speeds, holds, span);
     }
-    if !quiet(k, ratio, speeds, holds, Span { lo: span.lo, hi: s }) {
+    if !holds_pass(k, ratio, speeds, holds, Span { lo: span.lo, hi: s }) {
         return false;
     }
     let after = Span {
         lo: s + 1,
         hi: span.hi,
     };
-    if !quiet(k, ratio, speeds, holds, after) {
+    if !holds_pass(k, ratio, speeds, holds, after) {
         return false;
     }
     own_passes(k, ratio, speeds, asked, span)
 }
 
-// The highest speed of the span.
-pub fn fastest_asked(speeds: &[u16], asked: Asked, span: Span) -> u16
-    requires { ⌜ Seconds (now speeds) (span .lo) (span .hi) × (span .lo ≤ asked .second) ⌝ }
-    ensures { λ r. ⌜ AtMost (at (speeds-with asked (now (speeds .entry)))) (span .lo) (span .hi) r ⌝ }
+// The highest speed of the span, or a higher one where what is asked for takes that away.
+pub fn fastest_asked(asked: Asked, seen: Sight) -> u16
+    ensures { λ r. ⌜ (seen .fastest ≤ r) × (asked .speed ≤ r) ⌝ }
 {
-    let s = asked.second;
-    if span.hi <= s {
-        return fastest(speeds, span);
-    }
-    let before = fastest(speeds, Span { lo: span.lo, hi: s });
-    let after = fastest(
-        speeds,
-        Span {
-            lo: s + 1,
-            hi: span.hi,
-        },
-    );
-    larger(larger(before, after), asked.speed)
+    larger(seen.fastest, asked.speed)
 }

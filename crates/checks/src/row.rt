@@ -9,7 +9,9 @@ ghost use Rattle.checks.specs.Checks.{Spanned};
 ghost use Rattle.checks.specs.Want.{Resting};
 use crate::Asked;
 use crate::Span;
-use crate::seconds::check_seconds;
+use crate::calm::fastest_asked;
+use crate::calm::look;
+use crate::seconds::check_seen;
 use crate::want::check_gears;
 use gears::Numbers;
 use rules::Answer;
@@ -28,9 +30,11 @@ pub fn check_span<'a>(
     requires { ⌜ Parts k (now ratio) (now n) (now p) × Spanned k (now speeds) (now holds) (span .lo) (span .hi) × (span .lo ≤ asked .second) × Resting (speeds-with asked (now speeds)) (span .lo) (span .hi) ⌝ }
     ensures { λ r. ⌜ ((car : Vehicle) → Lent car k (now (ratio .entry)) (now (n .entry)) (now (p .entry)) → said r ≡ span-fault car (speeds-with asked (now (speeds .entry))) (holds-with asked (now (holds .entry))) (span .lo) (span .hi)) ⌝ }
 {
-    let seconds = check_seconds(k, ratio, speeds, holds, asked, span);
+    let seen = look(speeds, span);
+    let seconds = check_seen(k, ratio, speeds, holds, asked, span, seen);
     let Answer::Done = seconds else {
         return seconds;
     };
-    check_gears(k, ratio, n, p, speeds, holds, asked, span)
+    let most = fastest_asked(asked, seen);
+    check_gears(k, ratio, n, p, speeds, holds, asked, span, most)
 }

@@ -8,10 +8,13 @@ ghost use Rattle.rules.specs.Words.{at};
 ghost use Rattle.rules.specs.Refusals.{step, ends, checks, bad, said, seconds-fault};
 ghost use Rattle.gears.specs.Parts.{Has};
 ghost use Rattle.checks.specs.Asked.{speeds-with, holds-with};
+ghost use Rattle.checks.specs.Calm.{Seen};
 ghost use Rattle.checks.specs.Checks.{fault-no, kept, hold-checks, HeldGear, TraceSecond, Spanned};
 use crate::Asked;
 use crate::Span;
+use crate::calm::Sight;
 use crate::calm::calm;
+use crate::calm::look;
 use gears::Numbers;
 use gears::engine;
 use gears::not_driven;
@@ -178,6 +181,25 @@ pub fn judge_seconds<'a>(
 }
 
 // Checks 4 to 9 on the seconds of a span, of what is asked for. Where a cheap test finds nothing wrong, no second is judged.
+pub fn check_seen<'a>(
+    k: Numbers,
+    ratio: &'a [u16; 10],
+    speeds: &'a [u16],
+    holds: &'a [u8],
+    asked: Asked,
+    span: Span,
+    seen: Sight,
+) -> Answer
+    requires { ⌜ Spanned k (now speeds) (now holds) (span .lo) (span .hi) × (span .lo ≤ asked .second) × Seen (now speeds) (span .lo) (span .hi) (seen .fastest) (seen .steepest) ⌝ }
+    ensures { λ r. ⌜ ((car : Vehicle) → Has car k (now (ratio .entry)) → said r ≡ seconds-fault car (speeds-with asked (now (speeds .entry))) (holds-with asked (now (holds .entry))) (span .lo) (span .hi)) ⌝ }
+{
+    if calm(k, ratio, speeds, holds, asked, span, seen) {
+        return Answer::Done;
+    }
+    judge_seconds(k, ratio, speeds, holds, asked, span)
+}
+
+// The same, with a look at the speeds.
 pub fn check_seconds<'a>(
     k: Numbers,
     ratio: &'a [u16; 10],
@@ -189,8 +211,6 @@ pub fn check_seconds<'a>(
     requires { ⌜ Spanned k (now speeds) (now holds) (span .lo) (span .hi) × (span .lo ≤ asked .second) ⌝ }
     ensures { λ r. ⌜ ((car : Vehicle) → Has car k (now (ratio .entry)) → said r ≡ seconds-fault car (speeds-with asked (now (speeds .entry))) (holds-with asked (now (holds .entry))) (span .lo) (span .hi)) ⌝ }
 {
-    if calm(k, ratio, speeds, holds, asked, span) {
-        return Answer::Done;
-    }
-    judge_seconds(k, ratio, speeds, holds, asked, span)
+    let seen = look(speeds, span);
+    check_seen(k, ratio, speeds, holds, asked, span, seen)
 }

@@ -1,12 +1,6 @@
 -- A list copied into the front of a room, one place a turn.
 -- Assumes nothing.
-use mathlib.Core.Path.{_≡_, refl, _∙_}
-use mathlib.Core.List.{List, _++_}
-use Prim.Native.Nat.{ℕ, suc, _+_, _<_, _≤_}
-use native.Mathlib.Numerals.{add-one}
-use native.Mathlib.Omega.{arith}
-use lib.ListN.{length, take, drop, set, getD, length-set}
-use lib.Seq.{take-suc, drop-cons, take-all, append-snoc, set-at, length-take-le}
+use Rattle.rules.proofs.Base.{_≡_, refl, _∙_, List, _++_, ℕ, suc, _+_, _<_, _≤_, add-one, arith, length, take, drop, set, getD, length-set, take-suc, drop-cons, take-all, append-snoc, set-at, length-take-le}
 use Rattle.rules.specs.Job.{filled}
 
 -- the first i places are the list's, those behind them as they were

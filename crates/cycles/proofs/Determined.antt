@@ -1,9 +1,6 @@
 -- Each public function's contract allows one outcome. `Reads` is the contract's own reading, which the check makes of the clauses.
 -- Assumes nothing.
-use mathlib.Core.Path.{_≡_, refl, sym, _∙_}
-use mathlib.Core.List.{List}
-use Prim.Native.Nat.{ℕ}
-use denote.Ref.{now}
+use Rattle.rules.proofs.Base.{refl, sym, _∙_, List, ℕ, now}
 use Rattle.rules.proofs.Laws.Refusals.{said-once}
 use Rattle.once.specs.Determined.{Determined, DeterminedAs}
 use Rattle.cycles.proofs.filling.fill.Kinds as fill-kinds

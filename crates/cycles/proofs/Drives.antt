@@ -1,21 +1,13 @@
 -- A trace that is no longer than the longest, never too fast or too steep, and at rest at both ends, passes the checks that look at the trace alone; so
 -- does a part of it that begins and ends at rest.
 -- Assumes nothing.
-use Prim.Native.Nat.{ℕ, zero, suc, _+_, _-_, _≤_, _<_}
-use native.Mathlib.Nat.{add-zero, add-suc}
-use native.Mathlib.Omega.{arith}
-use mathlib.Core.Path.{_≡_, refl, ap, _∙_}
-use mathlib.Core.Bool.{Bool, true, false, not}
-use mathlib.Core.Option.{Option, none}
-use mathlib.Core.List.{List, [], _∷_}
-use lib.Dec.{ltb, eqb}
-use lib.ListN.{length, getD}
-use borrow.Author.Tests.{lt-ltb, le-ltb, le-leb, eqb-true}
+use Rattle.rules.proofs.Base.{ℕ, zero, suc, _+_, _-_, _≤_, _<_, add-zero, add-suc, arith, _≡_, refl, ap, _∙_, true, false, not, none, List, eqb, length, lt-ltb, le-ltb, le-leb, eqb-true}
 use Rattle.rules.specs.declared.Vehicle.{Vehicle}
-use Rattle.rules.specs.Words.{if_then_else_, _and_, _or_, within, at, part, first}
+use Rattle.rules.specs.Words.{_and_, _or_, within, at, part, first}
 use Rattle.rules.specs.Units.{longest, moving}
-use Rattle.rules.specs.Refusals.{Fault, refuse-at, _orelse_, when, trace-fault, Check, speed, step, ends, check-number, bad, fault-of}
-use Rattle.rules.proofs.Laws.Words.{by-test, and-no, first-none, length-part, at-part}
+use Rattle.rules.specs.Refusals.{refuse-at, trace-fault, Check, speed, step, ends, check-number, bad, fault-of}
+use Rattle.rules.proofs.Laws.Words.{by-test, and-no, length-part, at-part}
+use Rattle.rules.proofs.Laws.Searches.{first-none}
 use Rattle.rules.proofs.Laws.Checks.{none-orelse, none-when}
 use Rattle.cycles.specs.Parts.{trace-checks}
 use Rattle.cycles.proofs.Table.{Near}

@@ -1,9 +1,6 @@
 -- The two ways out of a filling: refused, with nothing written, or written.
 -- Assumes nothing.
-use Prim.Native.Nat.{ℕ}
-use mathlib.Core.Path.{_≡_, sym, ap, _∙_}
-use mathlib.Core.Option.{Option, none}
-use mathlib.Core.List.{List}
+use Rattle.rules.proofs.Base.{ℕ, _≡_, sym, ap, _∙_, Option, none, List}
 use Rattle.rules.specs.declared.Refusal.{Refusal}
 use Rattle.rules.specs.declared.Answer.{Answer}
 use Rattle.rules.specs.declared.Answer.the-variants.{Done, Refused}

@@ -6,3 +6,4 @@ pub mod Table
 pub mod Drives
 pub mod Theorems
 pub mod Determined
+pub mod Demands

@@ -1,19 +1,9 @@
 -- What the refusals and the parts of the cycle come to.
 -- Assumes nothing.
-use Prim.Native.Nat.{ℕ, zero, suc, _+_, _-_, _≤_, _<_}
-use native.Mathlib.Nat.{le-of-suc-le-suc, not-suc-le-zero}
-use native.Mathlib.Omega.{arith}
-use mathlib.Core.Path.{_≡_, refl}
-use mathlib.Core.Logic.{_≢_}
-use mathlib.Core.Option.{Option, none, some}
-use mathlib.Core.List.{List, []}
-use lib.ListN.{length}
-use lib.Dec.{ltb, lit≤}
-use borrow.Author.Tests.{lt-ltb, le-ltb, ltb-false}
-use Rattle.rules.specs.Words.{at, part}
+use Rattle.rules.proofs.Base.{ℕ, zero, suc, _+_, _-_, _≤_, _<_, arith, _≡_, refl, _≢_, Option, none, some, List, [], length, ltb, lit≤, lt-ltb, le-ltb, ltb-false}
+use Rattle.rules.specs.Words.{part}
 use Rattle.rules.specs.Refusals.{Fault, refuse-at, _orelse_, when, left}
 use Rattle.rules.proofs.Laws.Checks.{orelse-none, when-none}
-use Rattle.cycles.specs.declared.parts.Stretch.{Stretch}
 use Rattle.cycles.specs.Parts.{cycle-seconds, first-second, last-second, fill-fault, places, stretch, part-seconds}
 
 -- ---- the refusals

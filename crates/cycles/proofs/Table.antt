@@ -1,13 +1,6 @@
 -- The cycle's rules at each second, by one test that is computed over the whole table, one second after the other.
 -- Assumes nothing.
-use Prim.Native.Nat.{ℕ, zero, suc, _+_, _≤_, _<_}
-use native.Mathlib.Nat.{add-zero, zero-add, add-suc, suc-add, le-of-suc-le-suc, not-suc-le-zero}
-use mathlib.Core.Path.{_≡_, refl, sym, _∙_, subst}
-use mathlib.Core.Bool.{Bool, true, false, not}
-use mathlib.Core.List.{List, [], _∷_, _++_}
-use lib.Dec.{leb, eqb}
-use lib.ListN.{length, getD}
-use borrow.Author.Tests.{leb-true, not-true}
+use Rattle.rules.proofs.Base.{ℕ, zero, suc, _+_, _≤_, _<_, add-zero, zero-add, add-suc, suc-add, le-of-suc-le-suc, not-suc-le-zero, _≡_, refl, sym, _∙_, subst, Bool, true, false, not, List, [], _∷_, leb, eqb, length, leb-true, not-true}
 use Rattle.rules.specs.Words.{if_then_else_, _and_, _or_, at}
 use Rattle.rules.specs.Units.{moving}
 use Rattle.rules.proofs.Laws.Words.{and-left, and-right}

@@ -1,14 +1,6 @@
 -- A stretch of a room that is changed from left to right, one place a turn.
 -- Assumes nothing.
-use Prim.Native.Nat.{ℕ, suc, _+_, _≤_, _<_}
-use native.Mathlib.Omega.{arith}
-use native.Mathlib.Nat.{le-of-suc-le-suc}
-use native.Mathlib.Numerals.{add-one}
-use mathlib.Core.Path.{_≡_, refl, sym, subst, _∙_}
-use mathlib.Core.List.{List}
-use lib.ListN.{length, set, getD, length-set}
-use lib.Seq.{getD-set-same, getD-set-other}
-use Rattle.rules.specs.Words.{at}
+use Rattle.rules.proofs.Base.{ℕ, _+_, _≤_, _<_, arith, _≡_, refl, subst, _∙_, List, length, set, length-set, getD-set-same, getD-set-other}
 use Rattle.rules.proofs.Laws.Words.{by-eq}
 use Rattle.downscale.specs.Closed.{Changed}
 

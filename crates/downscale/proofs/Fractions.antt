@@ -1,12 +1,6 @@
 -- Annex 1's steps in closed form, as fractions: one law for both stretches.
 -- Assumes nothing.
-use Prim.Native.Nat.{ℕ, zero, suc, _+_, _-_, _*_, _≤_, _<_}
-use native.Mathlib.Nat.{add-zero, add-comm, add-mul}
-use native.Mathlib.Omega.{arith}
-use mathlib.Core.Path.{_≡_, refl, sym, ap, _∙_}
-use mathlib.Core.List.{List, _++_}
-use lib.ListN.{length, getD}
-use lib.IntN.{ℤ, pos, negℤ, _+ℤ_, _-ℤ_, _*ℤ_, +ℤ-assoc, +ℤ-comm, pos-+ℤ-pos, pos-*ℤ-pos}
+use Rattle.rules.proofs.Base.{ℕ, zero, suc, _+_, _-_, _*_, _≤_, add-zero, add-comm, add-mul, arith, _≡_, refl, sym, ap, _∙_, ℤ, pos, negℤ, _+ℤ_, _-ℤ_, _*ℤ_, +ℤ-assoc}
 use Rattle.rules.specs.Words.{at}
 use Rattle.rules.proofs.Laws.Integers.{*ℤ-+ℤ, *ℤ-neg, add-back, pos-sub}
 use Rattle.cycles.specs.Cycle.{cycle, low, medium, high, extra-high}

@@ -6,3 +6,4 @@ pub mod Stepping
 pub mod ScaledRoom
 pub mod Theorems
 pub mod Determined
+pub mod Demands

@@ -1,11 +1,7 @@
 -- Rounding: how far it can go, that it does not go apart, and when it is exact.
 -- Assumes nothing.
-use Prim.Native.Nat.{ℕ, zero, suc, _+_, _-_, _*_, _/_, _≤_, _<_}
-use native.Mathlib.Nat.{sub-zero, add-zero, zero-mul, mul-comm, mul-left-comm, mul-add, add-mul, one-mul, mul-le-mul-left, mul-le-mul-right, le-div-iff-mul-le, div-lt-iff-lt-mul, div-mul-le-self, div-eq-of-lt-le, add-mul-div-right, mul-div-mul-left, le-trans}
-use native.Mathlib.Omega.{arith}
-use mathlib.Core.Path.{_≡_, refl, sym, ap, _∙_}
-use lib.IntN.{pos}
-use Rattle.downscale.specs.Steps.{nearest}
+use Rattle.rules.proofs.Base.{ℕ, _+_, _-_, _*_, _/_, _≤_, _<_, sub-zero, add-zero, zero-mul, mul-comm, mul-left-comm, mul-add, add-mul, one-mul, mul-le-mul-left, mul-le-mul-right, le-div-iff-mul-le, div-lt-iff-lt-mul, div-mul-le-self, div-eq-of-lt-le, add-mul-div-right, mul-div-mul-left, le-trans, arith, _≡_, sym, ap, _∙_}
+use Rattle.rules.specs.Words.{nearest}
 use Rattle.downscale.specs.Closed.{drawn}
 use Rattle.downscale.proofs.Fractions.{drawn-rest}
 
@@ -24,26 +20,26 @@ doubled-next m w = add-mul m 1 (2 * w) ∙ rw (doubled m w, one-mul (2 * w))
 
 module _ (w : ℕ) (h : 1 ≤ w) where
   -- what is at most m wholes rounds to at most m
-  pub nearest-most : (n m : ℕ) → n ≤ w * m → nearest (pos n) w ≤ m
+  pub nearest-most : (n m : ℕ) → n ≤ w * m → nearest n w ≤ m
   unfolding nearest
   nearest-most n m l =
       let k : (2 * n + w) / (2 * w) < m + 1 = div-lt-iff-lt-mul {k = 2 * w} {x = 2 * n + w} {y = m + 1} (omega arith) .1 (rw (doubled-next m w) (omega arith)) in
       omega arith
 
   -- v wholes round to v
-  pub nearest-exact : (v : ℕ) → nearest (pos (w * v)) w ≡ v
+  pub nearest-exact : (v : ℕ) → nearest (w * v) w ≡ v
   unfolding nearest
   nearest-exact v = div-eq-of-lt-le (2 * w) (rw (doubled v w) (omega arith)) (rw (doubled-next v w) (omega arith))
 
   -- what is at most d wholes above rounds to at most d above
-  pub nearest-near : (a b d : ℕ) → a ≤ b + w * d → nearest (pos a) w ≤ nearest (pos b) w + d
+  pub nearest-near : (a b d : ℕ) → a ≤ b + w * d → nearest a w ≤ nearest b w + d
   unfolding nearest
   nearest-near a b d l =
       let e : (2 * b + w + d * (2 * w)) / (2 * w) ≡ (2 * b + w) / (2 * w) + d = add-mul-div-right (2 * b + w) d (omega arith) in
       rw (← e) (div-mono (2 * w) (omega arith) (rw (doubled d w) (omega arith)))
 
   -- a fraction written larger rounds to the same
-  pub nearest-same : (c n : ℕ) → 0 < c → nearest (pos (c * n)) (c * w) ≡ nearest (pos n) w
+  pub nearest-same : (c n : ℕ) → 0 < c → nearest (c * n) (c * w) ≡ nearest n w
   unfolding nearest
   nearest-same c n l =
       let e : 2 * (c * n) + c * w ≡ c * (2 * n + w) = sym (mul-add c (2 * n) w ∙ rw (mul-left-comm c 2 n)) in

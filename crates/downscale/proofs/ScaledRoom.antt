@@ -1,20 +1,9 @@
 -- The room as both ways leave it is the scaled cycle.
 -- Assumes nothing.
-use Prim.Native.Nat.{ℕ, suc, _+_, _-_, _*_, _≤_, _<_}
-use native.Mathlib.Nat.{zero-add, le-refl}
-use native.Mathlib.Omega.{arith}
-use mathlib.Core.Path.{_≡_, refl, sym, ap, _∙_}
-use mathlib.Core.Bool.{Bool, true, false, not}
-use mathlib.Core.Option.{Option, none}
-use mathlib.Core.List.{List, _++_, append-nil}
-use lib.ListN.{length, drop}
-use lib.Seq.{drop-length, ext-getD}
-use lib.Dec.{ltb, eqb, leb, lit≤}
-use lib.IntN.{pos, natAbs}
-use borrow.Author.Tests.{ltb-false, eqb-true, not-false, le-leb, lt-leb}
-use Rattle.rules.specs.Words.{if_then_else_, _and_, within, at, table}
+use Rattle.rules.proofs.Base.{ℕ, _+_, _-_, _*_, _≤_, _<_, zero-add, arith, _≡_, refl, sym, ap, _∙_, not, none, List, append-nil, length, drop-length, ext-getD, ltb, eqb, lit≤, pos, natAbs, ltb-false, eqb-true, not-false, le-leb, lt-leb}
+use Rattle.rules.specs.Words.{_and_, within, nearest, at}
 use Rattle.rules.specs.Job.{filled}
-use Rattle.rules.specs.Refusals.{refuse-at, _orelse_, when, left}
+use Rattle.rules.specs.Refusals.{left}
 use Rattle.rules.proofs.Laws.Words.{by-order, by-eq, length-table, at-table}
 use Rattle.rules.proofs.Laws.Checks.{orelse-none, when-none}
 use Rattle.rules.proofs.Laws.Integers.{pos-sub}
@@ -22,9 +11,9 @@ use Rattle.cycles.specs.Cycle.{cycle}
 use Rattle.cycles.specs.Parts.{fill-room}
 use Rattle.cycles.proofs.Stretches.{accepted}
 use Rattle.cycles.proofs.Table.{length-cycle}
-use Rattle.downscale.specs.Steps.{own, steps, rise, peak, correction, fall, nearest, by-stretch, scaled-at, scaled, down-fault}
+use Rattle.downscale.specs.Steps.{own, steps, rise, peak, fall, by-stretch, scaled-at, scaled, down-fault}
 use Rattle.downscale.specs.Closed.{drawn, drawn-speed, Drawing, Changed, Stepping}
-use Rattle.downscale.proofs.Fractions.{begins, top, foot, drawn-rest, rise-closed, peak-closed, correction-closed, fall-closed}
+use Rattle.downscale.proofs.Fractions.{begins, top, drawn-rest, rise-closed, peak-closed, correction-closed, fall-closed}
 use Rattle.downscale.proofs.Rounding.{nearest-exact}
 use Rattle.downscale.proofs.Stepping.{left-at}
 
@@ -79,8 +68,8 @@ length-scaled f = length-table (scaled-at f) 0 1801
 
 module _ (f : ℕ) (room : List ℕ) (n : length room ≡ 1801)
     (a : (j : ℕ) → j < 1533 → at room j ≡ at cycle j)
-    (b : (j : ℕ) → 1533 ≤ j → j < 1725 → at room j ≡ nearest (rise f (j - 1533)) 1000)
-    (c : (j : ℕ) → 1725 ≤ j → j < 1763 → at room j ≡ nearest (fall f (j - 1724)) 487000)
+    (b : (j : ℕ) → 1533 ≤ j → j < 1725 → at room j ≡ nearest (natAbs (rise f (j - 1533))) 1000)
+    (c : (j : ℕ) → 1725 ≤ j → j < 1763 → at room j ≡ nearest (natAbs (fall f (j - 1724))) 487000)
     (d : (j : ℕ) → 1763 ≤ j → at room j ≡ at cycle j) where
   each : (j : ℕ) → at room j ≡ scaled-at f j
   unfolding scaled-at
@@ -98,11 +87,11 @@ module _ (f : ℕ) (room : List ℕ) (n : length room ≡ 1801)
 -- ---- the closed form
 
 -- each speed as the closed form has it, from the cycle's own
-pub rise-speed : (f j : ℕ) → f ≤ 500 → 1533 ≤ j → drawn-speed 1000 f 600 (at cycle j) ≡ nearest (rise f (j - 1533)) 1000
+pub rise-speed : (f j : ℕ) → f ≤ 500 → 1533 ≤ j → drawn-speed 1000 f 600 (at cycle j) ≡ nearest (natAbs (rise f (j - 1533))) 1000
 unfolding drawn-speed
 rise-speed f j h l = let e : 1533 + (j - 1533) ≡ j = omega arith in rw (rise-closed f h (j - 1533), e)
 
-pub fall-speed : (f j : ℕ) → f ≤ 500 → 1724 ≤ j → drawn-speed 487000 (713 * f) 826 (at cycle j) ≡ nearest (fall f (j - 1724)) 487000
+pub fall-speed : (f j : ℕ) → f ≤ 500 → 1724 ≤ j → drawn-speed 487000 (713 * f) 826 (at cycle j) ≡ nearest (natAbs (fall f (j - 1724))) 487000
 unfolding drawn-speed
 fall-speed f j h l = let e : 1724 + (j - 1724) ≡ j = omega arith in rw (fall-closed f h (j - 1724), e)
 
@@ -193,6 +182,6 @@ module _ (f : ℕ) (h : f ≤ 500) where
           (λ j l. y .before j (omega arith) ∙ x .before j (omega arith) ∙ same j)
           (λ j l k.
           y .before j k
-          ∙ by-eq l (λ s. x .before j (omega arith) ∙ same j ∙ at-stays 1000 f 600 (omega arith) (omega arith) (rw (← s) begins) ∙ rise-speed f j h l) (λ s. x .inside j s k ∙ ap (λ z. nearest z 1000) (rise-is (j - 1533))))
-          (λ j l k. y .inside j l k ∙ ap (λ z. nearest z 487000) (fall-is (j - 1724)))
+          ∙ by-eq l (λ s. x .before j (omega arith) ∙ same j ∙ at-stays 1000 f 600 (omega arith) (omega arith) (rw (← s) begins) ∙ rise-speed f j h l) (λ s. x .inside j s k ∙ ap (λ z. nearest (natAbs z) 1000) (rise-is (j - 1533))))
+          (λ j l k. y .inside j l k ∙ ap (λ z. nearest (natAbs z) 487000) (fall-is (j - 1724)))
           (λ j l. y .behind j l ∙ x .behind j (omega arith) ∙ same j)

@@ -1,16 +1,10 @@
 -- Annex 1's steps as the code takes them: at each second the sum is the numerator of the definition.
 -- Assumes nothing.
-use Prim.Native.Nat.{ℕ, suc, _+_, _-_, _*_, _≤_, _<_}
-use native.Mathlib.Nat.{le-refl, mul-le-mul-right}
-use native.Mathlib.Omega.{arith}
-use mathlib.Core.Path.{_≡_, refl, sym, ap, _∙_}
-use mathlib.Core.List.{List}
-use lib.ListN.{length, set}
-use lib.IntN.{pos}
-use Rattle.rules.specs.Words.{at}
+use Rattle.rules.proofs.Base.{ℕ, suc, _+_, _-_, _*_, _≤_, _<_, le-refl, arith, _≡_, sym, ap, _∙_, List, length, set, pos, natAbs}
+use Rattle.rules.specs.Words.{nearest, at}
 use Rattle.cycles.specs.Cycle.{cycle}
 use Rattle.cycles.proofs.Theorems.{never-fast}
-use Rattle.downscale.specs.Steps.{steps, nearest}
+use Rattle.downscale.specs.Steps.{steps}
 use Rattle.downscale.specs.Closed.{drawn, Drawing, Changed, Stepping}
 use Rattle.downscale.proofs.Fractions.{steps-closed}
 use Rattle.downscale.proofs.Rounding.{drawn-most}
@@ -18,7 +12,7 @@ use Rattle.downscale.proofs.Changes.{begin, more, upto}
 
 -- what the steps leave at a second
 abbrev pub left-at : ℕ → ℕ → ℕ → ℕ → ℕ → ℕ
-left-at first w k n j = nearest (steps first (pos n) (pos k) (j - first)) w
+left-at first w k n j = nearest (natAbs (steps first (pos n) (pos k) (j - first))) w
 
 -- the steps up to, not including, i are taken
 pub record Stepped (first end w k n : ℕ) (room₀ : List ℕ) (i before total : ℕ) (room : List ℕ) : Type 0 where
@@ -94,7 +88,7 @@ module _ {first end w k n : ℕ} {room₀ : List ℕ} {i before total : ℕ} {ro
         let m : s ≤ 65535 = omega (arith, never-fast i (omega (arith, h .in-cycle)), speed-is) in
         (h .draws .from, h .draws .to, rw sum-is (drawn-most w (h .p) (h .r) (h .draws .parts) s 65535 m (h .draws .speed)))
 
-    pub again : (v : ℕ) → v ≡ nearest (pos t) w → Stepped first end w k n room₀ (i + 1) s t (set room i v)
+    pub again : (v : ℕ) → v ≡ nearest t w → Stepped first end w k n room₀ (i + 1) s t (set room i v)
     again v g = record {
       p = h .p;
       r = h .r;
@@ -110,5 +104,5 @@ module _ {first end w k n : ℕ} {room₀ : List ℕ} {i before total : ℕ} {ro
       total-is = sum-is;
       changed =
           more (h .changed) (h .from) (omega (arith, h .long)) v
-          (g ∙ ap (λ (m : ℕ). nearest (pos m) w) (sum-is ∙ ap (drawn w (h .p) (h .r)) speed-is) ∙ ap (λ z. nearest z w) (sym (there i (omega (arith, h .from)))));
+          (g ∙ ap (λ (m : ℕ). nearest m w) (sum-is ∙ ap (drawn w (h .p) (h .r)) speed-is) ∙ ap (λ z. nearest (natAbs z) w) (sym (there i (omega (arith, h .from)))));
     }

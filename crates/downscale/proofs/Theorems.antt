@@ -1,33 +1,19 @@
 -- What a reader of request Eleven may conclude of the scaled cycle and of the two ways, each by name.
 -- Assumes nothing.
-use Prim.Native.Nat.{ℕ, suc, _+_, _-_, _*_, _≤_, _<_}
-use native.Mathlib.Nat.{zero-add, zero-mul, le-refl}
-use native.Mathlib.Omega.{arith}
-use mathlib.Core.Path.{_≡_, refl, sym, ap, _∙_}
-use mathlib.Core.Bool.{false}
-use mathlib.Core.Option.{Option, none, some}
-use mathlib.Core.List.{List}
-use lib.Dec.{lit<, lit≤}
-use lib.ListN.{length}
-use lib.Seq.{ext-getD}
-use lib.IntN.{ℤ, pos, _-ℤ_}
-use denote.Ref.{now}
-use denote.Triple.Clauses.{Lasts, atExit}
-use contract.Lifetimes.{Lfts}
-use borrow.Fn.Kinds.{Dens, endedOf, resT}
+use Rattle.rules.proofs.Base.{ℕ, suc, _+_, _-_, _*_, _≤_, _<_, arith, _≡_, sym, _∙_, none, some, List, lit<, lit≤, length, ext-getD, pos, _-ℤ_, now, Lasts, atExit, Lfts, Dens, endedOf, resT}
 use Rattle.rules.specs.declared.Vehicle.{Vehicle}
 use Rattle.rules.specs.declared.Answer.{Answer}
 use Rattle.rules.specs.Refusals.{Fault, said, left}
 use Rattle.rules.proofs.Laws.Refusals.{said-once}
-use Rattle.rules.specs.Words.{at, part, table}
-use Rattle.rules.specs.Units.{longest, moving}
-use Rattle.rules.proofs.Laws.Words.{by-order, by-eq, length-table, at-table}
+use Rattle.rules.specs.Words.{at, part}
+use Rattle.rules.specs.Units.{longest}
+use Rattle.rules.proofs.Laws.Words.{by-order, by-eq}
 use Rattle.cycles.specs.Cycle.{cycle}
 use Rattle.cycles.specs.Parts.{trace-checks, first-second, last-second}
 use Rattle.cycles.proofs.Table.{Near}
 use Rattle.cycles.proofs.Drives.{Driven, passes, driven-part}
 use Rattle.cycles.proofs.Theorems.{whole, never-fast, never-steep, parts-rest}
-use Rattle.downscale.specs.Steps.{own, rise, fall, nearest, by-stretch, scaled-at, scaled, down-fault, down-room}
+use Rattle.downscale.specs.Steps.{own, rise, fall, scaled-at, scaled, down-fault, down-room}
 use Rattle.downscale.specs.Closed.{drawn, drawn-speed, closed-at}
 use Rattle.downscale.proofs.Fractions as fractions
 use Rattle.downscale.proofs.Rounding.{nearest-most, nearest-near, nearest-same, nearest-exact, drawn-most, drawn-near, drawn-none}

@@ -1,13 +1,12 @@
 -- The closed form: a scaled speed from the cycle's own speed at that second alone, with one division. And what the functions below the call ask and do.
 -- Assumes nothing.
-use Prim.Native.Nat.{ℕ, suc, _+_, _-_, _*_, _≤_, _<_}
+use Prim.Native.Nat.{ℕ, _+_, _-_, _*_, _≤_, _<_}
 use mathlib.Core.Path.{_≡_}
 use mathlib.Core.List.{List}
 use lib.ListN.{length}
-use lib.IntN.{pos}
-use Rattle.rules.specs.Words.{at}
+use Rattle.rules.specs.Words.{nearest, at}
 use Rattle.cycles.specs.Cycle.{cycle}
-use Rattle.downscale.specs.Steps.{nearest, by-stretch}
+use Rattle.downscale.specs.Steps.{by-stretch}
 
 -- a speed v drawn by p parts of w towards a speed r, which itself stays: numerator over w
 unfoldable pub drawn : ℕ → ℕ → ℕ → ℕ → ℕ
@@ -15,7 +14,7 @@ drawn w p r v = (w - p) * v + p * r
 
 -- the same, rounded
 unfoldable pub drawn-speed : ℕ → ℕ → ℕ → ℕ → ℕ
-drawn-speed w p r v = nearest (pos (drawn w p r v)) w
+drawn-speed w p r v = nearest (drawn w p r v) w
 
 -- in the rise f parts of 1,000 towards 60.0, the cycle at 1533; in the fall 713 f parts of 487,000 towards 82.6, the cycle at 1763
 unfoldable pub closed-at : ℕ → ℕ → ℕ

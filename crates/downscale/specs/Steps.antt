@@ -1,21 +1,15 @@
 -- Document 000, Annex 1, "Downscaling procedure for Class 3 vehicles", with exact fractions, and document 02, request Eleven.
 -- Assumes nothing.
-use Prim.Native.Nat.{ℕ, zero, suc, _+_, _-_, _*_, _/_}
+use Prim.Native.Nat.{ℕ, zero, suc, _+_, _-_}
 use mathlib.Core.Bool.{not}
 use mathlib.Core.Option.{Option}
 use mathlib.Core.List.{List}
 use lib.ListN.{length}
 use lib.Dec.{ltb, eqb}
 use lib.IntN.{ℤ, pos, natAbs, _+ℤ_, _-ℤ_, _*ℤ_}
-use Rattle.rules.specs.Words.{if_then_else_, within, at, table}
+use Rattle.rules.specs.Words.{if_then_else_, within, nearest, at, table}
 use Rattle.rules.specs.Refusals.{Fault, refuse-at, _orelse_, when, left}
 use Rattle.cycles.specs.Cycle.{cycle}
-
--- ---- rounding, which is done once, at the end
-
--- the whole number nearest to n over d, halves up; n is never negative (theorems `rise-closed`, `fall-closed`)
-unfoldable pub nearest : ℤ → ℕ → ℕ
-nearest n d = (2 * natAbs n + d) / (2 * d)
 
 -- ---- step by step: a numerator over a denominator that never changes, nothing rounded on the way
 
@@ -50,9 +44,10 @@ fall f i = steps 1724 (pos 487 *ℤ peak f) (correction f) i
 unfoldable pub by-stretch : ℕ → ℕ → ℕ → ℕ → ℕ
 by-stretch i rising falling other = if within 1533 1724 i then rising else if within 1725 1762 i then falling else other
 
--- the scaled speed at a second; outside the stretches it is the cycle's own
+-- the scaled speed at a second, rounded once, to the nearest tenth, halves up; outside the stretches it is the cycle's own. No sum is negative (theorems
+-- `rise-closed`, `fall-closed`)
 unfoldable pub scaled-at : ℕ → ℕ → ℕ
-scaled-at f i = by-stretch i (nearest (rise f (i - 1533)) 1000) (nearest (fall f (i - 1724)) 487000) (at cycle i)
+scaled-at f i = by-stretch i (nearest (natAbs (rise f (i - 1533))) 1000) (nearest (natAbs (fall f (i - 1724))) 487000) (at cycle i)
 
 -- the scaled cycle, seconds 0 to 1800
 unfoldable pub scaled : ℕ → List ℕ

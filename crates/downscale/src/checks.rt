@@ -1,9 +1,9 @@
 // What both ways share: the refusals, and the rounding.
 ghost use mathlib.Core.Path.{_≡_};
 ghost use Prim.Native.Nat.{_*_, _≤_};
-ghost use lib.IntN.{pos};
+ghost use Rattle.rules.specs.Words.{nearest};
 ghost use Rattle.rules.specs.Refusals.{said};
-ghost use Rattle.downscale.specs.Steps.{nearest, down-fault};
+ghost use Rattle.downscale.specs.Steps.{down-fault};
 use rules::Answer;
 use rules::Refusal;
 
@@ -23,7 +23,7 @@ pub fn check(factor: u32, length: usize) -> Answer
 // The whole number nearest to sum over whole, halves up.
 pub fn nearest(sum: u64, whole: u64) -> u16
     requires { ⌜ (1 ≤ whole) × (whole ≤ 487000) × (sum ≤ whole * 65535) ⌝ }
-    ensures { λ r. ⌜ r ≡ nearest (pos sum) whole ⌝ }
+    ensures { λ r. ⌜ r ≡ nearest sum whole ⌝ }
 {
     ((2 * sum + whole) / (2 * whole)) as u16
 }

@@ -2,9 +2,10 @@
 ghost use mathlib.Core.Path.{_≡_};
 ghost use Prim.Native.Nat.{suc, _+_, _-_, _*_, _≤_};
 ghost use lib.ListN.{length};
-ghost use lib.IntN.{pos};
+ghost use lib.IntN.{pos, natAbs};
+ghost use Rattle.rules.specs.Words.{nearest};
 ghost use Rattle.rules.specs.Refusals.{said};
-ghost use Rattle.downscale.specs.Steps.{steps, nearest, down-fault, down-room};
+ghost use Rattle.downscale.specs.Steps.{steps, down-fault, down-room};
 ghost use Rattle.downscale.specs.Closed.{Changed, Stepping};
 use crate::checks::check;
 use crate::checks::nearest;
@@ -31,7 +32,7 @@ fn add_steps(
 ) -> u64
     requires { ⌜ Stepping first end whole factor start sum (now room) ⌝ }
     ensures sum { λ r. ⌜ pos r ≡ steps first (pos sum) (pos factor) (end - 1 - first) ⌝ }
-    ensures room { λ r. ⌜ Changed (λ j. nearest (steps first (pos sum) (pos factor) (j - first)) whole) (suc first) end (now (room .entry)) (now (room .exit)) ⌝ }
+    ensures room { λ r. ⌜ Changed (λ j. nearest (natAbs (steps first (pos sum) (pos factor) (j - first))) whole) (suc first) end (now (room .entry)) (now (room .exit)) ⌝ }
 {
     let mut i = first + 1;
     let mut before = start;

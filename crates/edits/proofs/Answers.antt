@@ -1,15 +1,6 @@
 -- What is said of an edit: its row of checks begins with the opening and the second, and ends with the checks of its span.
 -- Assumes nothing.
-use Prim.Native.Nat.{ℕ, _+_, _≤_, _<_, min}
-use native.Mathlib.Omega.{arith}
-use mathlib.Core.Path.{_≡_, refl, sym, ap, _∙_}
-use mathlib.Core.Bool.{Bool, true, false, not}
-use mathlib.Core.Option.{Option}
-use mathlib.Core.List.{List}
-use lib.Dec.{eqb, ltb}
-use lib.ListN.{length, set}
-use lib.Seq.{set-getD}
-use borrow.Author.Tests.{lt-ltb, le-ltb, eqb-true}
+use Rattle.rules.proofs.Base.{ℕ, _+_, _≤_, _<_, min, arith, _≡_, refl, sym, ap, _∙_, Bool, true, false, not, Option, List, eqb, ltb, length, set, set-getD, lt-ltb, le-ltb, eqb-true}
 use Rattle.rules.specs.declared.Vehicle.{Vehicle}
 use Rattle.rules.specs.declared.Summary.{Summary}
 use Rattle.rules.specs.declared.Edit.{Edit}
@@ -21,9 +12,10 @@ use Rattle.rules.specs.declared.Answer.the-variants.{Done, Refused}
 use Rattle.rules.specs.Words.{at, _or_}
 use Rattle.rules.specs.Refusals.{Fault, said, refuse-at, _orelse_, when, not-driven, span-fault}
 use Rattle.rules.specs.Edit.{Span, showing, second, asked-speeds, asked-holds, span, asked-fault, edit-fault}
-use Rattle.rules.specs.Vocabulary.{none-held}
+use Rattle.rules.specs.Vocabulary.Edits.{none-held}
 use Rattle.rules.proofs.Laws.Words.{clash, by-test}
-use Rattle.rules.proofs.Laws.Edits.{own-checks, zero-as-over}
+use Rattle.rules.proofs.Laws.Edits.{own-checks}
+use Rattle.rules.proofs.Laws.Buttons.{zero-as-over}
 use Rattle.rules.proofs.Laws.Span.{span-kept}
 use Rattle.checks.specs.Asked.{speeds-with, holds-with}
 use Rattle.checks.proofs.Rows.{opening, Opened, after-opening, opening-first}

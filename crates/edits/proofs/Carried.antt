@@ -1,13 +1,6 @@
 -- An edit that no check refuses, carried out: what the sweep asks of the screen with its byte written, and that what is left is the screen of the definitions.
 -- Assumes nothing.
-use Prim.Native.Nat.{ℕ, suc, _+_, _-_, _≤_, _<_, min}
-use native.Mathlib.Numerals.{add-one}
-use native.Mathlib.Omega.{arith}
-use mathlib.Core.Path.{_≡_, refl, sym, ap, _∙_}
-use mathlib.Core.Logic.{inl}
-use mathlib.Core.Option.{none}
-use mathlib.Core.List.{List}
-use lib.ListN.{length}
+use Rattle.rules.proofs.Base.{ℕ, suc, _+_, _-_, _≤_, _<_, min, add-one, arith, _≡_, refl, sym, ap, _∙_, inl, none, List, length}
 use Rattle.rules.specs.declared.Vehicle.{Vehicle}
 use Rattle.rules.specs.declared.Summary.{Summary}
 use Rattle.rules.specs.declared.Edit.{Edit}
@@ -23,7 +16,8 @@ use Rattle.rules.proofs.Laws.Words.{by-order}
 use Rattle.rules.proofs.Laws.Checks.{Taken, taken, trace-in, rooms-in, vehicle-in}
 use Rattle.rules.proofs.Laws.Edits.{length-asked, length-holds, refused-alone, taken-asked, span-passes}
 use Rattle.rules.proofs.Laws.Span.{span-kept}
-use Rattle.rules.proofs.Laws.Summary.{counts, counts-by-range}
+use Rattle.rules.proofs.Laws.Summary.{counts}
+use Rattle.rules.proofs.Laws.Counted.{counts-by-range}
 use Rattle.gears.specs.Parts.{Lent, Parts, numbers-of}
 use Rattle.checks.proofs.Rows.{Opened, said-none, longest-is}
 use Rattle.cards.specs.Rework.{Range, Passes}

@@ -1,11 +1,7 @@
 -- What the contracts of `hold`, `release` and `mend` say, as the check reads them: each is one edit of the screen, of which rules/proofs/Demands has the
 -- demands, requests Nine and Twelve, and runs of edits.
 -- Assumes nothing.
-use mathlib.Core.Path.{_≡_, sym}
-use denote.Ref.{now}
-use denote.Triple.Clauses.{Lasts, atExit}
-use contract.Lifetimes.{Lfts}
-use borrow.Fn.Kinds.{Dens, endedOf, resT}
+use Rattle.rules.proofs.Base.{_≡_, sym, now, Lasts, atExit, Lfts, Dens, endedOf, resT}
 use Rattle.rules.specs.declared.Edit.the-variants.{Hold, Release, Mend}
 use Rattle.rules.specs.Edit.{showing}
 use Rattle.rules.proofs.Laws.Edits.{hold-no-speed, release-no-speed, mend-no-hold}

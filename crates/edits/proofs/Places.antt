@@ -1,13 +1,6 @@
 -- Where an edit lies in the trace that it asks for: from a standing second, or the trace's first, up to a standing one.
 -- Assumes nothing.
-use Prim.Native.Nat.{ℕ, suc, _+_, _-_, _≤_, _<_, min}
-use native.Mathlib.Numerals.{add-one}
-use native.Mathlib.Omega.{arith}
-use mathlib.Core.Path.{_≡_, refl, sym, ap, _∙_}
-use mathlib.Core.Logic.{_≢_}
-use mathlib.Core.Bool.{false}
-use mathlib.Core.List.{List}
-use lib.ListN.{length}
+use Rattle.rules.proofs.Base.{ℕ, suc, _+_, _-_, _≤_, _<_, min, add-one, arith, _≡_, refl, sym, ap, _∙_, _≢_, false, List, length}
 use Rattle.rules.specs.declared.Vehicle.{Vehicle}
 use Rattle.rules.specs.declared.Edit.{Edit}
 use Rattle.rules.specs.declared.Edit.the-variants.{Hold, Release, Mend}

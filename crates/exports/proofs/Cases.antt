@@ -1,21 +1,14 @@
 -- Sums done by hand: what the definitions give for floats and for whole exports, one table each, each under one theorem.
 -- Assumes nothing.
-use Prim.Native.Nat.{ℕ, suc, _+_, _*_, _^_}
-use mathlib.Core.Path.{_≡_, refl}
-use mathlib.Core.Bool.{Bool, true, false}
-use mathlib.Core.Option.{Option, none, some}
-use mathlib.Core.List.{List, [], _∷_, _++_, map}
-use lib.IntN.{ℤ, pos, negℤ}
-use lib.Count.{trailingZeros}
-use lib.Ieee.{odd, ofFields, ofBits}
-use Rattle.rules.specs.Words.{_and_}
+use Rattle.rules.proofs.Base.{ℕ, _*_, _^_, _≡_, refl, Option, none, some, List, [], _∷_, _++_, map, ℤ, pos, negℤ, trailingZeros, odd, ofFields, ofBits}
+use Rattle.rules.specs.Words.{nearest, _and_}
 use Rattle.rules.specs.Refusals.{Fault}
-use Rattle.rules.specs.Groups.{hand-on, demand}
+use Rattle.rules.specs.Groups.{early, hand-on, demand}
 use Rattle.rules.specs.Job.{read-fault}
 use Rattle.exports.specs.declared.Field.{Field}
-use Rattle.exports.specs.Floats.{four-bytes, float-of, finite, nearest, signed, scaled}
+use Rattle.exports.specs.Floats.{four-bytes, float-of, finite, signed, scaled}
 use Rattle.exports.specs.Fields.{F0, F1, F2, TM, units, in-bounds}
-use Rattle.exports.specs.Export.{none-yet, early, kind, float, finite-float, judged, coefficients-read, mass-read, end-read, of-kind, record-read, export-read, Numbers, numbers-of}
+use Rattle.exports.specs.Export.{none-yet, kind, float, finite-float, judged, coefficients-read, mass-read, end-read, of-kind, record-read, export-read, Numbers, numbers-of}
 
 -- ---- a float's bits, and its value in a field's units
 

@@ -1,8 +1,6 @@
 -- Each public function's contract allows one outcome. `Reads` is the contract's own reading, which the check makes of the clauses.
 -- Assumes nothing.
-use Prim.Native.Nat.{ℕ}
-use mathlib.Core.Path.{_≡_, refl, sym, _∙_}
-use lib.IntN.{ℤ, pos}
+use Rattle.rules.proofs.Base.{ℕ, _≡_, refl, sym, _∙_, pos}
 use Rattle.once.specs.Determined.{Determined}
 use Rattle.rules.proofs.Laws.Refusals.{said-once}
 use Rattle.exports.proofs.read_export.Kinds as read-kinds

@@ -5,5 +5,8 @@ pub mod RecordAnswers
 pub mod Once
 pub mod WholeExport
 pub mod Determined
+pub mod Told
+pub mod Accepted
+pub mod Demands
 pub mod Theorems
 pub mod Cases

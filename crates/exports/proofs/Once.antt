@@ -1,14 +1,6 @@
 -- Each kind exactly once: an export that is accepted has met both kinds, and its third record is the end.
 -- Assumes nothing.
-use Prim.Native.Nat.{ℕ}
-use native.Mathlib.Omega.{arith}
-use mathlib.Core.Path.{_≡_, refl, sym, _∙_}
-use mathlib.Core.Bool.{Bool, true, false, not}
-use mathlib.Core.List.{List}
-use lib.ListN.{length}
-use lib.Dec.{eqb}
-use lib.Ieee.{Float}
-use borrow.Author.Tests.{not-true}
+use Rattle.rules.proofs.Base.{ℕ, arith, _≡_, refl, sym, _∙_, Bool, true, false, not, List, length, eqb, Float, not-true}
 use Rattle.rules.specs.Words.{_and_, at}
 use Rattle.rules.proofs.Laws.Words.{by-test, by-order, and-left, and-right}
 use Rattle.rules.specs.Refusals.{Fault}
@@ -24,15 +16,15 @@ use Rattle.exports.proofs.RecordAnswers.{no-kind, by-kind}
 
 -- ---- a reading that came to its end went by each step
 
-never : {A : Type 0} {f : Fault} {a : A} {j : ℕ} {P : Type 0} → _≡_ {A = Read A} (refused f) (got a j) → P
+pub never : {A : Type 0} {f : Fault} {a : A} {j : ℕ} {P : Type 0} → _≡_ {A = Read A} (refused f) (got a j) → P
 never e = let z : _≡_ {A = ℕ} 0 1 = cc in absurd (omega arith)
 
-went : {A B P : Type 0} (m : Read A) (f : A → Reader B) {b : B} {j : ℕ} → hand-on m f ≡ got b j → ((a : A) (k : ℕ) → m ≡ got a k → f a k ≡ got b j → P) → P
+pub went : {A B P : Type 0} (m : Read A) (f : A → Reader B) {b : B} {j : ℕ} → hand-on m f ≡ got b j → ((a : A) (k : ℕ) → m ≡ got a k → f a k ≡ got b j → P) → P
 unfolding hand-on
 went (got a k) f e next = next a k refl e
 went (refused x) f e next = never e
 
-passed : {B P : Type 0} (t : Bool) (n s i : ℕ) (f : Bool → Reader B) {b : B} {j : ℕ} → hand-on (demand t n s i) f ≡ got b j → (f true i ≡ got b j → P) → P
+pub passed : {B P : Type 0} (t : Bool) (n s i : ℕ) (f : Bool → Reader B) {b : B} {j : ℕ} → hand-on (demand t n s i) f ≡ got b j → (f true i ≡ got b j → P) → P
 unfolding hand-on demand
 passed true n s i f e next = next e
 passed false n s i f e next = never e
@@ -96,7 +88,7 @@ two-kinds P f g record-is.End two p q = let z : _≡_ {A = ℕ} 0 1 = cc in absu
 abbrev pub Both : Found → Type 0
 Both found = Fresh found record-is.End
 
-both-met : (one two : Record) → Fresh none-yet one → Fresh (with-record none-yet one) two → Both (with-record (with-record none-yet one) two)
+pub both-met : (one two : Record) → Fresh none-yet one → Fresh (with-record none-yet one) two → Both (with-record (with-record none-yet one) two)
 both-met = two-kinds (λ one two. Both (with-record (with-record none-yet one) two)) (λ c m. (refl, refl)) (λ m c. (refl, refl))
 
 -- then only the end comes

@@ -1,27 +1,17 @@
 -- What the reading answers, one law for each way through it.
 -- Assumes nothing.
-use Prim.Native.Nat.{ℕ, _+_, _<_, _≤_}
-use native.Mathlib.Omega.{arith}
-use mathlib.Core.Path.{_≡_, refl, sym, ap, _∙_}
-use mathlib.Core.Bool.{Bool, true, false, not}
-use mathlib.Core.List.{List}
-use lib.ListN.{length}
-use lib.Dec.{eqb}
-use lib.Ieee.{Float, binary32}
-use lib.Ieee.Bits.{ofBits-fits}
-use borrow.Author.Tests.{le-leb, lt-leb, lt-ltb, le-ltb, eq-eqb, ne-eqb}
-use Rattle.rules.specs.declared.Refusal.{Refusal}
-use Rattle.rules.specs.declared.Refusal.the-variants.{JobEndsEarly, BytesAfter, BadKind, NotFinite, OutOfBounds, KindMissing}
-use Rattle.rules.specs.Words.{if_then_else_, _and_, at}
+use Rattle.rules.proofs.Base.{ℕ, _+_, _<_, _≤_, _≡_, true, false, List, length, Float, binary32, ofBits-fits, le-leb, lt-leb, lt-ltb, le-ltb, ne-eqb}
+use Rattle.rules.specs.declared.Refusal.the-variants.{JobEndsEarly, BadKind, NotFinite, OutOfBounds, KindMissing}
+use Rattle.rules.specs.Words.{_and_, at}
 use Rattle.rules.specs.Refusals.{Fault, fault}
-use Rattle.rules.specs.Groups.{Read, got, refused, hand-on, demand}
+use Rattle.rules.specs.Groups.{early, Read, got, refused, hand-on, demand}
 use Rattle.exports.specs.declared.Record.{Record}
 use Rattle.exports.specs.declared.Record.the-variants as record-is
 use Rattle.exports.specs.declared.Found.{Found}
 use Rattle.exports.specs.declared.Field.{Field}
-use Rattle.exports.specs.Floats.{four-bytes, float-of, finite}
+use Rattle.exports.specs.Floats.{four-bytes, float-of}
 use Rattle.exports.specs.Fields.{F0, F1, F2, TM, in-bounds}
-use Rattle.exports.specs.Export.{early, kind, float, finite-float, judged, coefficients-read, mass-read, end-read, of-kind, record-read}
+use Rattle.exports.specs.Export.{kind, float, finite-float, judged, coefficients-read, mass-read, end-read, of-kind, record-read}
 use Rattle.exports.specs.Bits.{exponent, Finite}
 use Rattle.exports.proofs.Values.{is-finite, not-finite}
 

@@ -1,25 +1,12 @@
 -- Sizes: what fits the code's types, and what a judged value is in them.
 -- Assumes nothing.
-use Prim.Native.Nat.{ℕ, zero, suc, _+_, _*_, _/_, _%_, _^_, _<_, _≤_}
-use native.Mathlib.Nat.{mul-le-mul, mul-comm, div-eq-of-lt, mod-eq-of-lt, one-mul}
-use native.Mathlib.Omega.{arith}
-use mathlib.Core.Path.{_≡_, refl, sym, ap, _∙_}
-use mathlib.Core.Bool.{Bool, true, false}
-use lib.Dec.{leb, ltb}
-use lib.IntN.{ℤ, pos, negsuc, negℤ, _-ℤ_, +ℤ-idl}
-use lib.Signed.{leZ, ltZ, mag}
-use lib.Pow.{pow-pos, pow-add, pow-mono, pow-lt, shr-le}
-use lib.Ieee.{Float, binary32, toBits}
-use mir.Facts.{toZ-ofZ, toZ-pos, sfits-lit}
-use mir.Val.{SFits, toZ, ofZ}
-use mir.Syntax.{w32, w64}
-use borrow.Author.Tests.{le-leb, lt-leb, lt-ltb, le-ltb, leb-true, leb-false, ltb-true, ltb-false}
-use Rattle.rules.specs.Words.{_and_}
+use Rattle.rules.proofs.Base.{ℕ, zero, suc, _+_, _*_, _/_, _%_, _^_, _<_, _≤_, mul-le-mul, mul-comm, div-eq-of-lt, mod-eq-of-lt, one-mul, arith, _≡_, refl, ap, _∙_, Bool, true, false, ℤ, pos, negsuc, negℤ, _-ℤ_, +ℤ-idl, leZ, ltZ, pow-add, pow-mono, shr-le, Float, binary32, toBits, toZ-ofZ, toZ-pos, sfits-lit, SFits, toZ, ofZ, w32, w64, le-leb, lt-leb, leb-true, ltb-true, ltb-false}
+use Rattle.rules.specs.Words.{nearest, _and_}
 use Rattle.rules.proofs.Laws.Words.{and-left, and-right}
 use Rattle.exports.specs.declared.Field.{Field}
-use Rattle.exports.specs.Floats.{nearest, signed, scaled}
+use Rattle.exports.specs.Floats.{signed, scaled}
 use Rattle.exports.specs.Fields.{F0, F1, F2, TM, units, in-bounds}
-use Rattle.exports.specs.Bits.{negative, exponent, significand, shift, size-of, Moderate, Judged, Fair, Unsigned}
+use Rattle.exports.specs.Bits.{negative, significand, shift, size-of, Moderate, Judged, Fair, Unsigned}
 use Rattle.exports.proofs.Values.{scaled-is, moderate}
 
 -- ---- order

@@ -1,20 +1,10 @@
 -- What a reader of request Five may conclude of the definitions, each theorem by name.
 -- Assumes nothing.
-use Prim.Native.Nat.{ℕ, suc, _+_, _*_, _/_, _%_, _<_, _≤_}
-use native.Mathlib.Nat.{div-mul-le-self, div-add-mod', mod-lt, mul-left-comm}
-use native.Mathlib.Omega.{arith}
-use mathlib.Core.Path.{_≡_, refl, sym, ap, _∙_}
-use mathlib.Core.Bool.{Bool, true, false}
-use mathlib.Core.List.{List, [], _∷_, map}
-use lib.ListN.{getD}
-use lib.IntN.{ℤ, pos, negsuc, negℤ}
-use lib.Signed.{leZ}
-use lib.Ieee.{Float, nan, inf, fin, up, down, odd, ofFields, ofBits}
-use borrow.Author.Tests.{le-leb}
+use Rattle.rules.proofs.Base.{ℕ, _+_, _*_, _/_, _%_, _<_, _≤_, div-mul-le-self, div-add-mod', mod-lt, mul-left-comm, arith, _≡_, refl, true, false, getD, ℤ, pos, negℤ, leZ, Float, fin, le-leb}
 use Rattle.rules.specs.declared.Vehicle.{Vehicle}
-use Rattle.rules.specs.Words.{_and_, within}
+use Rattle.rules.specs.Words.{nearest, _and_, within}
 use Rattle.rules.specs.Units.{newest, bounds}
-use Rattle.exports.specs.Floats.{float-of, nearest, signed, scaled}
+use Rattle.exports.specs.Floats.{signed, scaled}
 use Rattle.exports.specs.Fields.{F0, F1, F2, TM, units, in-bounds}
 
 -- ---- rounding

@@ -1,24 +1,11 @@
 -- The way of the code comes to the exact value: from a float's fields as whole numbers, denormals included, its scaled value, and where it is beyond
 -- every bound.
 -- Assumes nothing.
-use Prim.Native.Nat.{ℕ, zero, suc, _+_, _-_, _*_, _/_, _%_, _^_, _<_, _≤_}
-use native.Mathlib.Nat.{add-mul, mul-one, mul-comm, mul-assoc, mul-left-comm, mul-right-comm, mul-pos, mul-div-cancel, div-eq-of-lt, mul-le-mul}
-use native.Mathlib.Omega.{arith}
-use mathlib.Core.Path.{_≡_, refl, sym, ap, _∙_, subst}
-use mathlib.Core.Bool.{Bool, true, false, not, cond}
-use lib.Dec.{T, leb, ltb, eqb}
-use lib.IntN.{ℤ, pos, negsuc, negℤ}
-use lib.Signed.{leZ}
-use lib.Pow.{pow-pos, pow-add, pow-mono}
-use lib.Ieee.{Float, nan, inf, fin, up, down, binary32, fits, ofBits, ofFields, toBits, isNan, odd}
-use lib.Ieee.Bits.{ofBits-toBits}
-use lib.Ieee.Exact.{HasValue, odd-sign}
-use lib.Ieee.Nearest.{div-same}
-use borrow.Author.Tests.{le-leb, lt-leb, eq-eqb, ne-eqb, leb-true, leb-false}
-use Rattle.rules.specs.Words.{if_then_else_, _and_}
-use Rattle.rules.proofs.Laws.Words.{by-test, by-order, and-left, and-right, and-no}
+use Rattle.rules.proofs.Base.{ℕ, zero, suc, _+_, _-_, _*_, _/_, _%_, _^_, _<_, _≤_, add-mul, mul-one, mul-comm, mul-assoc, mul-left-comm, mul-le-mul, arith, _≡_, refl, sym, ap, _∙_, Bool, true, false, not, T, leb, eqb, ℤ, pos, negsuc, negℤ, leZ, pow-pos, pow-add, Float, nan, inf, fin, up, down, binary32, fits, ofBits, ofFields, toBits, isNan, odd, ofBits-toBits, HasValue, odd-sign, div-same, lt-leb, ne-eqb, leb-true}
+use Rattle.rules.specs.Words.{nearest, _and_}
+use Rattle.rules.proofs.Laws.Words.{by-test, by-order, and-no}
 use Rattle.exports.specs.declared.Field.{Field}
-use Rattle.exports.specs.Floats.{float-of, finite, nearest, signed, scaled}
+use Rattle.exports.specs.Floats.{float-of, finite, signed, scaled}
 use Rattle.exports.specs.Fields.{units, in-bounds}
 use Rattle.exports.specs.Bits.{negative, exponent, mantissa, significand, shift, size-of, Moderate, Finite, Judged, Fair}
 

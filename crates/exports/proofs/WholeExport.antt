@@ -1,24 +1,15 @@
 -- The whole export: one law for each end of the reading.
 -- Assumes nothing.
-use Prim.Native.Nat.{ℕ}
-use native.Mathlib.Omega.{arith}
-use mathlib.Core.Path.{_≡_, refl, sym, ap, _∙_}
-use mathlib.Core.Bool.{Bool, true, false}
-use mathlib.Core.List.{List}
-use lib.ListN.{length}
-use lib.IntN.{ℤ, pos}
-use borrow.Author.Tests.{eq-eqb, ne-eqb}
+use Rattle.rules.proofs.Base.{ℕ, _≡_, List, length, ℤ, pos, eq-eqb, ne-eqb}
 use Rattle.rules.specs.declared.Refusal.{Refusal}
 use Rattle.rules.specs.declared.Refusal.the-variants.{BytesAfter}
 use Rattle.rules.specs.declared.Answer.the-variants.{Done, Refused}
 use Rattle.rules.specs.Refusals.{Fault, fault, said}
-use Rattle.rules.specs.Groups.{Read, got, refused, hand-on, demand}
+use Rattle.rules.specs.Groups.{got, refused, hand-on, demand}
 use Rattle.rules.specs.Job.{read-fault}
 use Rattle.exports.specs.declared.Record.{Record}
 use Rattle.exports.specs.declared.Record.the-variants as record-is
 use Rattle.exports.specs.declared.Found.{Found}
-use Rattle.exports.specs.declared.Export.{Export}
-use Rattle.exports.specs.declared.Units.{Units}
 use Rattle.exports.specs.Fields.{TM, units}
 use Rattle.exports.specs.Export.{none-yet, with-record, record-read, export-read, numbers-of, ExportAs}
 use Rattle.exports.specs.Bits.{Judged, Bounded, InUnits}

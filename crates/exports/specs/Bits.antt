@@ -5,16 +5,16 @@ use Prim.Native.Nat.{ℕ, _+_, _-_, _*_, _/_, _%_, _^_, _≤_, _<_}
 use mathlib.Core.Path.{_≡_}
 use mathlib.Core.Bool.{Bool, true}
 use lib.Dec.{T, leb, eqb}
-use lib.IntN.{ℤ, pos, negℤ}
+use lib.IntN.{pos, negℤ}
 use lib.Signed.{leZ}
 use lib.Ieee.{Float, binary32, fits, toBits}
 use mir.Val.{SFits}
 use mir.Syntax.{w64}
-use Rattle.rules.specs.Words.{if_then_else_}
+use Rattle.rules.specs.Words.{if_then_else_, nearest}
 use Rattle.exports.specs.declared.Field.{Field}
 use Rattle.exports.specs.declared.Coefficients.{Coefficients}
 use Rattle.exports.specs.declared.Units.{Units}
-use Rattle.exports.specs.Floats.{finite, nearest}
+use Rattle.exports.specs.Floats.{finite}
 use Rattle.exports.specs.Fields.{F0, F1, F2, units, in-bounds}
 
 -- the sign, the exponent's field and the digits below the leading one

@@ -3,15 +3,15 @@
 -- Assumes nothing.
 use Prim.Native.Nat.{ℕ, _+_}
 use mathlib.Core.Path.{_≡_}
-use mathlib.Core.Bool.{Bool, true, false, not}
+use mathlib.Core.Bool.{true, false, not}
 use mathlib.Core.List.{List}
 use lib.ListN.{length}
 use lib.Dec.{leb, ltb, eqb}
 use lib.IntN.{ℤ, pos}
 use lib.Ieee.{Float, fin}
 use Rattle.rules.specs.Words.{if_then_else_, _and_, at}
-use Rattle.rules.specs.Refusals.{Fault, said}
-use Rattle.rules.specs.Groups.{Read, got, refused, Reader, _>>=_, _>>_, give, cursor, demand}
+use Rattle.rules.specs.Refusals.{said}
+use Rattle.rules.specs.Groups.{Read, got, refused, Reader, _>>=_, _>>_, give, cursor, demand, early}
 use Rattle.rules.specs.Job.{read-fault}
 use Rattle.exports.specs.declared.Record.{Record}
 use Rattle.exports.specs.declared.Record.the-variants as record-is
@@ -41,17 +41,13 @@ with-record found record-is.End = found
 -- ---- reading
 
 module _ (bytes : List ℕ) where
-  -- 12: ends early, place the length
-  unfoldable pub early : {A : Type 0} → Read A
-  early = refused (record { no = 12; spot = length bytes })
-
-  -- the kind is one byte
+  -- the kind is one byte; 12 ends early, place the length
   unfoldable pub kind : Reader ℕ
-  kind i = if leb (length bytes) i then early else got (at bytes i) (i + 1)
+  kind i = if leb (length bytes) i then early bytes else got (at bytes i) (i + 1)
 
   -- a float is four bytes, little-endian
   unfoldable pub float : Reader Float
-  float i = if ltb (length bytes) (i + 4) then early else got (float-of (four-bytes bytes i)) (i + 4)
+  float i = if ltb (length bytes) (i + 4) then early bytes else got (float-of (four-bytes bytes i)) (i + 4)
 
   -- of the record that begins at spot: 20 not a finite number
   unfoldable pub finite-float : ℕ → Reader Float

@@ -1,12 +1,12 @@
 -- Request Five, "the nearest whole number of their units to the exact value of the float, halves away from zero".
 -- A `Float` is the logic's own of IEEE 754: `fin s m e` is the number m x 2^e, negative where s is true, and 2^e is the fraction up e / down e.
 -- Assumes nothing.
-use Prim.Native.Nat.{ℕ, _+_, _*_, _/_}
+use Prim.Native.Nat.{ℕ, _+_, _*_}
 use mathlib.Core.Bool.{Bool, true, false}
 use mathlib.Core.List.{List}
 use lib.IntN.{ℤ, pos, negℤ}
 use lib.Ieee.{Float, nan, inf, fin, up, down, binary32, ofBits}
-use Rattle.rules.specs.Words.{at}
+use Rattle.rules.specs.Words.{nearest, at}
 
 -- little-endian: four bytes as one number, the least significant first
 unfoldable pub four-bytes : List ℕ → ℕ → ℕ
@@ -21,10 +21,6 @@ unfoldable pub finite : Float → Bool
 finite nan = false
 finite (inf s) = false
 finite (fin s m e) = true
-
--- the fraction a / b to the nearest whole number, halves up
-unfoldable pub nearest : ℕ → ℕ → ℕ
-nearest a b = (2 * a + b) / (2 * b)
 
 -- so large, on this side of zero: what is rounded up in size is rounded away from zero
 unfoldable pub signed : Bool → ℕ → ℤ

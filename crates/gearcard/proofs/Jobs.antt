@@ -1,13 +1,6 @@
 -- A job that was read, and what the working makes of it, as the definitions' text.
 -- Assumes nothing.
-use Prim.Native.Nat.{ℕ, _≤_}
-use native.Mathlib.Omega.{arith}
-use mathlib.Core.Path.{_≡_, refl, sym, _∙_}
-use mathlib.Core.Logic.{_≢_}
-use mathlib.Core.Option.{none, some}
-use mathlib.Core.List.{List}
-use lib.ListN.{length, take}
-use borrow.Author.Tests.{ne-eqb}
+use Rattle.rules.proofs.Base.{ℕ, arith, _≡_, refl, sym, _∙_, _≢_, none, some, List, length, take, ne-eqb}
 use Rattle.rules.specs.declared.Vehicle.{Vehicle}
 use Rattle.rules.specs.declared.Refusal.{Refusal}
 use Rattle.rules.specs.declared.Refusal.the-variants.{TraceLength}
@@ -18,10 +11,9 @@ use Rattle.rules.specs.Groups.{Read, got, refused}
 use Rattle.rules.specs.Job.{Job, read-fault, job-of}
 use Rattle.rules.specs.Text.{card-text, refusal-text, worked-text, read-text, printed, program-room, printed-fault}
 use Rattle.rules.proofs.Laws.Lines.{room-alone}
-use Rattle.rules.proofs.Laws.Jobs.{Even, job-even, job-room}
-use Rattle.jobs.specs.declared.Reading.{Reading}
-use Rattle.jobs.specs.Reader.{reading, ReadAs}
-use Rattle.jobs.proofs.Rooms.{rooms}
+use Rattle.reading.specs.declared.Reading.{Reading}
+use Rattle.reading.specs.Reader.{reading, ReadAs}
+use Rattle.reading.proofs.Rooms.{rooms}
 use Rattle.gearcard.specs.Printing.{text-of}
 
 -- ---- what the working says, as text

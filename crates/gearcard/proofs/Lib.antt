@@ -2,3 +2,4 @@
 pub mod TextInTurn
 pub mod Jobs
 pub mod Determined
+pub mod Demands

@@ -1,19 +1,11 @@
 -- Text put piece by piece: the digits of a number, the pieces of a line, line after line, and what begins the memory is seen there.
 -- Assumes nothing.
-use Prim.Native.Nat.{ℕ, zero, suc, _+_, _-_, _*_, _%_, _/_, _≤_, _<_}
-use native.Mathlib.Omega.{arith}
-use native.Mathlib.Nat.{add-zero, zero-add}
-use native.Mathlib.Numerals.{add-one}
-use mathlib.Core.Path.{_≡_, refl, sym, _∙_}
-use mathlib.Core.List.{List, [], _∷_, _++_, append-nil, append-assoc}
-use lib.ListN.{length, drop, set, getD, length-append, length-drop, length-set, drop-of-length-le}
-use lib.Seq.{take-all, sets-eq, length-sets, drop-cons, getD-set-same, drop-set-lt, take-append-seam, drop-append-seam}
-use borrow.Author.Tests.{le-leb, lt-leb}
+use Rattle.rules.proofs.Base.{ℕ, zero, suc, _+_, _-_, _*_, _%_, _/_, _≤_, _<_, arith, add-zero, zero-add, add-one, _≡_, refl, _∙_, List, [], _∷_, _++_, append-nil, append-assoc, length, drop, set, getD, length-append, length-drop, length-set, drop-of-length-le, take-all, sets-eq, length-sets, drop-cons, getD-set-same, drop-set-lt, take-append-seam, drop-append-seam, le-leb, lt-leb}
 use Rattle.rules.specs.Words.{part}
 use Rattle.rules.specs.Text.{decimal, pedal, line, lines}
 use Rattle.rules.proofs.Laws.Lines.{tens, decimal-one, decimal-more, line-short, lines-more}
-use Rattle.jobs.specs.Writing.{Put}
-use Rattle.jobs.proofs.PutInTurn.{put-both}
+use Rattle.reading.specs.Lent.{Put}
+use Rattle.reading.proofs.PutInTurn.{put-both}
 use Rattle.gearcard.specs.Printing.{Begins, speed-text, gear-text}
 
 -- ---- digit before digit

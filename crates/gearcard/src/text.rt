@@ -5,7 +5,7 @@ ghost use lib.ListN.{length};
 ghost use Rattle.rules.specs.Words.{part};
 ghost use Rattle.rules.specs.Refusals.{fault};
 ghost use Rattle.rules.specs.Text.{decimal, pedal, line, lines, card-text, refusal-text, program-room, printed-fault, printed};
-ghost use Rattle.jobs.specs.Writing.{Put};
+ghost use Rattle.reading.specs.Lent.{Put};
 ghost use Rattle.gearcard.specs.Printing.{Begins, speed-text, gear-text, text-of};
 use rules::Answer;
 use rules::Refusal;
@@ -185,7 +185,7 @@ pub fn answer(job: &[u8], out: &mut [u8; TEXT]) -> usize
     let mut speeds = [0u16; ROOM];
     let mut holds = [0u8; ROOM];
     let mut card = [0u8; ROOM];
-    let reading = jobs::read(job, &mut speeds, &mut holds);
+    let reading = reading::read(job, &mut speeds, &mut holds);
     let judged = reading.answer;
     match judged {
         Answer::Done => {

@@ -1,13 +1,6 @@
 -- The available powers, point by point: as a loop from left to right puts them down, and what they are of a vehicle in bounds.
 -- Assumes nothing.
-use Prim.Native.Nat.{ℕ, suc, _+_, _-_, _*_, _≤_, _<_}
-use native.Mathlib.Numerals.{add-one}
-use native.Mathlib.Nat.{lt-of-lt-of-le}
-use native.Mathlib.Omega.{arith}
-use mathlib.Core.Path.{_≡_, refl, ap, _∙_}
-use mathlib.Core.List.{List}
-use lib.ListN.{length, set, replicate}
-use lib.IntN.{pos}
+use Rattle.rules.proofs.Base.{ℕ, suc, _+_, _-_, _*_, _≤_, _<_, add-one, lt-of-lt-of-le, arith, _≡_, refl, ap, _∙_, List, length, set, replicate, pos}
 use Rattle.rules.specs.declared.Vehicle.{Vehicle}
 use Rattle.rules.specs.Words.{at, pass}
 use Rattle.rules.specs.Gears.{derated}

@@ -1,9 +1,6 @@
 -- Each public function's contract allows one outcome. `Reads` is the contract's own reading, which the check makes of the clauses.
 -- Assumes nothing.
-use Prim.Native.Nat.{ℕ}
-use mathlib.Core.Path.{refl, sym, _∙_}
-use mathlib.Core.List.{[]}
-use denote.Ref.{now}
+use Rattle.rules.proofs.Base.{ℕ, refl, sym, _∙_, [], now}
 use Rattle.rules.proofs.Laws.Refusals.{said-once}
 use Rattle.once.specs.Determined.{Determined, DeterminedAs}
 use Rattle.gears.proofs.Parts.{built-has}

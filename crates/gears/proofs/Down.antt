@@ -1,10 +1,6 @@
 -- `highest`, as a loop that counts down meets it: what is left, from here down, is what was asked.
 -- Assumes nothing.
-use Prim.Native.Nat.{ℕ, zero, suc, _≤_, _<_}
-use native.Mathlib.Nat.{not-suc-le-zero, le-refl}
-use native.Mathlib.Omega.{arith}
-use mathlib.Core.Path.{_≡_, refl, _∙_}
-use mathlib.Core.Bool.{Bool, true, false}
+use Rattle.rules.proofs.Base.{ℕ, zero, suc, _≤_, _<_, not-suc-le-zero, le-refl, arith, _≡_, refl, _∙_, Bool, true, false}
 use Rattle.rules.specs.Words.{highest}
 use Rattle.rules.proofs.Laws.Words.{by-eq}
 

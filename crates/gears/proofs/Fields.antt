@@ -1,20 +1,6 @@
 -- The bounds of a vehicle, as a chain of tests meets them: the first k hold, so the first that fails is one of the others.
 -- Assumes nothing.
-use Prim.Native.Nat.{ℕ, suc, _+_, _-_, _≤_, _<_}
-use native.Mathlib.Omega.{arith}
-use mathlib.Core.Path.{_≡_, refl, _∙_}
-use mathlib.Core.Bool.{Bool, true, false}
-use mathlib.Core.Option.{none, some}
-use mathlib.Core.List.{List}
-use lib.ListN.{length, getD, drop}
-use lib.Dec.{leb}
-use lib.Seq.{drop-cons}
-use lib.IntN.{ℤ, pos, negsuc}
-use lib.Signed.{leZ}
-use mir.Syntax.{w32}
-use mir.Val.{SFits, toZ, ofZ}
-use mir.Facts.{toZ-ofZ}
-use borrow.Author.Tests.{leb-true, leb-false, le-leb, lt-leb}
+use Rattle.rules.proofs.Base.{ℕ, suc, _+_, _-_, _≤_, _<_, arith, _≡_, refl, _∙_, Bool, true, false, none, some, List, length, getD, drop, leb, drop-cons, ℤ, pos, negsuc, leZ, w32, SFits, toZ, ofZ, toZ-ofZ, leb-true, leb-false, le-leb, lt-leb}
 use Rattle.rules.specs.declared.Vehicle.{Vehicle}
 use Rattle.rules.specs.declared.Refusal.the-variants.{VehicleField}
 use Rattle.rules.specs.declared.Answer.the-variants.{Done, Refused}

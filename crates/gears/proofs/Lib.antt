@@ -6,5 +6,6 @@ pub mod Determined
 pub mod Near
 pub mod Powers
 pub mod Derating
+pub mod Reach
 pub mod Choices
 pub mod Down

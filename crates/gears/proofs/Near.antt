@@ -1,13 +1,6 @@
 -- The search of the curve from a segment near: up while the segment does not reach x, then down while its lower end does.
 -- Assumes nothing.
-use Prim.Native.Nat.{ℕ, suc, _+_, _-_, _*_, _≤_, _<_}
-use native.Mathlib.Numerals.{add-one}
-use native.Mathlib.Omega.{arith}
-use mathlib.Core.Path.{_≡_, refl, sym, _∙_}
-use mathlib.Core.Logic.{_⊎_, inl, inr}
-use mathlib.Core.List.{List, []}
-use lib.IntN.{pos}
-use borrow.Author.Tests.{le-leb}
+use Rattle.rules.proofs.Base.{ℕ, suc, _+_, _-_, _*_, _≤_, _<_, add-one, arith, _≡_, refl, sym, _∙_, _⊎_, inl, inr, List, [], pos, le-leb}
 use Rattle.rules.specs.declared.Vehicle.{Vehicle}
 use Rattle.rules.specs.Words.{at}
 use Rattle.rules.specs.Gears.{reaches}

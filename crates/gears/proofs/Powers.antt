@@ -1,19 +1,11 @@
 -- The power at a gear, from the parts that the code works it out of.
 -- Assumes nothing.
-use Prim.Native.Nat.{ℕ, suc, _+_, _-_, _*_, _≤_, _<_, max}
-use native.Mathlib.Nat.{le-trans, mul-assoc, mul-left-comm, mul-le-mul-left, max-le, le-max-right}
-use native.Mathlib.Omega.{arith}
-use mathlib.Core.Path.{_≡_, refl, sym, ap, _∙_, subst}
-use mathlib.Core.Bool.{true}
-use mathlib.Core.List.{List}
-use lib.IntN.{ℤ, pos, negℤ, natAbs, _+ℤ_, _-ℤ_, _*ℤ_, +ℤ-assoc}
-use lib.Signed.{leZ}
-use borrow.Author.Tests.{leb-true, le-leb}
+use Rattle.rules.proofs.Base.{ℕ, suc, _+_, _-_, _*_, _≤_, _<_, max, le-trans, mul-assoc, mul-left-comm, mul-le-mul-left, max-le, le-max-right, arith, _≡_, refl, sym, ap, _∙_, subst, true, List, ℤ, pos, negℤ, natAbs, _+ℤ_, _-ℤ_, _*ℤ_, +ℤ-assoc, leZ, leb-true, le-leb}
 use Rattle.rules.specs.declared.Vehicle.{Vehicle}
 use Rattle.rules.specs.declared.Role.{Role}
 use Rattle.rules.specs.Words.{at}
 use Rattle.rules.specs.Gears.{Power, engine, under-nmax, fits, between, on-segment, segment, power-speed, power}
-use Rattle.rules.specs.Vocabulary.{OnSegment}
+use Rattle.rules.specs.Vocabulary.Choosing.{OnSegment}
 use Rattle.rules.proofs.Laws.Words.{and-right}
 use Rattle.rules.proofs.Laws.Integers.{+ℤ-*ℤ, neg-*ℤ, pos-sub, leZ-trans, leZ-scale}
 use Rattle.rules.proofs.Laws.Power.{segment-holds}

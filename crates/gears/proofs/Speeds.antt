@@ -1,13 +1,6 @@
 -- Laws of minimum speed, of fitting and of the floor, as the code meets them.
 -- Assumes nothing.
-use Prim.Native.Nat.{ℕ, suc, _+_, _-_, _*_, _/_, _≤_, _<_}
-use native.Mathlib.Omega.{arith}
-use mathlib.Core.Path.{_≡_, refl, sym, ap, _∙_}
-use mathlib.Core.Bool.{Bool, true, false}
-use mathlib.Core.Option.{Option, Option·getD}
-use mathlib.Core.List.{List}
-use lib.Dec.{leb, eqb}
-use borrow.Author.Tests.{le-leb, lt-leb, ne-eqb, eq-eqb}
+use Rattle.rules.proofs.Base.{ℕ, suc, _+_, _-_, _*_, _/_, _≤_, _<_, arith, _≡_, refl, sym, ap, _∙_, Bool, true, false, Option, Option·getD, List, leb, eqb, le-leb, lt-leb, ne-eqb, eq-eqb}
 use Rattle.rules.specs.declared.Vehicle.{Vehicle}
 use Rattle.rules.specs.declared.Role.{Role}
 use Rattle.rules.specs.Words.{_and_, _or_, at, first}

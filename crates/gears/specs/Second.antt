@@ -20,12 +20,6 @@ pub record Lowest (k : Numbers) (g : ℕ) : Type 0 where
   pub from : low-in k ≤ g
   pub rated-from : k .idle ≤ k .rated
 
--- a gear, of a vehicle whose rated speed is not below idle
-pub record GearOf (k : Numbers) (g : ℕ) : Type 0 where
-  pub from : 1 ≤ g
-  pub to : g ≤ 10
-  pub rated-from : k .idle ≤ k .rated
-
 -- a vehicle whose gears all have a place, and whose lowest is one of them
 pub record Driven (k : Numbers) : Type 0 where
   pub ng-to : k .ng ≤ 10

@@ -1,17 +1,17 @@
 // The first choice of one second.
 ghost use mathlib.Core.Path.{_≡_};
 ghost use mathlib.Core.Bool.{false};
-ghost use Prim.Native.Nat.{_+_, _-_, _*_, _≤_, _<_, min};
+ghost use Prim.Native.Nat.{ℕ, _+_, _-_, _*_, _≤_, _<_, min};
 ghost use lib.Dec.{leb, ltb, eqb};
 ghost use lib.IntN.{pos, natAbs, _-ℤ_};
 ghost use Rattle.rules.specs.Words.{_and_, at};
 ghost use Rattle.rules.specs.declared.Role.{Role};
 ghost use Rattle.rules.specs.declared.Vehicle.{Vehicle};
-ghost use Rattle.rules.specs.Gears.{minimum, fits, more, choose};
+ghost use Rattle.rules.specs.Gears.{fits, more, choose};
 ghost use Rattle.rules.specs.Corrections.{role-of};
 ghost use Rattle.gears.specs.Parts.{low-in, Counts, Has, Lent, Parts};
-ghost use Rattle.gears.specs.Second.{GearOf, Driven};
-ghost use Rattle.gears.specs.Choosing.{power-of, PowerSized, most-E, Weighed, enough-for, Pace, Falling, Higher, Reached, InReach, only-lowest, the-stronger, Highest, Tried, choose-for, Hints, first-of};
+ghost use Rattle.gears.specs.Second.{Gear, Driven};
+ghost use Rattle.gears.specs.Choosing.{power-of, PowerSized, most-E, Weighed, enough-for, Pace, Falling, Higher, Reached, InReach, Placed, only-lowest, the-stronger, Highest, Tried, choose-for, Hints, first-of};
 use crate::Best;
 use crate::Chosen;
 use crate::Numbers;
@@ -20,8 +20,9 @@ use crate::curve::power_at;
 use crate::curve::segment_at;
 use crate::second::engine;
 use crate::second::lowest;
-use crate::second::minimum;
+use crate::second::next_least;
 use crate::second::required;
+use crate::second::shared_least;
 use crate::second::step_of;
 use crate::second::top;
 use rules::Role;
@@ -66,45 +67,63 @@ fn reaches(ratio: &[u16; 10], ng: usize, v: u16, least: u64, g: usize) -> bool
     least <= engine(ratio, g, v)
 }
 
-// The highest gear to look at: of those from two above the lowest on the highest whose X reaches the minimum that they share, `least`; where none does, the
-// gear above the lowest. It is found from any of these gears.
-fn reached(k: Numbers, ratio: &[u16; 10], v: u16, least: u64, from: usize) -> usize
-    requires { ⌜ Falling k (now ratio) × Higher k from ⌝ }
-    ensures { λ r. ⌜ Reached k (now (ratio .entry)) v least r ⌝ }
+// From a gear whose X reaches `least` up to the highest that does.
+fn up_from(ratio: &[u16; 10], ng: usize, v: u16, least: u64, from: usize) -> usize
+    requires { ⌜ Falling ng (now ratio) × (1 ≤ from) × (from ≤ ng) × (least ≤ at (now ratio) (from - 1) * v) ⌝ }
+    ensures { λ r. ⌜ ((second : ℕ) → second ≤ from → Reached second ng (now (ratio .entry)) v least r) ⌝ }
 {
-    let ng = k.ng as usize;
-    let second = lowest(k) + 1;
     let mut g = from;
     while reaches(ratio, ng, v, least, g + 1) {
         g += 1;
     }
+    g
+}
+
+// From a gear whose X does not reach `least` down to the first that does, or to `second`.
+fn down_from(ratio: &[u16; 10], ng: usize, second: usize, v: u16, least: u64, from: usize) -> usize
+    requires { ⌜ Falling ng (now ratio) × (1 ≤ second) × (second ≤ from) × (from ≤ ng) × (at (now ratio) (from - 1) * v < least) ⌝ }
+    ensures { λ r. ⌜ Reached second ng (now (ratio .entry)) v least r ⌝ }
+{
+    let mut g = from;
     while second < g {
+        g -= 1;
         if least <= engine(ratio, g, v) {
             return g;
         }
-        g -= 1;
     }
     g
 }
 
-// Whether a gear in reach is below its minimum, X = x: only the gear above the lowest may be.
-fn below_minimum(k: Numbers, closes: bool, before: u8, g: usize, x: u64) -> bool
-    requires { ⌜ k .idle ≤ k .rated ⌝ }
-    ensures { λ r. ⌜ ((car : Vehicle) → Counts car k → r ≡ (eqb g (low-in k + 1) and ltb x (1000 * minimum car (role-of car false closes before) g))) ⌝ }
+// The highest gear to look at: of those from two above the lowest on the highest whose X reaches the minimum that they share, `least`; where none does, the
+// gear above the lowest. It is found from any of these gears.
+fn reached(k: Numbers, ratio: &[u16; 10], v: u16, least: u64, from: usize) -> usize
+    requires { ⌜ Falling (k .ng) (now ratio) × Higher k from ⌝ }
+    ensures { λ r. ⌜ Reached (low-in k + 1) (k .ng) (now (ratio .entry)) v least r ⌝ }
+{
+    let ng = k.ng as usize;
+    if least <= engine(ratio, from, v) {
+        return up_from(ratio, ng, v, least, from);
+    }
+    down_from(ratio, ng, lowest(k) + 1, v, least, from)
+}
+
+// Whether a gear in reach is below its minimum, X = x: only the gear above the lowest may be, whose least X is `next`.
+fn below_minimum(k: Numbers, next: u64, g: usize, x: u64) -> bool
+    ensures { λ r. ⌜ r ≡ (eqb g (low-in k + 1) and ltb x next) ⌝ }
 {
     if g == lowest(k) + 1 {
-        return x < 1000 * minimum(k, role_of(k, closes, before), g);
+        return x < next;
     }
     false
 }
 
 // Whether a gear in reach fits at a second that is not its trip's first.
-fn fits_in_reach(k: Numbers, ratio: &[u16; 10], closes: bool, before: u8, v: u16, g: usize) -> bool
-    requires { ⌜ GearOf k g × (low-in k ≤ g) ⌝ }
-    ensures { λ r. ⌜ ((car : Vehicle) → Has car k (now (ratio .entry)) → InReach car v g → r ≡ fits car (role-of car false closes before) v g) ⌝ }
+fn fits_in_reach(k: Numbers, ratio: &[u16; 10], here: Role, next: u64, v: u16, g: usize) -> bool
+    requires { ⌜ Gear g × (low-in k ≤ g) × Placed k here next ⌝ }
+    ensures { λ r. ⌜ ((car : Vehicle) → Has car k (now (ratio .entry)) → InReach car v g → r ≡ fits car here v g) ⌝ }
 {
     let x = engine(ratio, g, v);
-    if below_minimum(k, closes, before, g, x) {
+    if below_minimum(k, next, g, x) {
         return false;
     }
     x <= top(k)
@@ -164,15 +183,15 @@ fn choose_from<'a>(
     ratio: &'a [u16; 10],
     n: &'a [u16; 64],
     p: &'a [u32; 64],
-    closes: bool,
-    before: u8,
+    here: Role,
+    next: u64,
     v: u16,
     e: i64,
     first: Best,
     near: usize,
 ) -> usize
-    requires { ⌜ Parts k (now ratio) (now n) (now p) × (natAbs e ≤ most-E) × (near + 1 < k .points) × Higher k (first .gear) × ((car : Vehicle) → Lent car k (now ratio) (now n) (now p) → Highest car (role-of car false closes before) v first × InReach car v (first .gear)) ⌝ }
-    ensures { λ r. ⌜ ((car : Vehicle) → Lent car k (now (ratio .entry)) (now (n .entry)) (now (p .entry)) → r ≡ choose-for car (role-of car false closes before) v e) ⌝ }
+    requires { ⌜ Parts k (now ratio) (now n) (now p) × (natAbs e ≤ most-E) × (near + 1 < k .points) × Higher k (first .gear) × Placed k here next × ((car : Vehicle) → Lent car k (now ratio) (now n) (now p) → Highest car here v first × InReach car v (first .gear)) ⌝ }
+    ensures { λ r. ⌜ ((car : Vehicle) → Lent car k (now (ratio .entry)) (now (n .entry)) (now (p .entry)) → r ≡ choose-for car here v e) ⌝ }
 {
     let low = lowest(k);
     let highest = first.gear;
@@ -187,7 +206,7 @@ fn choose_from<'a>(
             break best.gear;
         }
         g = below(g, highest);
-        if fits_in_reach(k, ratio, closes, before, v, g) {
+        if fits_in_reach(k, ratio, here, next, v, g) {
             s = segment_at(k, ratio, n, v, g, s);
             let a = power_at(k, ratio, n, p, v, g, s);
             if enough(a, e) {
@@ -215,11 +234,12 @@ pub fn choose<'a>(
     ensures gear { λ r. ⌜ ((car : Vehicle) → Lent car k (now (ratio .entry)) (now (n .entry)) (now (p .entry)) → r .gear ≡ choose car (role-of car false closes before) v d) ⌝ }
     ensures hints { λ r. ⌜ Hints k (r .reached) (r .segment) ⌝ }
 {
-    let least = 1000 * minimum(k, Role::Inner, lowest(k) + 2);
-    let highest = reached(k, ratio, v, least, from);
+    let highest = reached(k, ratio, v, shared_least(k), from);
     let x = engine(ratio, highest, v);
+    let here = role_of(k, closes, before);
+    let next = next_least(k, here);
     // then the gear above the lowest is the highest in reach
-    if below_minimum(k, closes, before, highest, x) {
+    if below_minimum(k, next, highest, x) {
         return Chosen {
             gear: only_lowest(k, ratio, v) as u8,
             reached: highest,
@@ -250,8 +270,8 @@ pub fn choose<'a>(
         ratio,
         n,
         p,
-        closes,
-        before,
+        here,
+        next,
         v,
         e,
         Best {

@@ -10,13 +10,17 @@ mod second;
 
 pub use bounds::check_vehicle;
 pub use choice::choice_after;
+pub use choice::enough;
 pub use curve::derate;
+pub use curve::power_at;
+pub use curve::segment_at;
 use rules::Vehicle;
 pub use second::engine;
 pub use second::floor;
 pub use second::lowest;
 pub use second::minimum;
 pub use second::not_driven;
+pub use second::required;
 pub use second::step_of;
 pub use second::top;
 

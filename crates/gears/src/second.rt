@@ -8,6 +8,7 @@ ghost use Rattle.rules.specs.Gears.{next-minimum, minimum, required};
 ghost use Rattle.rules.specs.Corrections.{floor};
 ghost use Rattle.rules.specs.Refusals.{not-driven};
 ghost use Rattle.rules.specs.declared.Vehicle.{Vehicle};
+ghost use Rattle.rules.specs.declared.Role.the-variants.{Inner};
 ghost use Rattle.gears.specs.Parts.{low-in, Counts, Has};
 ghost use Rattle.gears.specs.Second.{Gear, Lowest, Driven, Load};
 use crate::Numbers;
@@ -78,6 +79,21 @@ pub fn minimum(k: Numbers, here: Role, g: usize) -> u64
     }
 }
 
+// The least engine speed X of the gear above the lowest.
+pub fn next_least(k: Numbers, here: Role) -> u64
+    ensures { λ r. ⌜ ((car : Vehicle) → Counts car k → r ≡ 1000 * minimum car here (low-in k + 1)) ⌝ }
+{
+    1000 * next_minimum(k, here)
+}
+
+// The least engine speed X that the gears from two above the lowest on share.
+pub fn shared_least(k: Numbers) -> u64
+    requires { ⌜ k .idle ≤ k .rated ⌝ }
+    ensures { λ r. ⌜ ((car : Vehicle) → Counts car k → r ≡ 1000 * minimum car Inner (low-in k + 2)) ⌝ }
+{
+    1000 * minimum(k, Role::Inner, lowest(k) + 2)
+}
+
 // The engine speed X of nmax, which no gear may pass.
 pub fn top(k: Numbers) -> u64
     ensures { λ r. ⌜ r ≡ 1000 * k .nmax ⌝ }
@@ -93,11 +109,11 @@ pub fn floor(k: Numbers, ratio: &[u16; 10], v: u16) -> usize
     let ng = k.ng as usize;
     let most = top(k);
     let mut g = lowest(k);
-    while g <= ng {
-        if engine(ratio, g, v) <= most {
+    while most < engine(ratio, g, v) {
+        g += 1;
+        if ng < g {
             return g;
         }
-        g += 1;
     }
     g
 }

@@ -1,203 +1,21 @@
 -- Document 01, "Sums done on paper": the starred cases, one table, one theorem; and a few rows of our own, each for a slip that the paper's rows let pass.
 -- Assumes nothing.
-use Prim.Native.Nat.{ℕ}
-use mathlib.Core.Path.{_≡_, refl}
-use mathlib.Core.Bool.{Bool, true, false}
-use mathlib.Core.Option.{Option, none, some}
-use mathlib.Core.List.{List, [], _∷_, _++_}
-use lib.IntN.{ℤ, pos, negℤ, _*ℤ_}
-use lib.ListN.{replicate, drop, set, take}
+pub mod Cars
+use Rattle.rules.proofs.Base.{_≡_, refl, true, false, none, some, List, [], _∷_, pos, negℤ, _*ℤ_, replicate, drop, set, take, First, Closing, AfterLow, Inner, Hold, Release, Mend}
 use Rattle.rules.specs.Vocabulary.{role-at, job-from, none-held}
-use Rattle.rules.specs.declared.Vehicle.{Vehicle}
-use Rattle.rules.specs.declared.Role.{Role}
-use Rattle.rules.specs.declared.Summary.{Summary}
-use Rattle.rules.specs.declared.Role.the-variants.{First, Closing, AfterLow, Inner}
-use Rattle.rules.specs.Words.{if_then_else_, _and_, _or_, within, every, first, highest, pass, table, patch, part}
+use Rattle.rules.specs.Words.{_and_, _or_, within, every, first, highest, pass, table, patch, part}
 use Rattle.rules.specs.Units.{ratio-of, ratio-good, point-good, bounds, first-failed, bad-field, low, longest, moving, rise, start, run, stop, margin-good}
 use Rattle.rules.specs.Gears.{engine, minimum-of, minimum, under-nmax, over-minimum, allowed, fits, required, between, on-segment, reaches, segment, power-speed, power, enough, more, suits, beats, strongest, choose, is-first, next-minimum, derated}
-use Rattle.rules.specs.Corrections.{floor, closing, ceiling, here, first-choice, free, is-peak, peak, too-high, rising, too-low, slowing, firsts, gears, trip-speeds, trip-holds, first-at, gear-at, clutch, byte, card-at, card, role-of, shown}
-use Rattle.rules.specs.Refusals.{Fault, refuse-at, _orelse_, when, trace-fault, room-fault, vehicle-fault, not-driven, check-number, checks, all-checks, bad, fault-of, seconds-fault, span-fault, work-fault, left}
-use Rattle.rules.specs.Groups.{Read, got, refused, hand-on, demand, early, group-if, group, form}
+use Rattle.rules.specs.Corrections.{floor, closing, ceiling, here, first-choice, free, is-peak, peak, too-high, rising, too-low, slowing, firsts, after-A, after-B, gears, trip-speeds, trip-holds, first-at, gear-at, clutch, byte, card-at, card, role-of}
+use Rattle.rules.specs.Refusals.{refuse-at, _orelse_, when, trace-fault, room-fault, vehicle-fault, not-driven, check-number, checks, all-checks, bad, fault-of, seconds-fault, span-fault, work-fault, left}
+use Rattle.rules.specs.Groups.{got, refused, hand-on, demand, early, group-if, group, form}
 use Rattle.rules.specs.Forms.{value, checked, bounded, _then_, seen, row-read, row as in-a-row, many, counted, whole, row-write, known, only-if}
 use Rattle.rules.specs.Job.{version, profile, gearbox, numbers as eight-numbers, point, curve, seconds, trace as speeds, hold, padded, vehicle-of, vehicle, put, holds, packed, stages, job, job-read, points-of, parts-of, gather, fields, read-fault, job-of}
 use Rattle.rules.specs.Write.{job-bytes, checks-fault}
-use Rattle.rules.specs.declared.Edit.{Edit}
-use Rattle.rules.specs.declared.Edit.the-variants.{Hold, Release, Mend}
-use Rattle.rules.specs.Edit.{showing, second, asked-speeds, asked-holds, Span, around, hold-span, span, fails, asked-fault, edit-fault, asked-screen, edited}
+use Rattle.rules.specs.Edit.{showing, second, asked-speeds, asked-holds, around, hold-span, span, fails, asked-fault, edit-fault, asked-screen, edited}
 use Rattle.rules.specs.Summary.{tally, rests, drives, changes, summary, summary-fault, counted-summary, settled, updated}
 use Rattle.rules.specs.Text.{digits, decimal, heading, pedal, line, lines, card-text, refusal-text, worked-text, read-text, printed, program-room, printed-fault}
-
--- car Z, with its profile, gears and ratios, its margins, its idle and rated speeds and its F0
-vehicle-with : ℕ → ℕ → List ℕ → ℕ → List ℕ → ℕ → ℕ → ℕ → Vehicle
-vehicle-with profile ng ratio margin margins idle rated f0 = record {
-  ng = ng;
-  ratio = ratio;
-  idle = idle;
-  rated = rated;
-  nmax = 6000;
-  f0 = f0;
-  f1 = pos 0;
-  f2 = 4000;
-  tm = 1500;
-  margin = margin;
-  points = 7;
-  n = 800 ∷ 1800 ∷ 2800 ∷ 3800 ∷ 4800 ∷ 5600 ∷ 6000 ∷ [];
-  p = 100 ∷ 300 ∷ 500 ∷ 700 ∷ 850 ∷ 900 ∷ 880 ∷ [];
-  profile = profile;
-  m = margins;
-}
-
--- with its first ratio
-five-gears : ℕ → List ℕ
-five-gears ratio = ratio ∷ 7000 ∷ 4500 ∷ 3500 ∷ 2800 ∷ 0 ∷ 0 ∷ 0 ∷ 0 ∷ 0 ∷ []
-
--- with no margin at a point
-car-with : ℕ → ℕ → ℕ → ℕ → Vehicle
-car-with ratio = vehicle-with 0 5 (five-gears ratio) 10 (replicate 64 0)
-
-car-of : ℕ → ℕ → ℕ → Vehicle
-car-of = car-with 12000
-
-car-Z : ℕ → Vehicle
-car-Z = car-of 800 5600
-
-Z : Vehicle
-Z = car-Z 1000
-
--- nine tenths of its idle speed are 742.5, idle and an eighth of the way to its rated speed 1,400.5
-halves : Vehicle
-halves = car-of 825 5429 1000
-
--- 1.15 times its idle speed are 931.5
-halves-after : Vehicle
-halves-after = car-of 810 5600 1000
-
--- from V 121 on gear 1 turns past nmax, and up to V 131 gear 2 turns below 1.15 times idle
-gap : Vehicle
-gap = car-with 50000 800 5600 1000
-
--- below car Z's gears a crawler, in a van of this profile and ng, with the ratios of its two lowest gears
-van-with : ℕ → ℕ → ℕ → ℕ → Vehicle
-van-with profile ng crawler ratio = vehicle-with profile ng (crawler ∷ ratio ∷ 7000 ∷ 4500 ∷ 3500 ∷ 2800 ∷ 0 ∷ 0 ∷ 0 ∷ 0 ∷ []) 10 (replicate 64 0) 800 5600 1000
-
-van : Vehicle
-van = van-with 1 6 20000 12000
-
--- the gap, above a crawler
-gap-van : Vehicle
-gap-van = van-with 1 6 50000 49000
-
--- car Z with M and a margin at each point
-margins-Z : ℕ → List ℕ → Vehicle
-margins-Z margin margins = vehicle-with 0 5 (five-gears 12000) margin margins 800 5600 1000
-
--- a second that is not its trip's first, not in the closing run and not after gear 1
-inside : Role
-inside = Inner
-
--- no holds
-free-trip : List ℕ
-free-trip = replicate 7 0
-
--- floor 1: a steady speed, and speeds rising throughout
-steady : List ℕ
-steady = replicate 4 100
-
-up : List ℕ
-up = 100 ∷ 110 ∷ 120 ∷ 130 ∷ 140 ∷ 150 ∷ 160 ∷ 170 ∷ []
-
--- speeds 0, 50, 150, 100, 0
-trace : List ℕ
-trace = 0 ∷ 50 ∷ 150 ∷ 100 ∷ 0 ∷ []
-
--- the same with second 2 at rest: two trips
-split : List ℕ
-split = 0 ∷ 50 ∷ 0 ∷ 100 ∷ 0 ∷ []
-
--- a short trip, then a longer one whose first choices are corrected
-two-trips : List ℕ
-two-trips = 0 ∷ 50 ∷ 0 ∷ 150 ∷ 300 ∷ 450 ∷ 600 ∷ 450 ∷ 300 ∷ 150 ∷ 0 ∷ []
-
--- steady after a dip at second 3; and the same with the end of the dip in the closing run
-dip : List ℕ
-dip = 0 ∷ 100 ∷ 140 ∷ 115 ∷ 125 ∷ 125 ∷ 0 ∷ []
-
-dip-closing : List ℕ
-dip-closing = 0 ∷ 100 ∷ 140 ∷ 115 ∷ 125 ∷ 0 ∷ []
-
--- steady after a slow start
-slow-start : List ℕ
-slow-start = 0 ∷ 100 ∷ 118 ∷ 125 ∷ 125 ∷ 0 ∷ []
-
--- car Z and these speeds, without holds, as a job
-job-Z : List ℕ
-job-Z =
-    1 ∷ 5 ∷ 224 ∷ 93 ∷ 216 ∷ 54 ∷ 148 ∷ 35 ∷ 172 ∷ 27 ∷ 240 ∷ 21 ∷ 160 ∷ 6 ∷ 224 ∷ 43 ∷ 240 ∷ 46 ∷ 232 ∷ 7 ∷ 136 ∷ 39 ∷ 160 ∷ 31 ∷ 220 ∷ 11 ∷ 10 ∷
-    7 ∷ 160 ∷ 6 ∷ 100 ∷ 136 ∷ 14 ∷ 172 ∷ 2 ∷ 240 ∷ 21 ∷ 244 ∷ 3 ∷ 216 ∷ 29 ∷ 188 ∷ 5 ∷ 192 ∷ 37 ∷ 210 ∷ 6 ∷ 224 ∷ 43 ∷ 132 ∷ 7 ∷ 240 ∷ 46 ∷ 240 ∷ 6 ∷
-    5 ∷ 0 ∷ 50 ∷ 150 ∷ 1 ∷ 100 ∷ 0 ∷ 0 ∷ []
-
--- its first bytes, with another sample count and nothing after it
-counting : List ℕ → List ℕ
-counting count = take 55 job-Z ++ count
-
--- what a row is about: numbers, a power, a test, a group that is read, a refusal or none
-data Value : Type 0 where
-  numbers : List ℕ → Value
-  scaled : ℤ → Value
-  test : Bool → Value
-  reading : Read ℕ → Value
-  refusal : Option Fault → Value
-
--- "refused 1 at 0" and a line's end
-too-long : List ℕ
-too-long = 114 ∷ 101 ∷ 102 ∷ 117 ∷ 115 ∷ 101 ∷ 100 ∷ 32 ∷ 49 ∷ 32 ∷ 97 ∷ 116 ∷ 32 ∷ 48 ∷ 10 ∷ []
-
--- what the definitions work out, beside what the paper prints
-record Row : Type 0 where
-  pub worked : Value
-  pub paper : Value
-
-row : Value → Value → Row
-row w p = record { worked = w; paper = p }
-
--- the first choice of car Z inside a trip
-choice : ℕ → ℤ → Value
-choice v d = numbers (choose Z inside v d ∷ [])
-
--- the gear above the lowest at the three places
-next-minimums : Vehicle → Value
-next-minimums car = numbers (minimum car Inner 2 ∷ minimum car Closing 2 ∷ minimum car AfterLow 2 ∷ [])
-
--- the first choices of the moving seconds 1 to n
-firsts-of : Vehicle → List ℕ → List ℕ → ℕ → Value
-firsts-of car vs hs n = numbers (table (first-at car vs hs) 1 n)
-
--- a refusal, by number and place
-refused-by : ℕ → ℕ → Value
-refused-by n i = refusal (some (record { no = n; spot = i }))
-
--- refused for want of a gear
-no-gear-at : ℕ → Value
-no-gear-at = refused-by 10
-
--- a job's version, and the margins of its first eight places
-margins-read : List ℕ → List ℕ
-margins-read bytes = let j = job-of (job-read bytes 9 9) in j .version ∷ take 8 (j .vehicle .m)
-
--- a summary as it is printed: standing seconds, seconds in the gears 1 to 10, gear changes
-counted-as : Summary → Value
-counted-as m = numbers (m .standing ∷ (m .gears ++ (m .changes ∷ [])))
-
--- that of car Z's card, and of the card with gear 3 held at second 2
-of-Z : Summary
-of-Z = summary trace (17 ∷ 1 ∷ 2 ∷ 18 ∷ 0 ∷ [])
-
-of-held : Summary
-of-held = summary trace (17 ∷ 1 ∷ 19 ∷ 18 ∷ 0 ∷ [])
-
--- every count at one number
-all-at : ℕ → Summary
-all-at n = record { standing = n; gears = replicate 10 n; changes = n }
+use Rattle.rules.proofs.Cases.Cars.{vehicle-with, five-gears, car-with, car-of, car-Z, Z, halves, halves-after, gap, van-with, van, gap-van, margins-Z, inside, free-trip, steady, up, trace, split, two-trips, dip, dip-closing, slow-start, job-Z, counting, Value, too-long, Row, row, choice, next-minimums, firsts-of, refused-by, no-gear-at, margins-read, counted-as, of-Z, of-held, all-at, numbers, scaled, test, reading, refusal}
 
 rows : List Row
 rows =
@@ -406,5 +224,5 @@ papers [] = []
 papers (r ∷ rs) = r .paper ∷ papers rs
 
 sums-done-on-paper : sums rows ≡ papers rows
-unfolding sums papers rows row choice vehicle-with five-gears van-with van gap-van refused-by car-of car-Z Z halves inside free-trip steady up trace two-trips job-Z _and_ _or_ within every first highest pass table patch ratio-of ratio-good point-good bounds first-failed bad-field low longest moving rise start run stop engine minimum-of minimum under-nmax over-minimum allowed fits required between on-segment reaches segment power-speed power enough more suits beats strongest choose floor closing ceiling here first-choice free is-peak peak too-high rising too-low slowing firsts gears trip-speeds trip-holds first-at gear-at clutch byte card-at card refuse-at _orelse_ when trace-fault room-fault vehicle-fault not-driven check-number checks bad fault-of seconds-fault span-fault work-fault left edit-fault hand-on demand early group-if group value checked bounded _then_ seen row-read in-a-row many counted whole version profile gearbox eight-numbers point curve seconds speeds hold padded vehicle-of vehicle put holds packed stages job job-read digits decimal heading pedal line lines card-text refusal-text worked-text read-text printed next-minimums firsts-of no-gear-at car-with halves-after gap dip dip-closing slow-start is-first next-minimum role-at role-of form row-write points-of parts-of gather fields job-from job-bytes split counting too-long read-fault program-room printed-fault margins-read job-of margins-Z margin-good derated known only-if checks-fault counted-as of-Z of-held all-at tally rests drives changes summary summary-fault counted-summary settled updated all-checks second asked-speeds asked-holds around hold-span span none-held fails asked-fault asked-screen edited
+unfolding sums papers rows row choice vehicle-with five-gears van-with van gap-van refused-by car-of car-Z Z halves inside free-trip steady up trace two-trips job-Z _and_ _or_ within every first highest pass table patch ratio-of ratio-good point-good bounds first-failed bad-field low longest moving rise start run stop engine minimum-of minimum under-nmax over-minimum allowed fits required between on-segment reaches segment power-speed power enough more suits beats strongest choose floor closing ceiling here first-choice free is-peak peak too-high rising too-low slowing firsts after-A after-B gears trip-speeds trip-holds first-at gear-at clutch byte card-at card refuse-at _orelse_ when trace-fault room-fault vehicle-fault not-driven check-number checks bad fault-of seconds-fault span-fault work-fault left edit-fault hand-on demand early group-if group value checked bounded _then_ seen row-read in-a-row many counted whole version profile gearbox eight-numbers point curve seconds speeds hold padded vehicle-of vehicle put holds packed stages job job-read digits decimal heading pedal line lines card-text refusal-text worked-text read-text printed next-minimums firsts-of no-gear-at car-with halves-after gap dip dip-closing slow-start is-first next-minimum role-at role-of form row-write points-of parts-of gather fields job-from job-bytes split counting too-long read-fault program-room printed-fault margins-read job-of margins-Z margin-good derated known only-if checks-fault counted-as of-Z of-held all-at tally rests drives changes summary summary-fault counted-summary settled updated all-checks second asked-speeds asked-holds around hold-span span none-held fails asked-fault asked-screen edited
 sums-done-on-paper = refl

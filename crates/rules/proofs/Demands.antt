@@ -1,21 +1,11 @@
 -- The demands on one edit, said once over what a contract of an edit says: for `cards` an answer and the lists that are left, for `summaries` the summary too.
 -- A crate above shows `EditedBy`, or `EditedWith`, of its functions' contracts, and cites these.
 -- Assumes nothing.
-use Prim.Native.Nat.{ℕ, _≤_, _<_}
-use mathlib.Core.Path.{_≡_, refl, sym, ap, _∙_}
-use mathlib.Core.Logic.{_≢_}
-use mathlib.Core.Bool.{false}
-use mathlib.Core.Option.{none, some}
-use mathlib.Core.List.{List}
-use lib.ListN.{length}
-use Rattle.rules.specs.declared.Vehicle.{Vehicle}
-use Rattle.rules.specs.declared.Answer.{Answer}
+use Rattle.rules.proofs.Base.{ℕ, _≤_, _<_, _≡_, sym, ap, _∙_, _≢_, false, none, some, List, length, Vehicle, Answer, Edit, Hold}
 use Rattle.rules.specs.Words.{at}
 use Rattle.rules.specs.Corrections.{shown}
 use Rattle.rules.specs.Refusals.{Fault, said, work-fault, work-card}
 use Rattle.rules.specs.Summary.{summary}
-use Rattle.rules.specs.declared.Edit.{Edit}
-use Rattle.rules.specs.declared.Edit.the-variants.{Hold}
 use Rattle.rules.specs.Edit.{Screen, second, asked-speeds, asked-holds, span, edit-fault, edited}
 use Rattle.rules.specs.Vocabulary.{Out, Right, Counted, Spares, seconds-in, none-held}
 use Rattle.rules.proofs.Laws.Refusals.{said-once}

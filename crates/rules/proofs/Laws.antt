@@ -1,5 +1,6 @@
 -- Laws of the definitions, by subject. A reader of the paper need not believe them: they are proved.
 pub mod Words
+pub mod Searches
 pub mod Walk
 pub mod Trips
 pub mod Vehicle
@@ -18,12 +19,17 @@ pub mod Limits
 pub mod Checks
 pub mod Cards
 pub mod Geared
+pub mod GearedTrips
+pub mod GearedCards
 pub mod Want
+pub mod Window
 pub mod Reaches
 pub mod Span
 pub mod Edits
+pub mod Buttons
 pub mod Rising
 pub mod Summary
+pub mod Counted
 pub mod Reading
 pub mod Groups
 pub mod Forms
@@ -36,3 +42,6 @@ pub mod Vans
 pub mod Reach
 pub mod Long
 pub mod Refusals
+pub mod Told
+pub mod ToldReading
+pub mod Rooms

@@ -14,19 +14,26 @@ use crate::says::say_values;
 use rules::Vehicle;
 use summaries::Counted;
 
-// The edit that the line asks for; none where it only asks for the working.
+// What a line asks of its job: its first letter and its first two numbers.
+struct Asked {
+    verb: u8,
+    one: u16,
+    two: u16,
+}
+
+// The edit that is asked for; none where only the working is.
 fn edited(
-    line: Line,
+    asked: Asked,
     car: Vehicle,
     speeds: &mut [u16],
     holds: &mut [u8],
     card: &mut [u8],
     worked: Counted,
 ) -> Counted {
-    let second = line.numbers[1] as usize;
-    let value = line.numbers[2];
+    let second = wide(asked.one);
+    let value = asked.two;
     let was = worked.summary;
-    let verb = line.verb;
+    let verb = asked.verb;
     match verb {
         b'h' => edits::hold(car, speeds, holds, card, second, (value % 256) as u8, was),
         b'r' => edits::release(car, speeds, holds, card, second, was),
@@ -35,12 +42,7 @@ fn edited(
     }
 }
 
-fn screen(line: Line, car: Vehicle, speeds: &mut [u16], holds: &mut [u8], card: &mut [u8]) {
-    let answer = cards::work(car, speeds, holds, card);
-    let counted = summaries::summary_of(speeds, card);
-    let summary = counted.summary;
-    let worked = Counted { answer, summary };
-    let now = edited(line, car, speeds, holds, card, worked);
+fn show<'a>(now: Counted, speeds: &'a [u16], holds: &'a [u8], card: &'a [u8]) {
     let told = now.answer;
     let counts = now.summary;
     say_answer(told);
@@ -50,35 +52,50 @@ fn screen(line: Line, car: Vehicle, speeds: &mut [u16], holds: &mut [u8], card: 
     say_summary(counts);
 }
 
+fn screen(asked: Asked, car: Vehicle, speeds: &mut [u16], holds: &mut [u8], card: &mut [u8]) {
+    let answer = cards::work(car, speeds, holds, card);
+    let counted = summaries::summary_of(speeds, card);
+    let summary = counted.summary;
+    let worked = Counted { answer, summary };
+    let now = edited(asked, car, speeds, holds, card, worked);
+    show(now, speeds, holds, card);
+}
+
 // The job written into a room, and that room.
 fn save<'a>(version: u16, car: Vehicle, speeds: &'a [u16], holds: &'a [u8], room: &mut [u8]) {
-    let written = jobs::write(version, car, speeds, holds, room);
+    let written = writing::write(version, car, speeds, holds, room);
     let told = written.answer;
     say_answer(told);
     say_bytes(room);
 }
 
-fn save_in<'a>(line: Line, car: Vehicle, speeds: &'a [u16], holds: &'a [u8], room: &mut [u8]) {
-    let m = wide(line.numbers[2]);
+fn save_in<'a>(asked: Asked, car: Vehicle, speeds: &'a [u16], holds: &'a [u8], room: &mut [u8]) {
+    let m = wide(asked.two);
     if room.len() < m {
         return;
     }
-    save(line.numbers[1], car, speeds, holds, &mut room[..m]);
+    save(asked.one, car, speeds, holds, &mut room[..m]);
 }
 
-// The job read into the rooms, and what the line asks for then.
-fn in_rooms(line: Line, job: &[u8], speeds: &mut [u16], holds: &mut [u8], card: &mut [u8]) {
-    let read = jobs::read(job, speeds, holds);
-    let n = read.count;
-    let car = read.vehicle;
-    let told = read.answer;
-    let verb = line.verb;
-    if verb == b'j' {
-        say_answer(told);
-        say_values(speeds);
-        say_bytes(holds);
+// The job that was read is written, or worked.
+fn of_trace(asked: Asked, car: Vehicle, speeds: &mut [u16], holds: &mut [u8], card: &mut [u8]) {
+    if asked.verb == b's' {
+        let mut room = [7u8; 256];
+        save_in(asked, car, speeds, holds, &mut room);
         return;
     }
+    screen(asked, car, speeds, holds, card);
+}
+
+// In the rooms' first n places.
+fn of_car(
+    asked: Asked,
+    car: Vehicle,
+    n: usize,
+    speeds: &mut [u16],
+    holds: &mut [u8],
+    card: &mut [u8],
+) {
     if speeds.len() < n {
         return;
     }
@@ -88,19 +105,40 @@ fn in_rooms(line: Line, job: &[u8], speeds: &mut [u16], holds: &mut [u8], card: 
     if card.len() < n {
         return;
     }
-    if verb == b's' {
-        let mut room = [7u8; 256];
-        save_in(line, car, &speeds[..n], &holds[..n], &mut room);
+    of_trace(
+        asked,
+        car,
+        &mut speeds[..n],
+        &mut holds[..n],
+        &mut card[..n],
+    );
+}
+
+// The job read into the rooms, and what is asked of it then.
+fn in_rooms(asked: Asked, job: &[u8], speeds: &mut [u16], holds: &mut [u8], card: &mut [u8]) {
+    let read = reading::read(job, speeds, holds);
+    let n = read.count;
+    let car = read.vehicle;
+    let told = read.answer;
+    if asked.verb == b'j' {
+        say_answer(told);
+        say_values(speeds);
+        say_bytes(holds);
         return;
     }
-    screen(line, car, &mut speeds[..n], &mut holds[..n], &mut card[..n]);
+    of_car(asked, car, n, speeds, holds, card);
 }
 
 fn of_job(line: Line, job: &[u8]) {
+    let asked = Asked {
+        verb: line.verb,
+        one: line.numbers[1],
+        two: line.numbers[2],
+    };
     let mut speeds = [7u16; 24];
     let mut holds = [7u8; 24];
     let mut card = [99u8; 24];
-    in_rooms(line, job, &mut speeds, &mut holds, &mut card);
+    in_rooms(asked, job, &mut speeds, &mut holds, &mut card);
 }
 
 // F1 may be negative: its sign.

@@ -1,13 +1,6 @@
 -- Request Nine, over the contract of `summary_of` as the check reads it. Of the edits it stands in rules/proofs/Demands.
 -- Assumes nothing.
-use Prim.Native.Nat.{ℕ}
-use mathlib.Core.Path.{_≡_, sym, _∙_}
-use mathlib.Core.Option.{none}
-use mathlib.Core.List.{List}
-use denote.Ref.{now}
-use denote.Triple.Clauses.{Lasts, atExit}
-use contract.Lifetimes.{Lfts}
-use borrow.Fn.Kinds.{Dens, endedOf, resT}
+use Rattle.rules.proofs.Base.{ℕ, _≡_, sym, _∙_, none, List, now, Lasts, atExit, Lfts, Dens, endedOf, resT}
 use Rattle.rules.specs.Refusals.{said}
 use Rattle.rules.specs.Summary.{summary, summary-fault, counted-summary}
 use Rattle.rules.proofs.Laws.Checks.{left-none}

@@ -1,13 +1,6 @@
 -- A count, and the counts of a summary, brought up to date.
 -- Assumes nothing.
-use Prim.Native.Nat.{ℕ, _+_, _-_, _≤_, _<_}
-use native.Mathlib.Nat.{zero-add}
-use native.Mathlib.Numerals.{add-one, one-add}
-use native.Mathlib.Omega.{arith}
-use mathlib.Core.Path.{_≡_, sym, _∙_}
-use mathlib.Core.List.{List}
-use lib.ListN.{length, set, length-set}
-use lib.Seq.{getD-set-same, getD-set-other, ext-getD}
+use Rattle.rules.proofs.Base.{ℕ, _+_, _-_, _≤_, _<_, zero-add, add-one, one-add, arith, _≡_, sym, _∙_, List, length, set, length-set, getD-set-same, getD-set-other, ext-getD}
 use Rattle.rules.specs.declared.Summary.{Summary}
 use Rattle.rules.specs.Words.{at, table}
 use Rattle.rules.specs.Summary.{settled, updated}
@@ -32,7 +25,7 @@ between was before after h = omega arith
 module _ (was : Summary) (before after : Tally) where
   -- the count of gear k + 1
   abbrev one : ℕ → ℕ
-  one k = settled (at (was .gears) k) (at (before .gears) (k + 1)) (at (after .gears) (k + 1))
+  one k = settled (at (was .gears) k) (at (before .counts) (k + 1)) (at (after .counts) (k + 1))
 
   -- the first k are there
   pub record Settled (gears : List ℕ) (k : ℕ) : Type 0 where
@@ -53,11 +46,11 @@ module _ (was : Summary) (before after : Tally) where
       (λ j l. let m : j < 10 = omega (arith, S .places) in S .each j (omega arith) ∙ sym (at-table one 0 10 j m ∙ rw (zero-add j)))
 
   -- so the whole summary
-  pub updated-is : {m : Summary} → m .standing ≡ settled (was .standing) (before .standing) (after .standing) → m .gears ≡ table one 0 10
+  pub updated-is : {m : Summary} → m .standing ≡ settled (was .standing) (at (before .counts) 16) (at (after .counts) 16) → m .gears ≡ table one 0 10
       → m .changes ≡ settled (was .changes) (before .changes) (after .changes) → m ≡ updated was (in-ten before) (in-ten after)
   unfolding updated in-ten
   updated-is a b c =
       same-counts a
       (b ∙ table-ext _ _ 0 10 (λ k p q.
-      rw (at-table (at (before .gears)) 1 10 k (omega arith), at-table (at (after .gears)) 1 10 k (omega arith), one-add k, add-one k)))
+      rw (at-table (at (before .counts)) 1 10 k (omega arith), at-table (at (after .counts)) 1 10 k (omega arith), one-add k, add-one k)))
       c

@@ -1,11 +1,6 @@
 -- A whole card counted: what counting it asks, and that the counts are its summary.
 -- Assumes nothing.
-use Prim.Native.Nat.{ℕ, _-_, _≤_}
-use native.Mathlib.Omega.{arith}
-use mathlib.Core.Path.{_≡_, sym, ap, _∙_}
-use mathlib.Core.Option.{Option, none}
-use mathlib.Core.List.{List, []}
-use lib.ListN.{length}
+use Rattle.rules.proofs.Base.{ℕ, _-_, _≤_, arith, _≡_, sym, ap, _∙_, Option, none, List, [], length}
 use Rattle.rules.specs.declared.Summary.{Summary}
 use Rattle.rules.specs.declared.Answer.{Answer}
 use Rattle.rules.specs.declared.Answer.the-variants.{Done}

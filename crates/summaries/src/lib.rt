@@ -16,9 +16,8 @@ pub struct Counted {
     pub summary: Summary,
 }
 
-// What has been counted so far: standing seconds, moving seconds in each gear that a byte can show, 0 to 15, and gear changes.
+// What has been counted so far: moving seconds in each gear that a byte can show, 0 to 15, at place 16 standing seconds; and gear changes.
 pub struct Tally {
-    pub standing: u16,
-    pub gears: [u16; 16],
+    pub counts: [u16; 17],
     pub changes: u16,
 }

@@ -28,12 +28,12 @@ fn settled(was: u16, before: u16, after: u16) -> u16
 
 // The counts of the gears 1 to 10.
 fn settled_gears(was: Summary, before: Tally, after: Tally) -> [u16; 10]
-    ensures { λ r. ⌜ r ≡ table (λ k. settled (at (was .gears) k) (at (before .gears) (k + 1)) (at (after .gears) (k + 1))) 0 10 ⌝ }
+    ensures { λ r. ⌜ r ≡ table (λ k. settled (at (was .gears) k) (at (before .counts) (k + 1)) (at (after .counts) (k + 1))) 0 10 ⌝ }
 {
     let mut gears = [0u16; 10];
     let mut k: usize = 0;
     while k < 10 {
-        gears[k] = settled(was.gears[k], before.gears[k + 1], after.gears[k + 1]);
+        gears[k] = settled(was.gears[k], before.counts[k + 1], after.counts[k + 1]);
         k += 1;
     }
     gears
@@ -45,7 +45,7 @@ pub fn updated(was: Summary, before: Tally, after: Tally) -> Summary
 {
     let gears = settled_gears(was, before, after);
     Summary {
-        standing: settled(was.standing, before.standing, after.standing),
+        standing: settled(was.standing, before.counts[16], after.counts[16]),
         gears,
         changes: settled(was.changes, before.changes, after.changes),
     }

@@ -1,15 +1,10 @@
 -- Passes A and B as loops: what such a pass has made of the trip so far, and the gear before, as corrected, that it takes along.
 -- Assumes nothing.
-use Prim.Native.Nat.{ℕ, _+_, _-_, _≤_, _<_}
-use native.Mathlib.Omega.{arith}
-use mathlib.Core.Path.{_≡_, refl, sym, ap, _∙_}
-use mathlib.Core.List.{List}
-use lib.ListN.{length, set, length-set}
-use lib.Seq.{getD-set-same}
+use Rattle.rules.proofs.Base.{ℕ, _+_, _-_, _≤_, _<_, arith, _≡_, refl, sym, ap, _∙_, List, length, set, length-set, getD-set-same}
 use Rattle.rules.specs.declared.Vehicle.{Vehicle}
 use Rattle.rules.specs.Words.{at, pass}
 use Rattle.rules.specs.Corrections.{peak, rising}
-use Rattle.trips.proofs.Passes.{pass-first, pass-more}
+use Rattle.trips.proofs.Passes.{pass-first, pass-more, pass-kept}
 use Rattle.trips.proofs.Seconds.{free-first, peak-still, rising-still}
 use Rattle.trips.specs.Ready.{Later}
 
@@ -41,6 +36,17 @@ module _ (P : Vehicle → Type 0) (f : Vehicle → ℕ → List ℕ → ℕ) whe
           size = simp length-set (L .size);
           so-far = λ car H. pass-more (f car) gs₀ gs j r (L .so-far car H) (h car H);
           later = record { from = omega arith; last-is = rw one (same ∙ sym (getD-set-same gs j r 0 l)) };
+        }
+
+    -- second j stays as it is, and its gear is now the gear before
+    pub along-kept : j < length gs → ((car : Vehicle) → P car → at gs j ≡ f car j gs) → Along gs₀ gs (j + 1) (at gs j)
+    along-kept l h =
+        let one : j + 1 - 1 ≡ j = omega arith in
+        record {
+          within = omega arith;
+          size = L .size;
+          so-far = λ car H. pass-kept (f car) gs₀ gs j (L .so-far car H) (h car H);
+          later = record { from = omega arith; last-is = rw one };
         }
 
     -- the trip ends

@@ -1,21 +1,11 @@
 -- A trip's bytes, worked from its parts, are those of the card.
 -- Assumes nothing.
-use Prim.Native.Nat.{ℕ, zero, suc, _+_, _-_, _≤_, _<_, _%_}
-use native.Mathlib.Nat.{zero-add}
-use native.Mathlib.Omega.{arith}
-use mathlib.Core.Path.{_≡_, refl, sym, ap, _∙_}
-use mathlib.Core.Logic.{_≢_, _⊎_, inl, inr}
-use mathlib.Core.Bool.{Bool, true, false}
-use mathlib.Core.List.{List, [], _∷_, _++_}
-use lib.Dec.{leb, ltb}
-use lib.ListN.{length, set, take, drop, length-set, length-drop, List·getD-eq-default}
-use lib.Seq.{ext-getD, take-all, getD-set-same, getD-set-other}
-use borrow.Author.Tests.{lt-leb, le-leb, lt-ltb, le-ltb}
+use Rattle.rules.proofs.Base.{ℕ, zero, suc, _+_, _-_, _≤_, _<_, _%_, zero-add, arith, _≡_, refl, sym, ap, _∙_, _≢_, _⊎_, inl, inr, Bool, true, false, List, [], _∷_, _++_, leb, ltb, length, set, take, drop, length-set, length-drop, List·getD-eq-default, ext-getD, take-all, getD-set-same, getD-set-other, lt-leb, le-leb, lt-ltb, le-ltb}
 use Rattle.rules.specs.declared.Vehicle.{Vehicle}
 use Rattle.rules.specs.Words.{if_then_else_, _and_, at, part, table, patch}
 use Rattle.rules.specs.Units.{moving, rise, start, stop}
 use Rattle.rules.specs.Corrections.{gears, trip-speeds, trip-holds, gear-at, clutch, byte, card-at, card}
-use Rattle.rules.specs.Vocabulary.{IsTrip}
+use Rattle.rules.specs.Vocabulary.Choosing.{IsTrip}
 use Rattle.rules.proofs.Laws.Words.{by-order, at-part, length-part, at-table, length-table, table-ext, table-add, table-at, patch-in, patch-out}
 use Rattle.rules.proofs.Laws.Trips.{trip-start, trip-stop}
 use Rattle.trips.specs.Trip.{trip-bytes}
@@ -36,6 +26,13 @@ module _ (car : Vehicle) (vs hs : List ℕ) {a b : ℕ} (T : IsTrip vs a b) (n :
         lt-ltb (suc (a + j)) (length vs) (omega arith),
         e,
       )
+
+  -- so is its gear
+  pub gear-part : (j : ℕ) → a + j < b → at (gears car (part vs a (suc b)) (part hs a b)) j ≡ gear-at car vs hs (a + j)
+  unfolding gear-at trip-speeds trip-holds
+  gear-part j h =
+      let z : a + j - a ≡ j = omega arith in
+      sym (rw (trip-start vs T (a + j) (omega arith) (omega arith), trip-stop vs T (a + j) (omega arith) (omega arith), z))
 
   -- the bytes of a trip, worked from its parts, are those of the card
   pub trip-is : trip-bytes car (part vs a (suc b)) (part hs a b) ≡ table (card-at car vs hs) a (b - a)

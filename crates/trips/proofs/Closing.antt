@@ -1,14 +1,6 @@
 -- Where the closing run of a trip begins, as a scan back from its end finds it.
 -- Assumes nothing.
-use Prim.Native.Nat.{ℕ, zero, suc, _-_, _≤_, _<_}
-use native.Mathlib.Omega.{arith}
-use mathlib.Core.Path.{_≡_, refl, sym, _∙_}
-use mathlib.Core.Bool.{Bool, true, false, not}
-use mathlib.Core.List.{List}
-use lib.Dec.{leb, ltb}
-use lib.ListN.{length, drop, drop-of-length-le}
-use lib.Seq.{drop-cons}
-use borrow.Author.Tests.{le-leb, lt-leb, le-ltb, lt-ltb}
+use Rattle.rules.proofs.Base.{ℕ, zero, suc, _-_, _≤_, _<_, arith, _≡_, refl, sym, _∙_, Bool, true, false, not, List, leb, ltb, length, drop, drop-of-length-le, drop-cons, le-leb, lt-leb, le-ltb, lt-ltb}
 use Rattle.rules.specs.Words.{_and_, _or_, at}
 use Rattle.rules.specs.Units.{moving}
 use Rattle.rules.specs.Corrections.{closing}

@@ -1,15 +1,6 @@
 -- D at a second of a trip, and the card's byte: an answer for each way through the code.
 -- Assumes nothing.
-use Prim.Native.Nat.{ℕ, zero, suc, _+_, _-_, _*_, _≤_, _<_}
-use native.Mathlib.Numerals.{add-one}
-use native.Mathlib.Omega.{arith}
-use mathlib.Core.Path.{_≡_}
-use mathlib.Core.Bool.{true, false}
-use mathlib.Core.List.{List}
-use lib.IntN.{pos, _-ℤ_}
-use lib.ListN.{length}
-use lib.Signed.{leZ}
-use borrow.Author.Tests.{le-leb, lt-leb, le-ltb, lt-ltb}
+use Rattle.rules.proofs.Base.{ℕ, zero, suc, _+_, _-_, _*_, _≤_, _<_, add-one, arith, _≡_, true, false, List, pos, _-ℤ_, length, leZ, le-leb, lt-leb, le-ltb, lt-ltb}
 use Rattle.rules.specs.declared.Vehicle.{Vehicle}
 use Rattle.rules.specs.Words.{at}
 use Rattle.rules.specs.Units.{rise}
@@ -25,7 +16,7 @@ unfolding rise
 rise-here us j l = rw (lt-ltb (suc j) (length us) (omega arith), add-one j)
 
 -- D is 0 or less where the next V is not above this V
-fall-yes : (a b : ℕ) → b ≤ a → leZ (pos b -ℤ pos a) (pos 0) ≡ true
+pub fall-yes : (a b : ℕ) → b ≤ a → leZ (pos b -ℤ pos a) (pos 0) ≡ true
 fall-yes zero b h = let e : b ≡ 0 = omega arith in rw e
 fall-yes (suc a) b h =
     by-order b (suc a)
@@ -33,7 +24,7 @@ fall-yes (suc a) b h =
     (λ l. let e : b ≡ suc a = omega arith in rw (pos-sub b (suc a) l, e) (le-leb (suc a - suc a) 0 (omega arith)))
 
 -- and above 0 where it is above
-fall-no : (a b : ℕ) → a < b → leZ (pos b -ℤ pos a) (pos 0) ≡ false
+pub fall-no : (a b : ℕ) → a < b → leZ (pos b -ℤ pos a) (pos 0) ≡ false
 fall-no a b h = rw (pos-sub b a (omega arith)) (lt-leb (b - a) 0 (omega arith))
 
 module _ (car : Vehicle) (us : List ℕ) (j g : ℕ) where

@@ -1,10 +1,6 @@
 -- Each public function's contract allows one outcome. `Reads` is the contract's own reading, which the check makes of the clauses.
 -- Assumes nothing.
-use Prim.Native.Nat.{ℕ}
-use mathlib.Core.Path.{_≡_, refl, sym, ap, _∙_}
-use mathlib.Core.List.{List, []}
-use lib.IntN.{pos}
-use denote.Ref.{now}
+use Rattle.rules.proofs.Base.{ℕ, _≡_, refl, sym, ap, _∙_, List, [], pos, now}
 use Rattle.gears.proofs.Parts.{built-has}
 use Rattle.once.specs.Determined.{Determined}
 use Rattle.rules.specs.declared.Vehicle.{Vehicle}
@@ -13,6 +9,8 @@ use Rattle.trips.proofs.byte.byte_at.Kinds as byte-at-kinds
 use Rattle.trips.proofs.byte.byte_at.Reads as byte-at-reads
 use Rattle.trips.proofs.byte.bytes.Kinds as bytes-kinds
 use Rattle.trips.proofs.byte.bytes.Reads as bytes-reads
+use Rattle.trips.proofs.byte.turning.Kinds as turning-kinds
+use Rattle.trips.proofs.byte.turning.Reads as turning-reads
 use Rattle.trips.proofs.peak.peak_at.Kinds as peak-at-kinds
 use Rattle.trips.proofs.peak.peak_at.Reads as peak-at-reads
 use Rattle.trips.proofs.peak.pass_a.Kinds as pass-a-kinds
@@ -31,6 +29,10 @@ use Rattle.trips.proofs.work.work_trip.Reads as work-trip-reads
 -- the byte of one second
 pub byte-at : Determined byte-at-kinds.ps byte-at-kinds.r byte-at-reads.Asked byte-at-reads.Learnt
 byte-at κs a asked z z′ ws ws′ p q = let H = built-has (a .0) (now (a .1 .0)) in (p _ H ∙ sym (q _ H), refl)
+
+-- the engine speed of any gear
+pub turning : Determined turning-kinds.ps turning-kinds.r turning-reads.Asked turning-reads.Learnt
+turning κs a asked z z′ ws ws′ p q = (p ∙ sym q, refl)
 
 -- the bytes of a trip
 pub bytes : Determined bytes-kinds.ps bytes-kinds.r bytes-reads.Asked bytes-reads.Learnt

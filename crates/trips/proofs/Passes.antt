@@ -1,24 +1,15 @@
 -- A pass as a loop meets it: one turn further, places that it leaves alone, places that it writes without having looked at them. And no gear of a trip is above ng + 1.
 -- Assumes nothing.
-use Prim.Native.Nat.{ℕ, zero, suc, _+_, _-_, _≤_, _<_}
-use native.Mathlib.Nat.{zero-add, le-refl, not-suc-le-zero}
-use native.Mathlib.Numerals.{add-one}
-use native.Mathlib.Omega.{arith}
-use mathlib.Core.Path.{_≡_, refl, sym, ap, _∙_}
-use mathlib.Core.Option.{Option, none, some, Option·getD}
-use mathlib.Core.List.{List}
-use lib.Dec.{eqb}
-use lib.ListN.{length, set, replicate, length-replicate}
-use lib.Seq.{getD-set-same, getD-set-other, set-getD, ext-getD}
-use borrow.Author.Tests.{ltb-true}
+use Rattle.rules.proofs.Base.{ℕ, zero, suc, _+_, _-_, _≤_, _<_, zero-add, le-refl, not-suc-le-zero, add-one, arith, _≡_, refl, sym, ap, _∙_, Option, none, some, Option·getD, List, eqb, length, set, replicate, length-replicate, getD-set-same, getD-set-other, set-getD, ext-getD, ltb-true}
 use Rattle.rules.specs.declared.Vehicle.{Vehicle}
 use Rattle.rules.specs.Words.{at, first, pass, table}
 use Rattle.rules.specs.Units.{low, rise}
 use Rattle.rules.specs.Gears.{under-nmax}
-use Rattle.rules.specs.Corrections.{floor, ceiling, role-of, here, first-choice, is-peak, peak, too-high, rising, too-low, slowing, firsts, gears}
+use Rattle.rules.specs.Corrections.{floor, ceiling, role-of, here, first-choice, is-peak, peak, too-high, rising, too-low, slowing, firsts, after-A, after-B, gears}
 use Rattle.rules.specs.Inside.{InBounds}
-use Rattle.rules.proofs.Laws.Words.{by-eq, by-order, if-ind, and-right, length-pass, pass-at, pass-later, pass-holds, length-table, at-table, Found, first-found}
-use Rattle.rules.proofs.Laws.Held.{length-firsts, length-A, length-B, first-is, after-A, after-B}
+use Rattle.rules.proofs.Laws.Words.{by-eq, by-order, if-ind, and-right, length-pass, pass-at, pass-later, pass-holds, length-table, at-table}
+use Rattle.rules.proofs.Laws.Searches.{Found, first-found}
+use Rattle.rules.proofs.Laws.Held.{length-firsts, length-A, length-B, first-is}
 use Rattle.rules.proofs.Laws.Choice.{choose-to}
 use Rattle.gears.specs.declared.Numbers.{Numbers}
 use Rattle.gears.proofs.Parts.{built}
@@ -34,6 +25,10 @@ pass-start f gs = refl
 pub pass-more : (f : ℕ → List ℕ → ℕ) (gs l : List ℕ) (k v : ℕ) → l ≡ pass f k gs → v ≡ f k l → set l k v ≡ pass f (k + 1) gs
 unfolding pass
 pass-more f gs l k v e h = rw (h, e, add-one)
+
+-- the rule leaves place k alone
+pub pass-kept : (f : ℕ → List ℕ → ℕ) (gs l : List ℕ) (k : ℕ) → l ≡ pass f k gs → at l k ≡ f k l → l ≡ pass f (k + 1) gs
+pass-kept f gs l k e h = sym (set-getD l k 0) ∙ pass-more f gs l k (at l k) e h
 
 -- places that the rule leaves alone may be passed over
 pub pass-skip : (f : ℕ → List ℕ → ℕ) (gs : List ℕ) (k : ℕ) → ((j : ℕ) → j < k → f j gs ≡ at gs j) → pass f k gs ≡ gs
@@ -155,12 +150,15 @@ module _ (car : Vehicle) (C : InBounds car) where
     unfolding slowing
     slowing-to j rs h = if-ind (To j) (too-low car us hs j rs) (λ t. omega (arith, C .low-ng)) (λ t. h)
 
-    -- the gears of a trip
-    pub gears-to : (j : ℕ) → j < length hs → at hs j ≤ car .ng → at (gears car us hs) j ≤ suc (car .ng)
-    unfolding gears after-B after-A
-    gears-to j l h =
+    -- the gears of a trip after B, and all in all
+    pub B-to : (j : ℕ) → j < length hs → at hs j ≤ car .ng → at (after-B car us hs) j ≤ suc (car .ng)
+    unfolding after-B after-A
+    B-to j l h =
         let n = length hs in
-        pass-holds (slowing car us hs) (after-B car us hs) To slowing-to n j (rw (length-B car us hs) l)
-        (pass-holds (rising car us hs) (after-A car us hs) To rising-to n j (rw (length-A car us hs) l)
+        pass-holds (rising car us hs) (after-A car us hs) To rising-to n j (rw (length-A car us hs) l)
         (pass-holds (peak car us hs) (firsts car us hs) To peak-to n j (rw (length-firsts car us hs) l)
-        (rw (first-is car us hs j l) (first-to j _ h))))
+        (rw (first-is car us hs j l) (first-to j _ h)))
+
+    pub gears-to : (j : ℕ) → j < length hs → at hs j ≤ car .ng → at (gears car us hs) j ≤ suc (car .ng)
+    unfolding gears
+    gears-to j l h = pass-holds (slowing car us hs) (after-B car us hs) To slowing-to (length hs) j (rw (length-B car us hs) l) (B-to j l h)

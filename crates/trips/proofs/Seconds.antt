@@ -1,19 +1,11 @@
 -- What passes A, B and C make of one second: an answer for each way through the code.
 -- Assumes nothing.
-use Prim.Native.Nat.{ℕ, suc, _+_, _-_, _≤_, _<_, max, min}
-use native.Mathlib.Numerals.{add-one}
-use native.Mathlib.Omega.{arith}
-use mathlib.Core.Path.{_≡_, refl, sym, _∙_}
-use mathlib.Core.Bool.{Bool, true, false}
-use mathlib.Core.List.{List}
-use lib.Dec.{leb, ltb, eqb}
-use lib.ListN.{length, drop}
-use borrow.Author.Tests.{le-leb, lt-leb, le-ltb, lt-ltb, eq-eqb, ne-eqb}
+use Rattle.rules.proofs.Base.{ℕ, suc, _+_, _-_, _≤_, _<_, max, min, add-one, arith, _≡_, refl, sym, _∙_, Bool, true, false, List, leb, ltb, eqb, length, drop, le-leb, lt-leb, le-ltb, lt-ltb, eqb-true, eqb-false, eq-eqb, ne-eqb}
 use Rattle.rules.specs.declared.Vehicle.{Vehicle}
-use Rattle.rules.specs.Words.{_and_, _or_, at}
+use Rattle.rules.specs.Words.{if_then_else_, _and_, _or_, at}
 use Rattle.rules.specs.Units.{low}
 use Rattle.rules.specs.Corrections.{floor, closing, ceiling, free, is-peak, peak, too-high, rising, too-low, slowing}
-use Rattle.rules.proofs.Laws.Words.{by-order, if-ind, both, and-no}
+use Rattle.rules.proofs.Laws.Words.{by-test, by-order, if-ind, both, and-no}
 use Rattle.trips.specs.Trip.{one-above}
 
 -- ---- tests
@@ -200,3 +192,10 @@ module _ (car : Vehicle) (us hs : List ℕ) (j : ℕ) where
     pub slowing-up : free car us hs j ≡ true → closing (drop j us) ≡ true → at gs j ≡ low car → low car + 1 ≡ slowing car us hs j gs
     unfolding slowing too-low
     slowing-up f c e = rw (both (both f c) (eq-eqb (at gs j) (low car) e))
+
+    -- past the trip's first second: unless it is held
+    pub slowing-lowest : 1 ≤ j → closing (drop j us) ≡ true → at gs j ≡ low car → (if eqb (at hs j) 0 then low car + 1 else low car) ≡ slowing car us hs j gs
+    slowing-lowest l c e =
+        by-test (eqb (at hs j) 0)
+        (λ t. rw t (slowing-up (free-later (eqb-true _ _ t) l) c e))
+        (λ t. rw t (sym e ∙ slowing-still (free-held (eqb-false _ _ t))))

@@ -1,22 +1,14 @@
 -- What the calls of one trip's work come to, one after the other.
 -- Assumes nothing.
-use Prim.Native.Nat.{ℕ, suc, _+_, _-_, _*_, _≤_, _<_}
-use native.Mathlib.Omega.{arith}
-use mathlib.Core.Path.{_≡_, refl, sym, ap, _∙_}
-use mathlib.Core.Bool.{Bool, true, false}
-use mathlib.Core.List.{List}
-use lib.Dec.{leb, eqb}
-use lib.IntN.{ℤ}
-use lib.ListN.{length, drop}
-use borrow.Author.Tests.{eq-eqb, ne-eqb}
+use Rattle.rules.proofs.Base.{ℕ, suc, _+_, _-_, _*_, _≤_, _<_, arith, _≡_, refl, sym, ap, _∙_, Bool, true, false, List, leb, eqb, ℤ, length, drop, eq-eqb, ne-eqb}
 use Rattle.rules.specs.declared.Vehicle.{Vehicle}
 use Rattle.rules.specs.declared.Role.the-variants.{First}
 use Rattle.rules.specs.Inside.{InBounds}
 use Rattle.rules.specs.Words.{if_then_else_, _and_, at, pass, table}
 use Rattle.rules.specs.Units.{rise}
-use Rattle.rules.specs.Corrections.{closing, role-of, here, first-choice, peak, rising, slowing, firsts, gears, byte}
+use Rattle.rules.specs.Corrections.{closing, role-of, here, first-choice, peak, rising, slowing, firsts, after-A, after-B, gears, byte}
 use Rattle.rules.proofs.Laws.Words.{by-order}
-use Rattle.rules.proofs.Laws.Held.{length-gears, after-A, after-B}
+use Rattle.rules.proofs.Laws.Held.{length-gears}
 use Rattle.trips.proofs.Passes.{pass-same, firsts-fresh, gears-to}
 use Rattle.gears.specs.declared.Numbers.{Numbers}
 use Rattle.gears.specs.Parts.{low-in, Has, Lent, Parts}
@@ -25,8 +17,8 @@ use Rattle.gears.proofs.Parts.{low-of, ng-of, points-of}
 use Rattle.gears.specs.Choosing.{Hints, only-lowest, first-of, first-parts}
 use Rattle.gears.proofs.Speeds.{fits-over, fits-one}
 use Rattle.gears.proofs.Choices.{choice-first}
-use Rattle.trips.specs.Ready.{HasRoom, Ready}
-use Rattle.trips.specs.Trip.{AllMoving, RunFrom, on-way, trip-bytes}
+use Rattle.trips.specs.Ready.{Geared, Ready}
+use Rattle.trips.specs.Trip.{AllMoving, RunFrom, AllGeared, on-way, trip-bytes}
 
 -- the first choice of a trip's first second with no hold: the lowest gear where it turns at most at nmax, otherwise none
 module _ {car : Vehicle} {k : Numbers} {ratio : List ℕ} (H : Has car k ratio) (b : InBounds car) (v : ℕ) (d : ℤ) (hold : ℕ) (free : hold ≡ 0) {g : ℕ} (e : g ≡ low-in k) where
@@ -85,18 +77,11 @@ module _ (car : Vehicle) (us hs : List ℕ) where
   unfolding trip-bytes
   bytes-is p q = rw (q, p, length-gears car us hs)
 
-  -- the trip's gears leave room for the clutch
-  module _ {k : Numbers} {ratio n p gs : List ℕ} (L : Lent car k ratio n p) (R : Ready k us hs gs) where
-    pub gears-small : {g : List ℕ} → g ≡ gears car us hs → HasRoom us g
-    gears-small {g} e =
-        let n : length g ≡ length hs = ap length e ∙ length-gears car us hs in
-        record {
-          speeds = omega (arith, R .lists .speeds);
-          small = λ j h.
-              let l : j < length hs = omega arith in
-              let b : at (gears car us hs) j ≤ suc (car .ng) = gears-to car (L .bounds) us hs j l (rw (ng-of (L .has .counts)) (R .hold j l)) in
-              rw e (omega (arith, L .bounds .ng-to));
-        }
+  -- the trip's gears have their places
+  pub gears-there : length us ≡ suc (length hs) → AllGeared car us hs → {g : List ℕ} → g ≡ gears car us hs → Geared us g
+  gears-there s G {g} e =
+      let n : length g ≡ length hs = ap length e ∙ length-gears car us hs in
+      record { speeds = omega arith; gear = λ j h. rw e (G .gear j (omega arith)) }
 
 -- the gears are no more than the ratios have places, and the lowest is one of them
 pub gears-few : {k : Numbers} {ratio n p : List ℕ} → Parts k ratio n p → Driven k

@@ -9,6 +9,7 @@ use lib.ListN.{length}
 use Rattle.rules.specs.Words.{at}
 use Rattle.rules.specs.Units.{fastest, steepest, moving, rise}
 use Rattle.gears.specs.declared.Numbers.{Numbers}
+use Rattle.gears.specs.Second.{Gear}
 
 -- a hold and a gear for each second of the trip, and one speed more: the one that follows
 pub record Aligned (us hs gs : List ℕ) : Type 0 where
@@ -25,10 +26,10 @@ pub record Later (gs : List ℕ) (j last : ℕ) : Type 0 where
   pub from : 1 ≤ j
   pub last-is : last ≡ at gs (j - 1)
 
--- gears that leave room for 16 more in a byte, and one speed more than gears
-pub record HasRoom (us gs : List ℕ) : Type 0 where
+-- gears that the ratios have places for, and one speed more than gears
+pub record Geared (us gs : List ℕ) : Type 0 where
   pub speeds : length us ≡ suc (length gs)
-  pub small : (j : ℕ) → j < length gs → at gs j ≤ 239
+  pub gear : (j : ℕ) → j < length gs → Gear (at gs j)
 
 -- speeds and steps within their bounds
 pub record Paced (us hs : List ℕ) : Type 0 where

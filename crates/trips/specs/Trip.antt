@@ -10,6 +10,7 @@ use Rattle.rules.specs.declared.Vehicle.{Vehicle}
 use Rattle.rules.specs.Words.{if_then_else_, _and_, _or_, at, table}
 use Rattle.rules.specs.Units.{moving, rise}
 use Rattle.rules.specs.Corrections.{closing, role-of, gears, byte}
+use Rattle.gears.specs.Second.{Gear}
 use Rattle.gears.specs.Choosing.{first-of}
 
 -- every second of the trip is moving
@@ -36,6 +37,10 @@ pub record Closes (r : ℕ) (hs gs : List ℕ) : Type 0 where
 -- g is one above the larger of p and q, and one or two above the smaller
 unfoldable pub one-above : ℕ → ℕ → ℕ → Bool
 one-above p g q = eqb g (max p q + 1) and (eqb g (min p q + 1) or eqb g (min p q + 2))
+
+-- every second of the trip has a gear: 7 and 10 have passed
+pub record AllGeared (car : Vehicle) (us hs : List ℕ) : Type 0 where
+  pub gear : (j : ℕ) → j < length hs → Gear (at (gears car us hs) j)
 
 -- the bytes of a trip, from its own speeds with the one that follows, and its own holds
 unfoldable pub trip-bytes : Vehicle → List ℕ → List ℕ → List ℕ

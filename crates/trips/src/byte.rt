@@ -1,13 +1,15 @@
 // The card's bytes of one trip.
 ghost use mathlib.Core.Path.{_≡_};
-ghost use Prim.Native.Nat.{_+_, _-_, _*_, _≤_, _<_};
+ghost use Prim.Native.Nat.{_+_, _-_, _*_, _<_};
 ghost use lib.ListN.{length};
 ghost use Rattle.rules.specs.Words.{at, table};
 ghost use Rattle.rules.specs.Corrections.{byte};
 ghost use Rattle.rules.specs.declared.Vehicle.{Vehicle};
 ghost use Rattle.gears.specs.Parts.{Has};
-ghost use Rattle.trips.specs.Ready.{HasRoom};
+ghost use Rattle.gears.specs.Second.{Gear};
+ghost use Rattle.trips.specs.Ready.{Geared};
 use gears::Numbers;
+use gears::engine;
 
 // Where a gear's ratio stands. A gear that is none, 0, has gear 1's.
 fn place(g: u8) -> usize
@@ -20,7 +22,7 @@ fn place(g: u8) -> usize
 }
 
 // Engine speed X = G x V of any gear. Past the last ratio there is none, and X is 0.
-fn turning(ratio: &[u16], g: u8, v: u16) -> u64
+pub fn turning(ratio: &[u16], g: u8, v: u16) -> u64
     ensures { λ r. ⌜ r ≡ at (now (ratio .entry)) (g - 1) * v ⌝ }
 {
     let i = place(g);
@@ -39,7 +41,7 @@ fn bottom(k: Numbers) -> u64
 
 // The byte of second j, whose gear is g: plus 16 with the clutch down.
 pub fn byte_at(k: Numbers, ratio: &[u16; 10], us: &[u16], j: usize, g: u8) -> u8
-    requires { ⌜ (j + 1 < length (now us)) × (g ≤ 239) ⌝ }
+    requires { ⌜ (j + 1 < length (now us)) × Gear g ⌝ }
     ensures { λ r. ⌜ ((car : Vehicle) → Has car k (now (ratio .entry)) → r ≡ byte car (now (us .entry)) j g) ⌝ }
 {
     let v = us[j];
@@ -47,7 +49,7 @@ pub fn byte_at(k: Numbers, ratio: &[u16; 10], us: &[u16], j: usize, g: u8) -> u8
     if v < next {
         return g;
     }
-    if bottom(k) <= turning(ratio, g, v) {
+    if bottom(k) <= engine(ratio, g as usize, v) {
         return g;
     }
     g + 16
@@ -55,7 +57,7 @@ pub fn byte_at(k: Numbers, ratio: &[u16; 10], us: &[u16], j: usize, g: u8) -> u8
 
 // A trip's gears become its bytes.
 pub fn bytes(k: Numbers, ratio: &[u16; 10], us: &[u16], gs: &mut [u8])
-    requires { ⌜ HasRoom (now us) (now gs) ⌝ }
+    requires { ⌜ Geared (now us) (now gs) ⌝ }
     ensures { λ r. ⌜ ((car : Vehicle) → Has car k (now (ratio .entry)) → now (gs .exit) ≡ table (λ j. byte car (now (us .entry)) j (at (now (gs .entry)) j)) 0 (length (now (gs .entry)))) ⌝ }
 {
     let mut j = 0;

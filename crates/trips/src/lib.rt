@@ -5,5 +5,10 @@ mod rising;
 mod slowing;
 mod work;
 
+pub use byte::turning;
+pub use peak::pass_a;
+pub use rising::pass_b;
+pub use slowing::closing_from;
+pub use slowing::pass_c;
 pub use work::first_choices;
 pub use work::work_trip;

@@ -3,7 +3,7 @@ ghost use mathlib.Core.Path.{_≡_};
 ghost use Prim.Native.Nat.{_+_, _≤_, _<_};
 ghost use lib.Dec.{eqb};
 ghost use lib.ListN.{length};
-ghost use Rattle.rules.specs.Words.{_and_, _or_, pass};
+ghost use Rattle.rules.specs.Words.{_and_, _or_, at, pass};
 ghost use Rattle.rules.specs.Corrections.{peak};
 ghost use Rattle.rules.specs.declared.Vehicle.{Vehicle};
 ghost use Rattle.gears.specs.Parts.{Has};
@@ -35,7 +35,7 @@ fn one_above(p: u8, g: u8, q: u8) -> bool
     over(q, g, p)
 }
 
-// What pass A makes of second j, after gear last. Most gears are no higher than the one before.
+// What pass A makes of second j, whose gear is g, after a lower one, last.
 pub fn peak_at(
     k: Numbers,
     ratio: &[u16; 10],
@@ -43,15 +43,12 @@ pub fn peak_at(
     hs: &[u8],
     gs: &[u8],
     j: usize,
+    g: u8,
     last: u8,
 ) -> u8
-    requires { ⌜ Driven k × Aligned (now us) (now hs) (now gs) × Later (now gs) j last × (j < length (now gs)) ⌝ }
+    requires { ⌜ Driven k × Aligned (now us) (now hs) (now gs) × Later (now gs) j last × (j < length (now gs)) × (g ≡ at (now gs) j) × (last < g) ⌝ }
     ensures { λ r. ⌜ ((car : Vehicle) → Has car k (now (ratio .entry)) → r ≡ peak car (now (us .entry)) (now (hs .entry)) j (now (gs .entry))) ⌝ }
 {
-    let g = gs[j];
-    if g <= last {
-        return g;
-    }
     if hs[j] != 0 {
         return g;
     }
@@ -70,7 +67,7 @@ pub fn peak_at(
     g
 }
 
-// Pass A, one-second peaks. The trip's first second stays, and the gear before goes along, as corrected.
+// Pass A, one-second peaks. The trip's first second stays, and the gear before goes along, as corrected. Most gears are no higher than it, and stay.
 pub fn pass_a(k: Numbers, ratio: &[u16; 10], us: &[u16], hs: &[u8], gs: &mut [u8])
     requires { ⌜ Driven k × Aligned (now us) (now hs) (now gs) ⌝ }
     ensures { λ r. ⌜ ((car : Vehicle) → Has car k (now (ratio .entry)) → now (gs .exit) ≡ pass (peak car (now (us .entry)) (now (hs .entry))) (length (now (hs .entry))) (now (gs .entry))) ⌝ }
@@ -81,8 +78,14 @@ pub fn pass_a(k: Numbers, ratio: &[u16; 10], us: &[u16], hs: &[u8], gs: &mut [u8
     let mut j = 1;
     let mut last = gs[0];
     while j < gs.len() {
-        last = peak_at(k, ratio, us, hs, gs, j, last);
-        gs[j] = last;
+        let i = j;
         j += 1;
+        let g = gs[i];
+        if last < g {
+            last = peak_at(k, ratio, us, hs, gs, i, g, last);
+            gs[i] = last;
+        } else {
+            last = g;
+        }
     }
 }

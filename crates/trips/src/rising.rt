@@ -26,7 +26,7 @@ fn ceiling_at(gs: &[u8], j: usize, last: u8) -> usize
     w
 }
 
-// What pass B makes of second j, whose gear is g, after gear last. Most gears are no higher than the one before, so no higher than the ceiling.
+// What pass B makes of second j, whose gear is g, after a lower one, last.
 fn rising_at(
     k: Numbers,
     ratio: &[u16; 10],
@@ -37,12 +37,9 @@ fn rising_at(
     g: u8,
     last: u8,
 ) -> u8
-    requires { ⌜ Driven k × Aligned (now us) (now hs) (now gs) × Later (now gs) j last × (j < length (now gs)) × (g ≡ at (now gs) j) ⌝ }
+    requires { ⌜ Driven k × Aligned (now us) (now hs) (now gs) × Later (now gs) j last × (j < length (now gs)) × (g ≡ at (now gs) j) × (last < g) ⌝ }
     ensures { λ r. ⌜ ((car : Vehicle) → Has car k (now (ratio .entry)) → r ≡ rising car (now (us .entry)) (now (hs .entry)) j (now (gs .entry))) ⌝ }
 {
-    if g <= last {
-        return g;
-    }
     if hs[j] != 0 {
         return g;
     }
@@ -61,7 +58,8 @@ fn rising_at(
     ceiling as u8
 }
 
-// Pass B, rising speed. The trip's first second stays, and the gear before goes along, as corrected.
+// Pass B, rising speed. The trip's first second stays, and the gear before goes along, as corrected. Most gears are no higher than it, so no higher than the
+// ceiling, and stay.
 pub fn pass_b(k: Numbers, ratio: &[u16; 10], us: &[u16], hs: &[u8], gs: &mut [u8])
     requires { ⌜ Driven k × Aligned (now us) (now hs) (now gs) ⌝ }
     ensures { λ r. ⌜ ((car : Vehicle) → Has car k (now (ratio .entry)) → now (gs .exit) ≡ pass (rising car (now (us .entry)) (now (hs .entry))) (length (now (hs .entry))) (now (gs .entry))) ⌝ }
@@ -72,10 +70,15 @@ pub fn pass_b(k: Numbers, ratio: &[u16; 10], us: &[u16], hs: &[u8], gs: &mut [u8
     let mut j = 1;
     let mut last = gs[0];
     while j < gs.len() {
-        let g = gs[j];
-        let r = rising_at(k, ratio, us, hs, gs, j, g, last);
-        gs[j] = r;
-        last = r;
+        let i = j;
         j += 1;
+        let g = gs[i];
+        if last < g {
+            let r = rising_at(k, ratio, us, hs, gs, i, g, last);
+            gs[i] = r;
+            last = r;
+        } else {
+            last = g;
+        }
     }
 }

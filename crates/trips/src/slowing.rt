@@ -1,12 +1,12 @@
 // Pass C: the closing run.
 ghost use mathlib.Core.Path.{_≡_};
-ghost use mathlib.Core.Bool.{true};
 ghost use mathlib.Core.List.{List};
-ghost use Prim.Native.Nat.{ℕ, suc, _≤_, _<_};
-ghost use lib.ListN.{length, drop};
+ghost use Prim.Native.Nat.{ℕ, suc, _+_, _≤_, _<_, max};
+ghost use lib.Dec.{eqb};
+ghost use lib.ListN.{length};
 ghost use Rattle.rules.specs.declared.Vehicle.{Vehicle};
-ghost use Rattle.rules.specs.Words.{pass};
-ghost use Rattle.rules.specs.Corrections.{closing, slowing};
+ghost use Rattle.rules.specs.Words.{if_then_else_, pass};
+ghost use Rattle.rules.specs.Corrections.{slowing};
 use gears::Numbers;
 use gears::lowest;
 use rules::moving;
@@ -33,34 +33,41 @@ pub fn closing_from(us: &[u16]) -> usize
     j
 }
 
-// What pass C makes of second j of the closing run.
-fn slowing_at(k: Numbers, hs: &[u8], gs: &[u8], j: usize) -> u8
-    requires { ⌜ Driven k × (j < length (now hs)) × (j < length (now gs)) ⌝ }
-    ensures { λ r. ⌜ ((car : Vehicle) (us : List ℕ) → Counts car k → closing (drop j us) ≡ true → r ≡ slowing car us (now (hs .entry)) j (now (gs .entry))) ⌝ }
+// Where pass C begins: the trip's first second stays as it is.
+fn past_first(run: usize) -> usize
+    ensures { λ r. ⌜ r ≡ max run 1 ⌝ }
 {
-    let g = gs[j];
-    if hs[j] != 0 {
-        return g;
+    if run < 1 {
+        return 1;
     }
-    if j < 1 {
-        return g;
-    }
-    let low = lowest(k) as u8;
-    if g == low {
-        return low + 1;
-    }
-    g
+    run
 }
 
-// Pass C, of a trip whose closing run begins at `run`. Seconds before the run stay as they are, so the pass begins where the run does.
+// What pass C makes of the lowest gear in the closing run, past the trip's first second: the gear above it, unless it is held.
+fn slowing_at(low: u8, hold: u8) -> u8
+    requires { ⌜ low ≤ 10 ⌝ }
+    ensures { λ r. ⌜ r ≡ (if eqb hold 0 then low + 1 else low) ⌝ }
+{
+    if hold != 0 {
+        return low;
+    }
+    low + 1
+}
+
+// Pass C, of a trip whose closing run begins at `run`. Seconds before the run stay as they are, so the pass begins where the run does. There it changes the
+// lowest gear alone.
 pub fn pass_c(k: Numbers, run: usize, hs: &[u8], gs: &mut [u8])
     requires { ⌜ Driven k × Closes run (now hs) (now gs) ⌝ }
     ensures { λ r. ⌜ ((car : Vehicle) (us : List ℕ) → Counts car k → length us ≡ suc (length (now (hs .entry))) → RunFrom us run → now (gs .exit) ≡ pass (slowing car us (now (hs .entry))) (length (now (hs .entry))) (now (gs .entry))) ⌝ }
 {
-    let mut j = run;
+    let low = lowest(k) as u8;
+    let mut j = past_first(run);
     while j < gs.len() {
-        let g = slowing_at(k, hs, gs, j);
-        gs[j] = g;
+        let i = j;
         j += 1;
+        let g = gs[i];
+        if g == low {
+            gs[i] = slowing_at(low, hs[i]);
+        }
     }
 }

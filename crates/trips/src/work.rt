@@ -15,7 +15,7 @@ ghost use Rattle.rules.specs.Inside.{InBounds};
 ghost use Rattle.gears.specs.Parts.{Has, Lent, Parts};
 ghost use Rattle.gears.specs.Second.{Driven};
 ghost use Rattle.trips.specs.Ready.{Aligned, TripSecond, Paced, Ready};
-ghost use Rattle.trips.specs.Trip.{on-way, trip-bytes};
+ghost use Rattle.trips.specs.Trip.{on-way, AllGeared, trip-bytes};
 use crate::byte::bytes;
 use crate::peak::pass_a;
 use crate::rising::pass_b;
@@ -143,7 +143,7 @@ pub fn work_trip<'a>(
     hs: &[u8],
     gs: &mut [u8],
 )
-    requires { ⌜ Parts k (now ratio) (now n) (now p) × Ready k (now us) (now hs) (now gs) ⌝ }
+    requires { ⌜ Parts k (now ratio) (now n) (now p) × Ready k (now us) (now hs) (now gs) × ((car : Vehicle) → Lent car k (now ratio) (now n) (now p) → AllGeared car (now us) (now hs)) ⌝ }
     ensures { λ r. ⌜ ((car : Vehicle) → Lent car k (now (ratio .entry)) (now (n .entry)) (now (p .entry)) → now (gs .exit) ≡ trip-bytes car (now (us .entry)) (now (hs .entry))) ⌝ }
 {
     let run = closing_from(us);

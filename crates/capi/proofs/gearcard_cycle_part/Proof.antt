@@ -4,8 +4,5 @@ use borrow.Author.Needs.{needs}
 use Rattle.capi.proofs.gearcard_cycle_part.Statement.{statement}
 use Rattle.capi.proofs.gearcard_cycle_part.Tie as tie
 
-returns : tie.Need-returns
-returns c = c .stretch-of .ensures
-
 pub gearcard-cycle-part-spec : {M : Type 1} → statement M
-gearcard-cycle-part-spec = tie.close (tie.spec (λ c κs. search needs) returns)
+gearcard-cycle-part-spec = tie.close (tie.spec (λ c κs. search needs) (λ c. c .stretch-of .ensures))

@@ -1,10 +1,7 @@
 -- `capi::gearcard_export` meets its contract. `says-told` hands on what `read_export` promises.
 -- Assumes nothing.
-use mathlib.Core.Path.{_∙_}
-use mir.Facts.{toZ-ofZ}
-use mir.Syntax.{w32}
+use Rattle.rules.proofs.Base.{_∙_, toZ-ofZ, w32, needs}
 use Rattle.capi.specs.Verdicts.{says-told}
-use borrow.Author.Needs.{needs}
 use Rattle.capi.proofs.gearcard_export.Statement.{statement}
 use Rattle.capi.proofs.gearcard_export.Tie as tie
 

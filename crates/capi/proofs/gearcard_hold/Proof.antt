@@ -1,8 +1,7 @@
 -- `capi::gearcard_hold` meets its contract. `says-told` hands on what `hold` promises.
 -- Assumes nothing.
-use mathlib.Core.Path.{_∙_}
+use Rattle.rules.proofs.Base.{_∙_, needs}
 use Rattle.capi.specs.Verdicts.{says-told}
-use borrow.Author.Needs.{needs}
 use Rattle.capi.proofs.gearcard_hold.Statement.{statement}
 use Rattle.capi.proofs.gearcard_hold.Tie as tie
 

@@ -1,9 +1,8 @@
 -- `capi::gearcard_read` meets its contract. `says-told` hands on what `read` promises.
 -- Assumes nothing.
-use mathlib.Core.Path.{_∙_}
-use Rattle.jobs.specs.Reader.{reading}
+use Rattle.rules.proofs.Base.{_∙_, needs}
+use Rattle.reading.specs.Reader.{reading}
 use Rattle.capi.specs.Verdicts.{says-told}
-use borrow.Author.Needs.{needs}
 use Rattle.capi.proofs.gearcard_read.Statement.{statement}
 use Rattle.capi.proofs.gearcard_read.Tie as tie
 

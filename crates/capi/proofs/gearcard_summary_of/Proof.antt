@@ -1,8 +1,7 @@
 -- `capi::gearcard_summary_of` meets its contract.
 -- Assumes nothing.
-use mathlib.Core.Path.{_∙_}
+use Rattle.rules.proofs.Base.{_∙_, needs}
 use Rattle.capi.specs.Verdicts.{says-told}
-use borrow.Author.Needs.{needs}
 use Rattle.capi.proofs.gearcard_summary_of.Statement.{statement}
 use Rattle.capi.proofs.gearcard_summary_of.Tie as tie
 

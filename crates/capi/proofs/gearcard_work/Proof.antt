@@ -1,8 +1,7 @@
 -- `capi::gearcard_work` meets its contract. `says-told` hands on what `work` promises.
 -- Assumes nothing.
-use mathlib.Core.Path.{_∙_}
+use Rattle.rules.proofs.Base.{_∙_, needs}
 use Rattle.capi.specs.Verdicts.{says-told}
-use borrow.Author.Needs.{needs}
 use Rattle.capi.proofs.gearcard_work.Statement.{statement}
 use Rattle.capi.proofs.gearcard_work.Tie as tie
 

@@ -4,8 +4,5 @@ use borrow.Author.Needs.{needs}
 use Rattle.capi.proofs.verdict_of.Statement.{statement}
 use Rattle.capi.proofs.verdict_of.Tie as tie
 
-returns : tie.Need-returns
-returns c = λ i. record { number = c .before .number .ensures i; place = c .place .ensures i }
-
 pub verdict-of-spec : {M : Type 1} → statement M
-verdict-of-spec = tie.close (tie.spec (λ c κs. search needs) (λ c κs. search needs) returns)
+verdict-of-spec = tie.close (tie.spec (λ c κs. search needs) (λ c κs. search needs) (λ c. λ i. record { number = c .before .number .ensures i; place = c .place .ensures i }))

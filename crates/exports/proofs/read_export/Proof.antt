@@ -1,13 +1,9 @@
 -- `exports::read_export` meets its contract: one law for each `return`.
 -- Assumes nothing.
-use native.Mathlib.Omega.{arith}
-use mir.Facts.{toZ-ofZ}
-use mir.Val.{SFits}
-use mir.Syntax.{w32}
+use Rattle.rules.proofs.Base.{toZ-ofZ, SFits, w32, needs}
 use Rattle.exports.specs.Fields.{TM}
 use Rattle.exports.proofs.Sizes.{f1-short, tm-plain}
 use Rattle.exports.proofs.WholeExport.{both-judged, first-stops, second-stops, third-stops, more-bytes, all-read, refused-as, read-as-found}
-use borrow.Author.Needs.{needs}
 use Rattle.exports.proofs.read_export.Statement.{statement}
 use Rattle.exports.proofs.read_export.Tie as tie
 
@@ -108,30 +104,8 @@ returns-5 c =
 pub read-export-spec : {M : Type 1} → statement M
 read-export-spec =
     tie.close
-    (tie.spec
-    (λ c κs. search needs)
-    (λ c κs. search needs)
-    (λ c. search needs)
-    (λ c. search needs)
-    (λ c κs. search needs)
-    (λ c κs. search needs)
-    returns
-    (λ c κs. search needs)
-    (λ c κs. search needs)
-    (λ c. search needs)
-    (λ c. search needs)
-    (λ c κs. search needs)
-    (λ c κs. search needs)
-    returns-2
-    (λ c κs. search needs)
-    (λ c κs. search needs)
-    (λ c. search needs)
-    (λ c. search needs)
-    (λ c κs. search needs)
-    (λ c κs. search needs)
-    returns-3
-    (λ c κs. search needs)
-    returns-4
-    in-units-requires
-    whole-requires
-    returns-5)
+    (tie.spec (λ c κs. search needs) (λ c κs. search needs) (λ c. search needs) (λ c. search needs)
+    (λ c κs. search needs) (λ c κs. search needs) returns (λ c κs. search needs) (λ c κs. search needs)
+    (λ c. search needs) (λ c. search needs) (λ c κs. search needs) (λ c κs. search needs) returns-2
+    (λ c κs. search needs) (λ c κs. search needs) (λ c. search needs) (λ c. search needs) (λ c κs. search needs)
+    (λ c κs. search needs) returns-3 (λ c κs. search needs) returns-4 in-units-requires whole-requires returns-5)

@@ -1,33 +1,20 @@
 -- A moving second in its trip, and on the finished card of a trace that passes its checks: a held second shows its hold, and no gear turns the
 -- engine past nmax.
 -- Assumes nothing.
-use Prim.Native.Nat.{ℕ, zero, suc, _+_, _-_, _≤_, _<_, _%_}
-use native.Mathlib.Nat.{mod-eq-of-lt, add-mod-right}
-use native.Mathlib.Omega.{arith}
-use mathlib.Core.Path.{_≡_, refl, sym, ap, _∙_}
-use mathlib.Core.Logic.{_≢_}
-use mathlib.Core.Bool.{Bool, true, false, not}
-use mathlib.Core.Option.{Option, none}
-use mathlib.Core.List.{List}
-use lib.Dec.{eqb, ltb}
-use lib.ListN.{length, replicate, drop, length-take, length-drop, length-replicate}
-use borrow.Author.Tests.{ltb-false, eqb-false, not-false, ne-eqb, eqb-true, eq-eqb, lt-ltb, le-ltb}
+use Rattle.rules.proofs.Base.{ℕ, suc, _+_, _-_, _≤_, _<_, _%_, mod-eq-of-lt, add-mod-right, arith, _≡_, _∙_, _≢_, true, not, none, List, eqb, length, replicate, length-take, length-drop, length-replicate, eqb-false, not-false, ne-eqb, eq-eqb, lt-ltb, le-ltb, Vehicle}
 use Rattle.rules.specs.Inside.{InBounds, Fit}
-use Rattle.rules.specs.declared.Vehicle.{Vehicle}
-use Rattle.rules.specs.declared.Role.{Role}
-use Rattle.rules.specs.Words.{if_then_else_, _and_, at, part, pass}
-use Rattle.rules.specs.Units.{low, moving, rise, start, stop}
-use Rattle.rules.specs.Gears.{under-nmax, choose, is-first}
-use Rattle.rules.specs.Corrections.{here, first-choice, firsts, gears, trip-speeds, trip-holds, first-at, gear-at, clutch, byte, card-at, card, closing, role-of}
+use Rattle.rules.specs.Words.{if_then_else_, at, part, pass}
+use Rattle.rules.specs.Units.{moving, rise, start, stop}
+use Rattle.rules.specs.Gears.{under-nmax, choose}
+use Rattle.rules.specs.Corrections.{here, first-choice, firsts, trip-speeds, trip-holds, first-at, gear-at, clutch, byte, card-at, role-of}
 use Rattle.rules.specs.Refusals.{over-ng, over-rev, no-gear, bad, span-fault}
 use Rattle.rules.specs.Vocabulary.{role-at}
-use Rattle.rules.proofs.Laws.Words.{if-ind, and-fails, at-part, length-part, at-table, by-test, by-order, pass-done}
+use Rattle.rules.proofs.Laws.Words.{if-ind, and-fails, at-part, length-part, by-order, pass-done}
 use Rattle.rules.proofs.Laws.Trips.{trip-of, stop-in, trip-start, trip-stop}
 use Rattle.rules.proofs.Laws.Held.{first-is, held-gear}
 use Rattle.rules.proofs.Laws.Limits.{InRange, of-under, under-of, first-in, gears-in}
 use Rattle.rules.proofs.Laws.Checks.{driven, passed}
 use Rattle.rules.proofs.Laws.Closing.{closing-part}
-use Rattle.rules.specs.declared.Role.the-variants.{First, Closing, AfterLow, Inner}
 
 -- a moving second's byte, modulo 16, is its gear, clutch down or not
 pub card-mod : (car : Vehicle) (vs hs : List ℕ) (i : ℕ) → moving (at vs i) ≡ true → gear-at car vs hs i < 16 → card-at car vs hs i % 16 ≡ gear-at car vs hs i

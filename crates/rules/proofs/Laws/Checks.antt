@@ -1,25 +1,14 @@
 -- Checks in a row: what it says that none refuses, and when the checks of a window find what those of the whole find.
 -- Assumes nothing.
-use Prim.Native.Nat.{ℕ, zero, suc, _+_, _-_, _≤_, _<_}
-use native.Mathlib.Nat.{sub-zero, not-suc-le-zero, le-of-suc-le-suc}
-use native.Mathlib.Omega.{arith}
-use mathlib.Core.Path.{_≡_, refl, sym, ap, _∙_}
-use mathlib.Core.Logic.{_≢_, _⊎_, inl, inr}
-use mathlib.Core.Bool.{Bool, true, false, not}
-use mathlib.Core.Option.{Option, none, some}
-use mathlib.Core.List.{List, [], _∷_, _++_}
-use lib.Dec.{ltb, lit<}
-use borrow.Author.Tests.{ltb-false, lt-ltb, le-ltb, ltb-true, eqb-true, not-false}
-use lib.ListN.{length, getD}
+use Rattle.rules.proofs.Base.{ℕ, zero, suc, _-_, _≤_, _<_, not-suc-le-zero, le-of-suc-le-suc, arith, _≡_, refl, sym, ap, _∙_, _≢_, Bool, false, not, Option, none, some, List, [], _∷_, _++_, ltb, lit<, ltb-false, lt-ltb, le-ltb, ltb-true, eqb-true, not-false, length, getD, Vehicle, Edit}
 use Rattle.rules.specs.Inside.{InBounds, gear-fault}
-use Rattle.rules.specs.declared.Vehicle.{Vehicle}
-use Rattle.rules.specs.Words.{if_then_else_, _and_, _or_, first}
+use Rattle.rules.specs.Words.{_and_, first}
 use Rattle.rules.specs.Refusals.{Fault, refuse-at, _orelse_, when, trace-fault, room-fault, vehicle-fault, not-driven, Check, speed, step, ends, over-ng, at-rest, over-rev, no-gear, check-number, checks, all-checks, bad, fault-of, seconds-fault, span-fault, work-fault, left}
-use Rattle.rules.specs.declared.Edit.{Edit}
 use Rattle.rules.specs.Edit.{Screen, second, asked-fault, edit-fault}
 use Rattle.rules.specs.Units.{bad-field, low, longest}
 use Rattle.rules.proofs.Laws.Vehicle.{in-bounds, within-lo, within-hi}
-use Rattle.rules.proofs.Laws.Words.{by-test, by-eq, and-left, and-right, and-fails, or-left, or-right, none-first, first-none, first-ext, first-window}
+use Rattle.rules.proofs.Laws.Words.{by-test, and-left, and-right, and-fails, or-left, or-right}
+use Rattle.rules.proofs.Laws.Searches.{none-first, first-none, first-ext}
 
 -- ---- a row of checks
 
@@ -95,10 +84,6 @@ accepted car vs hs old e =
     let b = orelse-none _ _ (a .1) in
     let c = orelse-none _ _ (b .1) in
     record { trace = a .0; room = b .0; vehicle = c .0; span = c .1 }
-
-pub passes-whole : (car : Vehicle) (vs hs old : List ℕ) → Accepted car vs hs old → work-fault car vs hs old ≡ none
-unfolding work-fault
-passes-whole car vs hs old A = none-orelse _ _ (A .trace) ∙ none-orelse _ _ (A .room) ∙ none-orelse _ _ (A .vehicle) ∙ A .span
 
 -- where the working accepted, an edit of a second of the trace is refused by its own checks alone
 pub edit-is : (car : Vehicle) (e : Edit) (x : Screen) → Accepted car (x .speeds) (x .holds) (x .card) → second e < length (x .speeds) → edit-fault car e x ≡ asked-fault car e (x .speeds) (x .holds)
@@ -203,44 +188,6 @@ module _ (car : Vehicle) (vs hs : List ℕ) (lo hi : ℕ) where
 pub step-first : (car : Vehicle) (vs hs : List ℕ) (lo : ℕ) → bad step car vs hs lo lo ≡ false
 unfolding bad _and_
 step-first car vs hs lo = rw (le-ltb lo lo (omega arith))
-
--- ---- a window. Where the checks passed for vs, hs, and those for ws, ks say the same outside lo to hi, the checks of the window find what
--- those of the whole find
-
-module _ (car : Vehicle) (vs hs ws ks : List ℕ) (n : length ws ≡ length vs) (lo hi : ℕ) (a : lo ≤ hi) (b : hi ≤ length ws)
-    (same : (c : Check) (i : ℕ) → i < length vs → (i < lo) ⊎ (hi ≤ i) → bad c car ws ks 0 i ≡ bad c car vs hs 0 i)
-    (step-in : bad step car ws ks 0 lo ≡ bad step car vs hs 0 lo) where
-  -- in the window a check says what it says of the whole; the step into its first second passed before
-  bad-inside : (c : Check) → ((i : ℕ) → i < length vs → bad c car vs hs 0 i ≡ false) → (i : ℕ) → lo ≤ i → i < length vs → bad c car ws ks 0 i ≡ bad c car ws ks lo i
-  unfolding bad _and_
-  bad-inside speed ok i x y = refl
-  bad-inside step ok i x y =
-      by-eq x
-      (λ e. rw (← e) (step-in ∙ ok lo (omega arith) ∙ sym (step-first car ws ks lo)))
-      (λ m. rw (lt-ltb 0 i (omega arith), lt-ltb lo i m))
-  bad-inside ends ok i x y = refl
-  bad-inside over-ng ok i x y = refl
-  bad-inside at-rest ok i x y = refl
-  bad-inside over-rev ok i x y = refl
-  bad-inside no-gear ok i x y = refl
-
-  first-inside : (c : Check) → first (bad c car vs hs 0) 0 (length vs) ≡ none
-      → first (bad c car ws ks 0) 0 (length ws) ≡ first (bad c car ws ks lo) lo (hi - lo)
-  first-inside c e =
-      let ok : (i : ℕ) → i < length vs → bad c car vs hs 0 i ≡ false = λ i h. none-first (bad c car vs hs 0) (length vs) 0 e i (omega arith) (omega arith) in
-      first-window (bad c car ws ks 0) (bad c car ws ks lo) (length ws) lo hi a b
-      (λ i h o. same c i (omega arith) o ∙ ok i (omega arith)) (λ i x y. bad-inside c ok i x (omega arith))
-
-  fault-inside : (cs : List Check) → fault-of (λ c. bad c car vs hs 0) 0 (length vs) cs ≡ none → fault-of (λ c. bad c car ws ks 0) 0 (length ws) cs ≡ fault-of (λ c. bad c car ws ks lo) lo hi cs
-  unfolding fault-of
-  fault-inside [] e = refl
-  fault-inside (c ∷ cs) e =
-      let o = orelse-none (refuse-at (check-number c) (first (bad c car vs hs 0) 0 (length vs - 0))) (fault-of (λ c. bad c car vs hs 0) 0 (length vs) cs) e in
-      rw (fault-inside cs (o .1), sub-zero, first-inside c (rw sub-zero at (refuse-none (check-number c) (first (bad c car vs hs 0) 0 (length vs - 0)) (o .0))))
-
-  pub fault-window : span-fault car vs hs 0 (length vs) ≡ none → span-fault car ws ks 0 (length ws) ≡ span-fault car ws ks lo hi
-  unfolding span-fault
-  fault-window e = fault-inside all-checks e
 
 -- ---- two lists of checks, one after the other
 

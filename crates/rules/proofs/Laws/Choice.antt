@@ -1,20 +1,12 @@
 -- The first choice, said plainly: what gear `choose` gives, without the search and the comparison by which it is found.
 -- Assumes nothing.
-use Prim.Native.Nat.{ℕ, zero, suc, _≤_, _<_}
-use native.Mathlib.Omega.{arith}
-use mathlib.Core.Path.{_≡_, sym, _∙_}
-use mathlib.Core.Logic.{_≢_}
-use mathlib.Core.Bool.{Bool, true, false}
-use lib.Dec.{eqb}
-use lib.IntN.{ℤ}
-use borrow.Author.Tests.{eqb-true, eqb-false, eq-eqb, ne-eqb}
+use Rattle.rules.proofs.Base.{ℕ, _≤_, arith, _≡_, sym, _∙_, _≢_, Bool, true, false, eqb, ℤ, eqb-true, eqb-false, eq-eqb, ne-eqb, Vehicle, Role}
 use Rattle.rules.specs.Inside.{InBounds}
-use Rattle.rules.specs.declared.Vehicle.{Vehicle}
-use Rattle.rules.specs.declared.Role.{Role}
 use Rattle.rules.specs.Words.{_and_, highest}
-use Rattle.rules.specs.Gears.{fits, power, enough, more, suits, strongest, choose}
+use Rattle.rules.specs.Gears.{fits, suits, strongest, choose}
 use Rattle.rules.specs.Vocabulary.{HighestEnough, MostPower, NoGear, FirstChoice}
-use Rattle.rules.proofs.Laws.Words.{clash, by-test, if-ind, and-left, and-right, highest-holds, highest-above, highest-none}
+use Rattle.rules.proofs.Laws.Words.{clash, by-test, if-ind, and-left, and-right}
+use Rattle.rules.proofs.Laws.Searches.{highest-holds, highest-above, highest-none}
 use Rattle.rules.proofs.Laws.Strongest.{fits-from, strongest-fits, strongest-none, strongest-tie, strongest-most}
 
 module _ (car : Vehicle) (here : Role) (v : ℕ) (d : ℤ) where

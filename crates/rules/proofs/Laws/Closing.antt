@@ -1,21 +1,12 @@
 -- The closing run, one second further, and of a trip seen from the whole trace.
 -- Assumes nothing.
-use Prim.Native.Nat.{ℕ, zero, suc, _+_, _-_, _≤_, _<_}
-use native.Mathlib.Omega.{arith}
-use mathlib.Core.Path.{_≡_, sym, _∙_}
-use mathlib.Core.Bool.{true, false, not}
-use mathlib.Core.List.{List}
-use lib.Dec.{ltb}
-use lib.ListN.{length, drop, drop-of-length-le, length-take, length-drop}
-use lib.Seq.{drop-cons}
+use Rattle.rules.proofs.Base.{ℕ, zero, suc, _+_, _-_, _≤_, _<_, arith, _≡_, sym, _∙_, true, false, not, List, ltb, length, drop, drop-of-length-le, length-take, length-drop, drop-cons, lt-ltb, ltb-true, _↔_}
 use Rattle.rules.specs.Words.{_and_, _or_, at, part}
 use Rattle.rules.specs.Units.{moving, stop}
 use Rattle.rules.specs.Corrections.{closing}
 use Rattle.rules.specs.Vocabulary.{IsTrip}
 use Rattle.rules.proofs.Laws.Words.{by-test, by-order, by-eq, and-left, and-right, or-skip, both, at-part}
 use Rattle.rules.proofs.Laws.Trips.{trip-of, own-trip}
-use borrow.Author.Tests.{lt-ltb, ltb-true}
-use mathlib.Core.Logic.{_↔_}
 
 module _ (us : List ℕ) where
   -- one second: V is above the next, and that is standing or in the closing run

@@ -1,15 +1,7 @@
 -- Forms: one law, which each way of putting forms together keeps, so the law of a composed form is found by `search sounds`.
 -- Assumes nothing.
-use Prim.Native.Nat.{ℕ, zero, suc, _+_, _-_, _≤_}
+use Rattle.rules.proofs.Base.{ℕ, zero, suc, _+_, _-_, _≤_, arith, _≡_, refl, sym, ap, _∙_, Bool, true, false, not, List, [], _∷_, _++_, append-nil, append-assoc, length, take, drop, length-append, length-drop, take-append-drop, drop-append-seam, drop-length, drop-drop, length-take-le, eqb, leb, ltb, eqb-true, eq-eqb, ltb-true, leb-true}
 use Prim.{tt}
-use native.Mathlib.Omega.{arith}
-use mathlib.Core.Path.{_≡_, refl, sym, ap, _∙_}
-use mathlib.Core.Bool.{Bool, true, false, not}
-use mathlib.Core.List.{List, [], _∷_, _++_, append-nil, append-assoc}
-use lib.ListN.{length, take, drop, length-append, length-drop, take-append-drop}
-use lib.Seq.{drop-append-seam, drop-length, drop-drop, length-take-le}
-use lib.Dec.{eqb, leb, ltb}
-use borrow.Author.Tests.{eqb-true, eq-eqb, ltb-true, leb-true}
 use Rattle.rules.specs.Words.{at}
 use Rattle.rules.specs.Refusals.{Fault}
 use Rattle.rules.specs.Groups.{Read, got, refused, Reader, hand-on, demand, early, group-if, form, group}

@@ -1,14 +1,8 @@
 -- Holds: the list in the job and the places of the trace are one thing, so their form keeps the law.
 -- Assumes nothing.
-use Prim.Native.Nat.{ℕ, zero, suc, _+_, _-_, _≤_, _<_}
+use Rattle.rules.proofs.Base.{ℕ, zero, suc, _+_, _-_, _≤_, _<_, arith, _≡_, refl, sym, ap, _∙_, List, [], _∷_, length, set, replicate, length-set, length-replicate, eqb, leb-true, ltb-true, eqb-true, eqb-false, ne-eqb, le-leb, lt-ltb}
 use Prim.{tt}
-use native.Mathlib.Omega.{arith}
-use mathlib.Core.Path.{_≡_, refl, sym, ap, _∙_}
-use mathlib.Core.List.{List, [], _∷_}
-use lib.ListN.{length, set, replicate, length-set, length-replicate}
-use lib.Dec.{eqb}
-use borrow.Author.Tests.{leb-true, ltb-true, eqb-true, eqb-false, ne-eqb, le-leb, lt-ltb}
-use Rattle.rules.specs.Words.{_and_, within}
+use Rattle.rules.specs.Words.{within}
 use Rattle.rules.specs.Forms.{value, checked, _then_, seen, row, RowTakes, counted}
 use Rattle.rules.specs.Job.{hold, put, gather, holds}
 use Rattle.rules.proofs.Laws.Words.{by-test, by-order, and-left, and-right, both}

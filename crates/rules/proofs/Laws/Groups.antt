@@ -1,14 +1,7 @@
 -- Groups: each value 0 to 65,535 has exactly one form that is accepted, its shortest, and reading that form gives the value and the place after it.
 -- Assumes nothing.
-use Prim.Native.Nat.{ℕ, zero, suc, _+_, _-_, _*_, _/_, _%_, _≤_, _<_}
-use native.Mathlib.Omega.{arith}
-use mathlib.Core.Path.{_≡_, sym, _∙_}
-use mathlib.Core.List.{List, [], _∷_, _++_}
-use lib.ListN.{length, length-append}
-use lib.Seq.{drop-cons, getD-append-seam, getD-append-add, drop-append-seam, take-append-seam}
-use lib.Dec.{ltb}
-use borrow.Author.Tests.{lt-ltb, le-ltb, leb-true, eqb-false, not-true}
-use Rattle.rules.specs.Words.{if_then_else_, at, part}
+use Rattle.rules.proofs.Base.{ℕ, zero, suc, _+_, _-_, _*_, _/_, _%_, _≤_, _<_, arith, _≡_, sym, _∙_, List, [], _∷_, _++_, length, length-append, drop-cons, getD-append-seam, getD-append-add, drop-append-seam, take-append-seam, lt-ltb, le-ltb, leb-true, eqb-false, not-true}
+use Rattle.rules.specs.Words.{at, part}
 use Rattle.rules.specs.Refusals.{Fault}
 use Rattle.rules.specs.Groups.{Read, got, refused, early, group-if, group, form}
 use Rattle.rules.specs.Vocabulary.{Bytes, OneForm}

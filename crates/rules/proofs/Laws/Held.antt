@@ -1,41 +1,26 @@
 -- The gears of one trip: how long the lists are, what a first choice is, and that a held second keeps its hold through every pass.
 -- Assumes nothing.
-use Prim.Native.Nat.{ℕ, suc, _<_}
-use mathlib.Core.Path.{_≡_, refl, _∙_}
-use mathlib.Core.Logic.{_≢_}
-use mathlib.Core.Bool.{Bool, true, false}
-use mathlib.Core.List.{List}
-use lib.Dec.{eqb, ltb}
-use lib.ListN.{length, replicate, length-replicate}
-use borrow.Author.Tests.{ne-eqb}
-use Rattle.rules.specs.declared.Vehicle.{Vehicle}
-use Rattle.rules.specs.Words.{if_then_else_, _and_, at, pass}
-use Rattle.rules.specs.Corrections.{first-choice, free, is-peak, peak, too-high, rising, too-low, slowing, firsts, gears}
+use Rattle.rules.proofs.Base.{ℕ, _<_, _≡_, refl, _∙_, _≢_, false, List, length, replicate, length-replicate, ne-eqb, Vehicle}
+use Rattle.rules.specs.Words.{_and_, at, pass}
+use Rattle.rules.specs.Corrections.{first-choice, free, is-peak, peak, too-high, rising, too-low, slowing, firsts, after-A, after-B, gears}
 use Rattle.rules.proofs.Laws.Words.{clash, if-ind, and-left, length-pass, pass-at, pass-keeps}
 
 module _ (car : Vehicle) (us hs : List ℕ) where
-  -- after pass A, and after pass B
-  unfoldable pub after-A : List ℕ
-  after-A = pass (peak car us hs) (length hs) (firsts car us hs)
-
-  unfoldable pub after-B : List ℕ
-  after-B = pass (rising car us hs) (length hs) (after-A)
-
   pub length-firsts : length (firsts car us hs) ≡ length hs
   unfolding firsts
   length-firsts = length-pass (first-choice car us hs) (replicate (length hs) 0) (length hs) ∙ length-replicate (length hs) 0
 
-  pub length-A : length (after-A) ≡ length hs
+  pub length-A : length (after-A car us hs) ≡ length hs
   unfolding after-A
   length-A = length-pass _ (firsts car us hs) (length hs) ∙ length-firsts
 
-  pub length-B : length (after-B) ≡ length hs
+  pub length-B : length (after-B car us hs) ≡ length hs
   unfolding after-B
-  length-B = length-pass _ (after-A) (length hs) ∙ length-A
+  length-B = length-pass _ (after-A car us hs) (length hs) ∙ length-A
 
   pub length-gears : length (gears car us hs) ≡ length hs
   unfolding gears after-A after-B
-  length-gears = length-pass _ (after-B) (length hs) ∙ length-B
+  length-gears = length-pass _ (after-B car us hs) (length hs) ∙ length-B
 
   -- a second that is not free is left alone by each pass
   module _ (j : ℕ) (rs : List ℕ) (n : free car us hs j ≡ false) where
@@ -60,8 +45,8 @@ module _ (car : Vehicle) (us hs : List ℕ) where
     pub fixed-gear : free car us hs j ≡ false → at (gears car us hs) j ≡ at (firsts car us hs) j
     unfolding gears after-B after-A
     fixed-gear n =
-        pass-keeps _ (after-B) (length hs) j (rw length-B l) (λ rs. slowing-fixed j rs n)
-        ∙ pass-keeps _ (after-A) (length hs) j (rw length-A l) (λ rs. rising-fixed j rs n)
+        pass-keeps _ (after-B car us hs) (length hs) j (rw length-B l) (λ rs. slowing-fixed j rs n)
+        ∙ pass-keeps _ (after-A car us hs) (length hs) j (rw length-A l) (λ rs. rising-fixed j rs n)
         ∙ pass-keeps _ (firsts car us hs) (length hs) j (rw length-firsts l) (λ rs. peak-fixed j rs n)
 
     module _ (h : at hs j ≢ 0) where

@@ -1,14 +1,6 @@
 -- Ring laws of ℤ that lib.IntN lacks, and the order of ℤ under a product with a positive number.
 -- Assumes nothing.
-use Prim.Native.Nat.{ℕ, zero, suc, _+_, _*_, _-_, _≤_, _<_}
-use native.Mathlib.Nat.{not-suc-le-zero, suc-mul, add-suc, le-trans, lt-irrefl, lt-of-lt-of-le, le-of-mul-le-mul-right, mul-le-mul-right}
-use native.Mathlib.Omega.{arith}
-use mathlib.Core.Path.{_≡_, refl, sym, ap, _∙_, subst}
-use mathlib.Core.Bool.{true, false}
-use lib.Dec.{leb, leb·suc-suc}
-use lib.IntN.{ℤ, pos, negsuc, negℤ, sucℤ, predℤ, ℤ-ind, _+ℤ_, _*ℤ_, _-ℤ_, +ℤ-one, -ℤ-one, +ℤ-assoc, +ℤ-comm, +ℤ-idl, +ℤ-idr, +ℤ-invr, *ℤ-comm, sucℤ-*ℤ, predℤ-*ℤ, sucℤ-+ℤ, predℤ-+ℤ, zero-*ℤ, negℤ-+ℤ, negℤ-sucℤ, negℤ-predℤ, negℤ-negℤ}
-use lib.Signed.{leZ, ltZ}
-use borrow.Author.Tests.{leb-true, leb-false, ltb-true, ltb-false, le-leb, le-ltb, lt-ltb}
+use Rattle.rules.proofs.Base.{ℕ, zero, suc, _+_, _*_, _-_, _≤_, _<_, not-suc-le-zero, suc-mul, add-suc, le-trans, lt-irrefl, lt-of-lt-of-le, le-of-mul-le-mul-right, mul-le-mul-right, arith, _≡_, refl, sym, ap, _∙_, subst, true, false, leb, leb·suc-suc, ℤ, pos, negsuc, negℤ, sucℤ, predℤ, ℤ-ind, _+ℤ_, _*ℤ_, _-ℤ_, +ℤ-one, -ℤ-one, +ℤ-assoc, +ℤ-comm, +ℤ-idl, +ℤ-idr, +ℤ-invr, *ℤ-comm, sucℤ-*ℤ, predℤ-*ℤ, sucℤ-+ℤ, predℤ-+ℤ, zero-*ℤ, negℤ-+ℤ, negℤ-sucℤ, negℤ-predℤ, negℤ-negℤ, leZ, ltZ, leb-true, leb-false, ltb-true, ltb-false, le-leb, le-ltb}
 use Rattle.rules.proofs.Laws.Words.{by-test}
 
 -- ---- sums and products
@@ -67,11 +59,6 @@ add-back a b = ap (λ x. a +ℤ x) (+ℤ-comm b (negℤ a)) ∙ sym (+ℤ-assoc 
 pub pos-sub : (m n : ℕ) → n ≤ m → pos m -ℤ pos n ≡ pos (m - n)
 pos-sub m zero h = +ℤ-idr (pos m) ∙ ap pos (omega arith)
 pos-sub m (suc n) h = rw (le-ltb m (suc n) h)
-
--- and one that is
-pub pos-below : (m n : ℕ) → m < n → pos m -ℤ pos n ≡ negsuc (n - suc m)
-pos-below m zero h = absurd (not-suc-le-zero h)
-pos-below m (suc n) h = rw (lt-ltb m (suc n) h)
 
 -- ---- the order
 

@@ -1,13 +1,6 @@
 -- The job's form keeps the law of forms; which jobs it takes.
 -- Assumes nothing.
-use Prim.Native.Nat.{ℕ, _+_, _-_, _≤_}
-use native.Mathlib.Omega.{arith}
-use mathlib.Core.Path.{_≡_, refl, sym, ap, _∙_}
-use mathlib.Core.List.{List, [], _∷_, _++_, map}
-use borrow.Author.Tests.{leb-true}
-use lib.ListN.{length, replicate, length-append, drop-of-length-le}
-use lib.Seq.{take-append-seam, drop-cons}
-use lib.IntN.{pos, _+ℤ_, _-ℤ_, -ℤ-+ℤ-cancel}
+use Rattle.rules.proofs.Base.{ℕ, _-_, _≤_, arith, _≡_, refl, sym, ap, _∙_, List, [], _∷_, _++_, map, leb-true, length, replicate, length-append, drop-of-length-le, take-append-seam, drop-cons, pos, -ℤ-+ℤ-cancel}
 use Rattle.rules.specs.Words.{at, table}
 use Rattle.rules.specs.Units.{longest}
 use Rattle.rules.specs.Groups.{Read, got, refused}

@@ -1,29 +1,17 @@
 -- The limits of a gear: on a vehicle in bounds the gears whose engine speed is at most 1000 x nmax are those from the floor up to ng, every
 -- first choice is one of them, and each pass keeps it so.
 -- Assumes nothing.
-use Prim.Native.Nat.{ℕ, zero, suc, _+_, _-_, _*_, _≤_, _<_, max}
-use native.Mathlib.Nat.{add-zero, le-refl, mul-le-mul-right, le-trans}
-use native.Mathlib.Omega.{arith}
-use mathlib.Core.Path.{_≡_, refl}
-use mathlib.Core.Logic.{_≢_, _⊎_, inl, inr}
-use mathlib.Core.Bool.{Bool, true, false}
-use mathlib.Core.Option.{Option, none, some, Option·getD}
-use mathlib.Core.List.{List}
-use lib.Dec.{leb, ltb, eqb}
-use lib.IntN.{ℤ}
-use lib.ListN.{length}
-use borrow.Author.Tests.{leb-true, ltb-true, le-leb, eqb-true}
+use Rattle.rules.proofs.Base.{ℕ, zero, suc, _+_, _-_, _*_, _≤_, _<_, add-zero, le-refl, mul-le-mul-right, le-trans, arith, _≡_, refl, _≢_, _⊎_, inl, inr, true, false, Option, none, some, Option·getD, List, eqb, ℤ, length, leb-true, ltb-true, le-leb, eqb-true, Vehicle, Role}
 use Rattle.rules.specs.Inside.{InBounds}
-use Rattle.rules.specs.declared.Vehicle.{Vehicle}
-use Rattle.rules.specs.declared.Role.{Role}
-use Rattle.rules.specs.Words.{if_then_else_, _and_, _or_, at, first, highest, pass}
+use Rattle.rules.specs.Words.{at, first, highest}
 use Rattle.rules.specs.Units.{ratio-of, low, rise}
-use Rattle.rules.specs.Gears.{engine, under-nmax, allowed, fits, beats, strongest, suits, choose}
-use Rattle.rules.specs.Corrections.{floor, ceiling, here, first-choice, free, is-peak, peak, too-high, rising, too-low, slowing, firsts, gears}
-use Rattle.rules.proofs.Laws.Words.{clash, if-ind, and-left, and-right, by-order, pass-holds, Found, first-found, none-first, highest-holds}
+use Rattle.rules.specs.Gears.{engine, under-nmax, allowed, fits, suits, choose}
+use Rattle.rules.specs.Corrections.{floor, ceiling, here, first-choice, is-peak, peak, too-high, rising, too-low, slowing, firsts, after-A, after-B, gears}
+use Rattle.rules.proofs.Laws.Words.{clash, if-ind, and-left, and-right, by-order, pass-holds}
+use Rattle.rules.proofs.Laws.Searches.{Found, first-found, none-first, highest-holds}
 use Rattle.rules.proofs.Laws.Vehicle.{low-from}
 use Rattle.rules.proofs.Laws.Strongest.{strongest-fits}
-use Rattle.rules.proofs.Laws.Held.{length-firsts, length-A, length-B, after-A, after-B}
+use Rattle.rules.proofs.Laws.Held.{length-firsts, length-A, length-B}
 
 module _ (car : Vehicle) (C : InBounds car) where
   -- gears from the floor up to ng are those whose engine speed is at most nmax

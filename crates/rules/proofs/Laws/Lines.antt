@@ -1,17 +1,9 @@
 -- Text: numbers in decimal, lines, and how long they are at most; and that the working looks at the lent card's length alone.
 -- Assumes nothing.
-use Prim.Native.Nat.{ℕ, zero, suc, _+_, _*_, _/_, _%_, _≤_, _<_}
-use native.Mathlib.Omega.{arith}
-use native.Mathlib.Nat.{add-zero}
-use mathlib.Core.Path.{_≡_, sym, ap, _∙_}
-use mathlib.Core.List.{List, [], _∷_, _++_, append-nil, append-assoc}
-use lib.ListN.{length, length-append}
-use lib.Dec.{leb}
-use borrow.Author.Tests.{lt-ltb, le-ltb}
+use Rattle.rules.proofs.Base.{ℕ, zero, suc, _+_, _*_, _/_, _%_, _≤_, _<_, arith, add-zero, _≡_, sym, ap, _∙_, List, [], _∷_, _++_, append-nil, append-assoc, length, length-append, leb, lt-ltb, le-ltb, Vehicle}
 use Rattle.rules.specs.Words.{at}
-use Rattle.rules.specs.declared.Vehicle.{Vehicle}
-use Rattle.rules.specs.Refusals.{Fault, room-fault, work-fault}
-use Rattle.rules.specs.Text.{digits, decimal, pedal, line, lines, refusal-text}
+use Rattle.rules.specs.Refusals.{room-fault, work-fault}
+use Rattle.rules.specs.Text.{digits, decimal, pedal, line, lines}
 use Rattle.rules.proofs.Laws.Words.{by-test, by-order}
 
 -- ---- numbers in decimal

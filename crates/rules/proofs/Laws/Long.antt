@@ -1,18 +1,10 @@
 -- A job is no longer than so many groups of three bytes; those, and one byte more, say all that is printed.
 -- Assumes nothing.
-use Prim.Native.Nat.{ℕ, zero, suc, _+_, _-_, _*_, _≤_, _<_}
-use native.Mathlib.Omega.{arith}
-use mathlib.Core.Path.{_≡_}
-use mathlib.Core.Bool.{true, false}
-use mathlib.Core.List.{List}
-use lib.ListN.{length, take}
-use lib.Dec.{leb, ltb}
-use borrow.Author.Tests.{leb-true, ltb-true, le-leb, lt-leb, lt-ltb}
+use Rattle.rules.proofs.Base.{ℕ, zero, suc, _+_, _-_, _*_, _≤_, _<_, arith, _≡_, true, false, List, length, take, leb, ltb, leb-true, ltb-true, le-leb, lt-leb, lt-ltb, Vehicle}
 use Rattle.rules.specs.Vocabulary.{most-groups, longest-job}
-use Rattle.rules.specs.declared.Vehicle.{Vehicle}
-use Rattle.rules.specs.Words.{if_then_else_, _and_, within}
+use Rattle.rules.specs.Words.{_and_, within}
 use Rattle.rules.specs.Units.{longest}
-use Rattle.rules.specs.Groups.{Read, got, hand-on, demand, form, group}
+use Rattle.rules.specs.Groups.{got, hand-on, demand, form, group}
 use Rattle.rules.specs.Forms.{value, checked, bounded, _then_, seen, row-read, row, counted, whole}
 use Rattle.rules.specs.Job.{version, profile, gearbox, numbers, point, curve, vehicle, seconds, trace, hold, holds, stages, job, job-read}
 use Rattle.rules.specs.Text.{refusal-text, program-room, printed-fault, read-text, printed}

@@ -1,19 +1,12 @@
 -- A curve without margins of its own: power is then compared as in document 01, by full-load power and M alone.
 -- Assumes nothing.
-use Prim.Native.Nat.{ℕ, zero, suc, _+_, _-_, _*_, _≤_, _<_}
-use native.Mathlib.Omega.{arith}
-use mathlib.Core.Path.{_≡_, refl, sym, ap, _∙_}
-use mathlib.Core.Bool.{Bool, true, false, not}
-use lib.IntN.{ℤ, pos, negℤ, _+ℤ_, _-ℤ_, _*ℤ_, +ℤ-idr, *ℤ-comm}
-use lib.Signed.{leZ, ltZ}
+use Rattle.rules.proofs.Base.{ℕ, suc, _-_, _<_, arith, _≡_, refl, sym, ap, _∙_, true, ℤ, pos, negℤ, _+ℤ_, _-ℤ_, _*ℤ_, +ℤ-idr, *ℤ-comm, ltZ, Vehicle, Role}
 use Rattle.rules.specs.Inside.{InBounds}
-use Rattle.rules.specs.declared.Vehicle.{Vehicle}
-use Rattle.rules.specs.declared.Role.{Role}
 use Rattle.rules.specs.Words.{at}
-use Rattle.rules.specs.Gears.{fits, required, Power, derated, between, on-segment, segment, power-speed, power, enough, more}
+use Rattle.rules.specs.Gears.{fits, derated, between, on-segment, segment, power-speed, power, enough, more}
 use Rattle.rules.specs.Vocabulary.{NoMargins, full-load, enough-before}
 use Rattle.rules.proofs.Laws.Words.{clash, by-test}
-use Rattle.rules.proofs.Laws.Integers.{+ℤ-*ℤ, *ℤ-+ℤ, neg-*ℤ, *ℤ-assoc, left-comm, pos-sub, ltZ-leZ, leZ-ltZ, leZ-scale}
+use Rattle.rules.proofs.Laws.Integers.{+ℤ-*ℤ, *ℤ-+ℤ, neg-*ℤ, *ℤ-assoc, pos-sub, ltZ-leZ, leZ-ltZ, leZ-scale}
 use Rattle.rules.proofs.Laws.Power.{gear-segment}
 
 -- both powers of a segment times c: Q is c times as much

@@ -1,20 +1,11 @@
 -- The minimum speeds of a gear at the places of a trip: the one after the lowest gear is the highest. So a gear that is fast enough there is
 -- fast enough at every second, and a test of a whole trip need not know its first choices.
 -- Assumes nothing.
-use Prim.Native.Nat.{ℕ, zero, suc, _+_, _-_, _*_, _/_, _≤_, _<_}
-use native.Mathlib.Nat.{le-refl}
-use native.Mathlib.Omega.{arith}
-use mathlib.Core.Path.{_≡_}
-use mathlib.Core.Bool.{true, false}
-use lib.Dec.{eqb}
-use borrow.Author.Tests.{leb-true, le-leb}
-use Rattle.rules.specs.declared.Vehicle.{Vehicle}
-use Rattle.rules.specs.declared.Role.{Role}
-use Rattle.rules.specs.declared.Role.the-variants.{First, Closing, AfterLow, Inner}
-use Rattle.rules.specs.Words.{_and_, _or_}
+use Rattle.rules.proofs.Base.{ℕ, zero, suc, _-_, _*_, _≤_, le-refl, arith, _≡_, true, false, eqb, leb-true, le-leb, Vehicle, Role, First, Closing, AfterLow, Inner}
+use Rattle.rules.specs.Words.{_or_}
 use Rattle.rules.specs.Units.{low}
-use Rattle.rules.specs.Gears.{is-first, engine, next-minimum, minimum-of, minimum, under-nmax, over-minimum, allowed, fits}
-use Rattle.rules.proofs.Laws.Words.{by-test, both, and-left, and-right, or-skip}
+use Rattle.rules.specs.Gears.{is-first, engine, next-minimum, minimum-of, minimum, over-minimum, allowed, fits}
+use Rattle.rules.proofs.Laws.Words.{by-test, both, and-left, and-right}
 
 module _ (car : Vehicle) where
   next-most : (here : Role) → next-minimum car here ≤ next-minimum car AfterLow

@@ -1,10 +1,7 @@
 -- Request Four: the required power with speed taken out as a factor as often as it goes.
 -- Assumes nothing.
-use Prim.Native.Nat.{ℕ, _≤_}
-use mathlib.Core.Path.{_≡_, refl, sym, ap, _∙_}
-use lib.IntN.{ℤ, pos, natAbs, _+ℤ_, _*ℤ_, +ℤ-assoc, +ℤ-comm, *ℤ-comm}
+use Rattle.rules.proofs.Base.{ℕ, _≤_, _≡_, refl, sym, ap, _∙_, ℤ, pos, natAbs, _+ℤ_, _*ℤ_, +ℤ-assoc, +ℤ-comm, *ℤ-comm, Vehicle}
 use Rattle.rules.specs.Inside.{InBounds}
-use Rattle.rules.specs.declared.Vehicle.{Vehicle}
 use Rattle.rules.specs.Units.{fastest, steepest}
 use Rattle.rules.specs.Gears.{required}
 use Rattle.rules.specs.Vocabulary.{In64, nested, nested-sum}

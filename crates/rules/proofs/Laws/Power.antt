@@ -1,21 +1,12 @@
 -- The power at a gear: where the segment found lies, and that neighbours agree at a shared point.
 -- Assumes nothing.
-use Prim.Native.Nat.{ℕ, zero, suc, _+_, _*_, _-_, _≤_, _<_}
-use native.Mathlib.Nat.{add-zero, zero-add, le-refl, le-of-lt, lt-of-le-of-lt, le-trans, mul-le-mul-left, max-le, le-max-right}
-use native.Mathlib.Omega.{arith}
-use mathlib.Core.Path.{_≡_, refl, sym, ap, _∙_}
-use mathlib.Core.Logic.{_⊎_, ⊎-elim}
-use mathlib.Core.Bool.{Bool, true, false}
-use mathlib.Core.Option.{Option, none, some, Option·getD}
-use lib.IntN.{ℤ, pos, negℤ, _+ℤ_, _-ℤ_, _*ℤ_, +ℤ-idr, +ℤ-invr, *ℤ-comm, *ℤ-zero}
-use borrow.Author.Tests.{leb-true, leb-false, lt-leb}
+use Rattle.rules.proofs.Base.{ℕ, zero, suc, _+_, _*_, _-_, _≤_, _<_, add-zero, zero-add, le-refl, le-of-lt, lt-of-le-of-lt, le-trans, mul-le-mul-left, max-le, le-max-right, arith, _≡_, refl, sym, ap, _∙_, _⊎_, ⊎-elim, Bool, true, false, Option, none, some, Option·getD, ℤ, pos, negℤ, _+ℤ_, _-ℤ_, _*ℤ_, +ℤ-idr, +ℤ-invr, *ℤ-comm, *ℤ-zero, leb-true, leb-false, lt-leb, Vehicle, Role}
 use Rattle.rules.specs.Inside.{InBounds}
-use Rattle.rules.specs.declared.Vehicle.{Vehicle}
-use Rattle.rules.specs.declared.Role.{Role}
-use Rattle.rules.specs.Words.{_and_, _or_, at, first}
-use Rattle.rules.specs.Gears.{engine, under-nmax, fits, between, on-segment, reaches, segment, power-speed, power, derated}
+use Rattle.rules.specs.Words.{at, first}
+use Rattle.rules.specs.Gears.{engine, under-nmax, fits, between, on-segment, reaches, segment, power-speed, derated}
 use Rattle.rules.specs.Vocabulary.{OnSegment}
-use Rattle.rules.proofs.Laws.Words.{and-right, Found, first-found, none-first, first-skip}
+use Rattle.rules.proofs.Laws.Words.{and-right}
+use Rattle.rules.proofs.Laws.Searches.{Found, first-found, none-first, first-skip}
 use Rattle.rules.proofs.Laws.Integers.{+ℤ-*ℤ, *ℤ-+ℤ, neg-*ℤ, *ℤ-neg, *ℤ-assoc, left-comm, add-back, pos-sub}
 
 -- ---- the segment found

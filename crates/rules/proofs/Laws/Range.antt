@@ -1,17 +1,6 @@
 -- Sums and products of 64-bit signed numbers whose parts have known sizes: each step fits the machine, and is what ℤ says.
 -- Assumes nothing.
-use mathlib.Core.Path.{_≡_, refl, sym, ap, _∙_, subst}
-use mathlib.Core.Bool.{Bool, true, false, _&&_}
-use Prim.Native.Nat.{ℕ, zero, suc, _+_, _*_, _^_, _≤_, _<_}
-use native.Mathlib.Nat.{add-comm, le-refl, lt-of-le-of-lt, mul-le-mul}
-use native.Mathlib.Omega.{arith}
-use lib.Dec.{T, ltb, ltb→lt}
-use lib.IntN.{ℤ, pos, negsuc, negℤ, natAbs, subℕ, _+ℤ_, _-ℤ_, _*ℤ_}
-use lib.Signed.{mag, leZ, ltZ}
-use borrow.Author.Tests.{ltb-true, ltb-false}
-use mir.Syntax.{w32, w64}
-use mir.Val.{Fits, SFits, toZ, ofZ}
-use mir.Facts.{toZ-ofZ, toZ-pos, sfits-widen}
+use Rattle.rules.proofs.Base.{_≡_, refl, sym, ap, _∙_, subst, Bool, true, false, _&&_, ℕ, zero, suc, _+_, _*_, _^_, _≤_, _<_, add-comm, le-refl, lt-of-le-of-lt, mul-le-mul, arith, T, ltb, ltb→lt, ℤ, pos, negsuc, negℤ, natAbs, subℕ, _+ℤ_, _-ℤ_, _*ℤ_, mag, leZ, ltZ, ltb-true, ltb-false, w32, w64, Fits, SFits, toZ, ofZ, toZ-ofZ, sfits-widen}
 use Rattle.rules.proofs.Laws.Words.{by-test}
 
 -- ---- sizes

@@ -1,15 +1,6 @@
 -- How far a form reads: another law, which each way of putting forms together keeps; so a job's first bytes say all that is said of it.
 -- Assumes nothing.
-use Prim.Native.Nat.{ℕ, zero, suc, _+_, _-_, _*_, _%_, _≤_, _<_}
-use native.Mathlib.Nat.{suc-mul, mul-le-mul-right}
-use native.Mathlib.Omega.{arith}
-use mathlib.Core.Path.{_≡_, refl, sym}
-use mathlib.Core.Bool.{Bool, true, false, not}
-use mathlib.Core.List.{List}
-use lib.ListN.{length, take}
-use lib.Seq.{length-take-le, getD-take}
-use lib.Dec.{leb, ltb, eqb}
-use borrow.Author.Tests.{lt-leb, ltb-true, eqb-false, not-true, ne-eqb}
+use Rattle.rules.proofs.Base.{ℕ, zero, suc, _+_, _*_, _%_, _≤_, _<_, suc-mul, mul-le-mul-right, arith, _≡_, refl, sym, Bool, true, false, not, List, length, take, length-take-le, getD-take, leb, ltb, eqb, lt-leb, ltb-true, eqb-false, not-true, ne-eqb}
 use Rattle.rules.specs.Words.{_and_, within, at}
 use Rattle.rules.specs.Refusals.{Fault}
 use Rattle.rules.specs.Groups.{Read, got, refused, Reader, hand-on, demand, early, group-if, group}

@@ -1,30 +1,16 @@
 -- What an edit of one second reaches, of its hold or of its speed: outside the second, the trips next to it and the one standing second before, no byte
 -- changes; and where the checks passed before, those of the span find what those of the whole find.
 -- Assumes nothing.
-use Prim.Native.Nat.{ℕ, zero, suc, _+_, _-_, _≤_, _<_, min}
-use native.Mathlib.Nat.{zero-add}
-use native.Mathlib.Omega.{arith}
-use mathlib.Core.Path.{_≡_, refl, sym, ap, _∙_}
-use mathlib.Core.Logic.{_≢_, _⊎_, inl, inr}
-use mathlib.Core.Bool.{Bool, true, false, not}
-use mathlib.Core.Option.{Option, none}
-use mathlib.Core.List.{List}
-use lib.Dec.{leb, ltb, eqb}
-use lib.ListN.{length, set, length-set}
-use lib.Seq.{getD-set-other}
-use borrow.Author.Tests.{leb-false, ltb-false, le-ltb}
-use Rattle.rules.specs.declared.Vehicle.{Vehicle}
-use Rattle.rules.specs.Words.{if_then_else_, _and_, _or_, at, part, table, patch}
+use Rattle.rules.proofs.Base.{ℕ, suc, _-_, _≤_, _<_, min, arith, _≡_, refl, _∙_, _≢_, inl, inr, true, false, List, length, set, length-set, getD-set-other, le-ltb, Vehicle, Edit, Hold, Release, Mend}
+use Rattle.rules.specs.Words.{_and_, at}
 use Rattle.rules.specs.Units.{moving, rise, start, stop}
-use Rattle.rules.specs.Corrections.{trip-speeds, trip-holds, first-at, gear-at, clutch, byte, card-at, card}
-use Rattle.rules.specs.Refusals.{Check, speed, step, ends, over-ng, at-rest, over-rev, no-gear, bad, trace-fault, room-fault, span-fault, work-fault}
-use Rattle.rules.specs.declared.Edit.{Edit}
-use Rattle.rules.specs.declared.Edit.the-variants.{Hold, Release, Mend}
-use Rattle.rules.specs.Edit.{second, asked-speeds, asked-holds, Span, around, hold-span, span}
+use Rattle.rules.specs.Corrections.{trip-speeds, trip-holds, first-at, gear-at, clutch, byte, card-at}
+use Rattle.rules.specs.Refusals.{Check, speed, step, ends, over-ng, at-rest, over-rev, no-gear, bad}
+use Rattle.rules.specs.Edit.{second, asked-speeds, asked-holds, around, hold-span, span}
 use Rattle.rules.specs.Vocabulary.{IsTrip, Out}
-use Rattle.rules.proofs.Laws.Words.{clash, by-test, by-order, part-ext, table-ext, at-table, length-table}
+use Rattle.rules.proofs.Laws.Words.{clash, by-test, by-order, part-ext}
 use Rattle.rules.proofs.Laws.Trips.{trip-of, trip-start, trip-stop, start-le, start-before, stop-le, stop-after}
-use Rattle.rules.proofs.Laws.Checks.{fault-window, Accepted, none-orelse}
+use Rattle.rules.proofs.Laws.Window.{Reaches}
 
 -- the speeds and holds ws, ks are vs, hs but for second s
 pub record ButFor (vs hs ws ks : List ℕ) (s : ℕ) : Type 0 where
@@ -48,41 +34,6 @@ reach-lo ws s = start ws s - 1
 -- .. up to the end of the trip that s or the second after it lies in
 abbrev reach-hi : List ℕ → ℕ → ℕ
 reach-hi ws s = stop ws (suc s)
-
--- ---- the law of an edit. What it reaches: outside the seconds from lo up to hi each check says what it said, and outside those from lo up to
--- top each byte is what it was
-
-pub record Reaches (car : Vehicle) (vs hs ws ks : List ℕ) (lo hi top : ℕ) : Type 0 where
-  pub speeds : length ws ≡ length vs
-  pub holds : length ks ≡ length hs
-  pub in-order : lo ≤ hi
-  pub in-trace : hi ≤ length ws
-  pub checks-same : (c : Check) (i : ℕ) → i < length vs → Out lo hi i → bad c car ws ks 0 i ≡ bad c car vs hs 0 i
-  pub step-same : bad step car ws ks 0 lo ≡ bad step car vs hs 0 lo
-  pub bytes-same : (i : ℕ) → Out lo top i → card-at car ws ks i ≡ card-at car vs hs i
-
-module _ (car : Vehicle) {vs hs ws ks : List ℕ} {lo hi top : ℕ} (R : Reaches car vs hs ws ks lo hi top) where
-  -- where the checks passed before the edit, the span's find what the whole's find
-  pub fault-anew : span-fault car vs hs 0 (length vs) ≡ none → span-fault car ws ks lo hi ≡ span-fault car ws ks 0 (length ws)
-  fault-anew e = sym (fault-window car vs hs ws ks (R .speeds) lo hi (R .in-order) (R .in-trace) (R .checks-same) (R .step-same) e)
-
-  -- the new card is the old one with what is within reach worked anew
-  pub card-anew : patch (card car vs hs) lo top (card-at car ws ks) ≡ card car ws ks
-  unfolding _and_ patch card
-  card-anew =
-      rw (length-table, R .speeds)
-      (table-ext _ (card-at car ws ks) 0 (length vs) (λ i x y.
-      let old : at (card car vs hs) i ≡ card-at car vs hs i = at-table (card-at car vs hs) 0 (length vs) i (omega arith) ∙ rw zero-add in
-      by-test (leb lo i)
-      (λ t. by-test (ltb i top)
-      (λ u. rw (t, u))
-      (λ u. rw (t, u, old) (sym (R .bytes-same i (inr (ltb-false i top u))))))
-      (λ t. rw (t, old) (sym (R .bytes-same i (inl (leb-false lo i t)))))))
-
-  -- 1, 2 and 3 say what they said
-  pub whole-is : (old : List ℕ) → Accepted car vs hs old → work-fault car ws ks old ≡ span-fault car ws ks 0 (length ws)
-  unfolding work-fault trace-fault room-fault
-  whole-is old A = none-orelse _ _ (rw (R .speeds) (A .trace)) ∙ none-orelse _ _ (rw (R .speeds, R .holds) (A .room)) ∙ none-orelse _ _ (A .vehicle)
 
 -- ---- an edit of one second
 

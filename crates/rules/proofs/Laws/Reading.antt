@@ -1,14 +1,6 @@
 -- What the reader's definitions answer, one law for each way through them.
 -- Assumes nothing.
-use Prim.Native.Nat.{ℕ, _+_, _*_, _%_, _≤_, _<_}
-use native.Mathlib.Omega.{arith}
-use mathlib.Core.Path.{_≡_, _∙_}
-use mathlib.Core.Logic.{_≢_}
-use mathlib.Core.Bool.{Bool, not}
-use mathlib.Core.List.{List}
-use lib.ListN.{length}
-use lib.Dec.{ltb, leb, eqb}
-use borrow.Author.Tests.{lt-ltb, le-ltb, le-leb, lt-leb, ne-eqb, ltb-true, leb-true, eqb-false, not-true}
+use Rattle.rules.proofs.Base.{ℕ, _+_, _*_, _%_, _≤_, _<_, arith, _≡_, _∙_, _≢_, Bool, not, List, length, ltb, leb, eqb, lt-ltb, le-ltb, le-leb, lt-leb, ne-eqb, ltb-true, leb-true, eqb-false, not-true}
 use Rattle.rules.specs.Words.{_and_, at}
 use Rattle.rules.specs.Groups.{got, refused, early, group-if, group}
 use Rattle.rules.proofs.Laws.Words.{by-test, and-left, and-right}

@@ -1,31 +1,18 @@
 -- Request Twelve: what a card shows at a second whose byte is the definitions' and whose checks have passed. Its gear turns the engine at nmax or
 -- below; and where the speed rises, a free second's gear is at most one above the gear before, or no higher than its floor.
 -- Assumes nothing.
-use Prim.Native.Nat.{ℕ, suc, _+_, _-_, _≤_, _<_, _%_, min}
-use native.Mathlib.Nat.{zero-add}
-use native.Mathlib.Omega.{arith}
-use mathlib.Core.Path.{_≡_, sym, ap, _∙_}
-use mathlib.Core.Logic.{_⊎_, inl, inr}
-use mathlib.Core.Bool.{true, false}
-use mathlib.Core.Option.{none}
-use mathlib.Core.List.{List}
-use lib.Dec.{leb, ltb, eqb}
-use lib.ListN.{length, set, length-set}
-use borrow.Author.Tests.{lt-ltb, ltb-false, leb-true, eqb-true, eq-eqb}
+use Rattle.rules.proofs.Base.{ℕ, suc, _+_, _-_, _≤_, _<_, _%_, min, zero-add, arith, _≡_, sym, ap, _∙_, _⊎_, inl, inr, true, false, none, List, leb, ltb, eqb, length, lt-ltb, ltb-false, leb-true, eqb-true, eq-eqb, Vehicle, Edit}
 use Rattle.rules.specs.Inside.{InBounds, Fit}
-use Rattle.rules.specs.declared.Vehicle.{Vehicle}
 use Rattle.rules.specs.Words.{if_then_else_, _and_, at, pass}
 use Rattle.rules.specs.Units.{low, moving, start, stop}
 use Rattle.rules.specs.Gears.{under-nmax}
-use Rattle.rules.specs.Corrections.{floor, ceiling, free, too-high, rising, too-low, slowing, gears, trip-speeds, trip-holds, gear-at, card-at, card}
+use Rattle.rules.specs.Corrections.{floor, ceiling, free, too-high, rising, too-low, slowing, after-A, after-B, gears, trip-speeds, trip-holds, gear-at, card-at, card}
 use Rattle.rules.specs.Refusals.{span-fault}
-use Rattle.rules.specs.declared.Edit.{Edit}
-use Rattle.rules.specs.declared.Edit.the-variants.{Hold, Release, Mend}
-use Rattle.rules.specs.Edit.{Screen, second, asked-speeds, asked-holds, Span, around, hold-span, span, edit-fault, asked-screen, edited}
+use Rattle.rules.specs.Edit.{Screen, second, asked-speeds, asked-holds, around, span, edit-fault, asked-screen, edited}
 use Rattle.rules.specs.Vocabulary.{AtMostNmax, Spares}
 use Rattle.rules.proofs.Laws.Words.{clash, by-order, if-ind, and-right, and-fails, both, pass-at, pass-done, pass-later, pass-holds, at-table, patch-in}
-use Rattle.rules.proofs.Laws.Held.{length-A, length-B, after-A, after-B}
-use Rattle.rules.proofs.Laws.Trips.{trip-of, trip-start, trip-stop, start-le, start-before, stop-le, stop-in, stop-to, moving-in}
+use Rattle.rules.proofs.Laws.Held.{length-A, length-B}
+use Rattle.rules.proofs.Laws.Trips.{next-start, next-stop, trip-of, start-before, stop-to, moving-in}
 use Rattle.rules.proofs.Laws.Limits.{floor-low}
 use Rattle.rules.proofs.Laws.Checks.{vehicle-in, rooms-in, Accepted, Taken, taken}
 use Rattle.rules.proofs.Laws.Edits.{by-kind, length-asked, length-holds, taken-asked, span-passes}
@@ -94,27 +81,16 @@ module _ (car : Vehicle) (us hs : List ℕ) (j : ℕ) (l : j < length hs) (p : 0
 
 -- a second and the one before it in one trip
 module _ (vs : List ℕ) (k : ℕ) (m : moving (at vs k) ≡ true) (u : moving (at vs (suc k)) ≡ true) where
-  next-start : start vs (suc k) ≡ start vs k
-  unfolding start
-  next-start = rw m
-
-  next-stop : stop vs (suc k) ≡ stop vs k
-  next-stop =
-      let t = trip-of vs k m in
-      by-order (suc k) (stop vs k)
-      (λ h. trip-stop vs (t .0) (suc k) (omega arith) h)
-      (λ h. let e : suc k ≡ stop vs k = omega arith in clash u (rw e (t .0 .after)))
-
   same-speeds : trip-speeds vs (suc k) ≡ trip-speeds vs k
   unfolding trip-speeds
-  same-speeds = rw (next-start, next-stop)
+  same-speeds = rw (next-start vs k m, next-stop vs k m u)
 
   same-holds : (hs : List ℕ) → trip-holds vs hs (suc k) ≡ trip-holds vs hs k
   unfolding trip-holds
-  same-holds hs = rw (next-start, next-stop)
+  same-holds hs = rw (next-start vs k m, next-stop vs k m u)
 
   in-trip-before : (0 < suc k - start vs (suc k)) × (suc k - start vs (suc k) - 1 ≡ k - start vs k)
-  in-trip-before = let e = next-start in let h = trip-of vs k m .1 in (omega arith, omega arith)
+  in-trip-before = let e = next-start vs k m in let h = trip-of vs k m .1 in (omega arith, omega arith)
 
 -- the gear of a free second whose speed is above that before
 module _ (car : Vehicle) (vs hs : List ℕ) (n : length hs ≡ length vs) (k : ℕ) (m : moving (at vs k) ≡ true) (u : moving (at vs (suc k)) ≡ true) where

@@ -1,13 +1,7 @@
 -- "Every product stays inside a signed 64-bit number": the sums of the power comparison, written out, are below 2^63 at every step.
 -- Assumes nothing.
-use Prim.Native.Nat.{ℕ, suc, _+_, _-_, _*_, _^_, _≤_, _<_}
-use native.Mathlib.Nat.{mul-le-mul}
-use native.Mathlib.Omega.{arith}
-use mathlib.Core.Path.{_≡_, refl}
-use lib.Dec.{T}
-use lib.IntN.{ℤ, pos, natAbs, _+ℤ_, _-ℤ_, _*ℤ_}
+use Rattle.rules.proofs.Base.{ℕ, suc, _+_, _-_, _*_, _^_, _≤_, _<_, mul-le-mul, arith, _≡_, refl, T, ℤ, pos, natAbs, _-ℤ_, _*ℤ_, Vehicle}
 use Rattle.rules.specs.Inside.{InBounds}
-use Rattle.rules.specs.declared.Vehicle.{Vehicle}
 use Rattle.rules.specs.Words.{at}
 use Rattle.rules.specs.Units.{ratio-of, fastest, steepest}
 use Rattle.rules.specs.Gears.{engine, required, derated, between, on-segment}

@@ -1,24 +1,10 @@
 -- A span between standing seconds: its checks and its bytes look at its seconds and at no others; and so does each edit.
 -- Assumes nothing.
-use Prim.Native.Nat.{ℕ, zero, suc, _+_, _-_, _≤_, _<_, _%_, min}
-use native.Mathlib.Nat.{zero-add}
-use native.Mathlib.Omega.{arith}
-use mathlib.Core.Path.{_≡_, refl, sym, ap, _∙_}
-use mathlib.Core.Logic.{_≢_, _⊎_, inl, inr}
-use mathlib.Core.Bool.{Bool, true, false, not}
-use mathlib.Core.Option.{Option, none, some}
-use mathlib.Core.List.{List}
-use lib.Dec.{leb, ltb, eqb}
-use lib.ListN.{length, set, length-set, List·getD-eq-default}
-use lib.Seq.{getD-set-other, getD-set-same}
-use borrow.Author.Tests.{le-leb, lt-leb, lt-ltb, le-ltb, leb-true, ltb-true, ltb-false, eqb-true, eqb-false, not-false}
-use Rattle.rules.specs.declared.Vehicle.{Vehicle}
-use Rattle.rules.specs.Words.{if_then_else_, _and_, _or_, at, part, table, patch}
+use Rattle.rules.proofs.Base.{ℕ, suc, _-_, _≤_, _<_, min, arith, _≡_, refl, sym, _∙_, true, false, List, leb, ltb, eqb, length, set, length-set, List·getD-eq-default, getD-set-other, getD-set-same, le-ltb, leb-true, ltb-true, eqb-true, eqb-false, Vehicle, Edit, Hold, Release, Mend}
+use Rattle.rules.specs.Words.{_and_, _or_, at, patch}
 use Rattle.rules.specs.Units.{moving, rise, start, stop}
 use Rattle.rules.specs.Corrections.{firsts, gears, trip-speeds, trip-holds, first-at, gear-at, clutch, byte, card-at}
 use Rattle.rules.specs.Refusals.{Check, speed, step, ends, over-ng, at-rest, over-rev, no-gear, check-number, all-checks, bad}
-use Rattle.rules.specs.declared.Edit.{Edit}
-use Rattle.rules.specs.declared.Edit.the-variants.{Hold, Release, Mend}
 use Rattle.rules.specs.Edit.{Screen, second, asked-speeds, asked-holds, Span, around, hold-span, span, fails, asked-fault, asked-screen}
 use Rattle.rules.specs.Vocabulary.{SameSpan, none-held}
 use Rattle.rules.proofs.Laws.Words.{clash, by-test, by-order, part-ext, table-ext, patch-none}

@@ -1,18 +1,7 @@
 -- Two powers compared, and the strongest of the gears that fit.
 -- Assumes nothing.
-use Prim.Native.Nat.{ℕ, zero, suc, _≤_, _<_}
-use native.Mathlib.Nat.{le-refl, le-of-suc-le-suc}
-use native.Mathlib.Omega.{arith}
-use mathlib.Core.Path.{_≡_, refl, sym, ap, _∙_}
-use mathlib.Core.Logic.{_≢_}
-use mathlib.Core.Bool.{Bool, true, false, not}
-use lib.IntN.{ℤ, pos, _*ℤ_, *ℤ-comm}
-use lib.Signed.{leZ}
-use borrow.Author.Tests.{leb-true, eqb-false, ne-eqb, not-false, not-true}
+use Rattle.rules.proofs.Base.{ℕ, zero, suc, _≤_, _<_, le-refl, le-of-suc-le-suc, arith, _≡_, refl, sym, ap, _∙_, _≢_, true, false, ℤ, pos, _*ℤ_, *ℤ-comm, leZ, leb-true, eqb-false, ne-eqb, not-false, not-true, Vehicle, Role}
 use Rattle.rules.specs.Inside.{InBounds}
-use Rattle.rules.specs.declared.Vehicle.{Vehicle}
-use Rattle.rules.specs.declared.Role.{Role}
-use Rattle.rules.specs.Words.{_and_}
 use Rattle.rules.specs.Units.{low}
 use Rattle.rules.specs.Gears.{Power, allowed, fits, segment, power-speed, power, more, beats, strongest}
 use Rattle.rules.proofs.Laws.Words.{clash, by-test, by-eq, if-ind, and-left, and-right, and-fails, or-left, or-right, or-skip}

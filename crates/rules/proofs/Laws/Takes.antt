@@ -1,13 +1,7 @@
 -- What forms take, told from plain facts.
 -- Assumes nothing.
-use Prim.Native.Nat.{ℕ, _≤_}
+use Rattle.rules.proofs.Base.{ℕ, _≤_, arith, _≡_, refl, Bool, true, false, List, [], _∷_, length, le-leb}
 use Prim.{Unit, tt}
-use native.Mathlib.Omega.{arith}
-use mathlib.Core.Path.{_≡_, refl}
-use mathlib.Core.Bool.{Bool, true, false}
-use mathlib.Core.List.{List, [], _∷_}
-use lib.ListN.{length}
-use borrow.Author.Tests.{le-leb}
 use Rattle.rules.specs.Words.{within}
 use Rattle.rules.specs.Forms.{Form, value, known, only-if, checked, bounded, _then_, seen, row, RowTakes, many, counted}
 use Rattle.rules.proofs.Laws.Words.{both}

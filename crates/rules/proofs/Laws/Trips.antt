@@ -1,14 +1,7 @@
 -- Where a trip lies: `start` and `stop` find the one unbroken run of moving seconds that a moving second lies in.
 -- Assumes nothing.
-use Prim.Native.Nat.{ℕ, zero, suc, _+_, _-_, _≤_, _<_}
-use native.Mathlib.Nat.{suc-add, add-suc, zero-add, add-zero, not-suc-le-zero, le-of-suc-le-suc}
-use native.Mathlib.Omega.{arith}
-use mathlib.Core.Path.{_≡_, refl, sym, ap, _∙_}
-use mathlib.Core.Bool.{Bool, true, false}
-use mathlib.Core.List.{List, [], _∷_}
-use lib.ListN.{length, getD, drop, List·getD-eq-default}
-use lib.Seq.{getD-drop}
-use Rattle.rules.specs.Words.{if_then_else_, at, part}
+use Rattle.rules.proofs.Base.{ℕ, zero, suc, _+_, _-_, _≤_, _<_, add-zero, not-suc-le-zero, le-of-suc-le-suc, arith, _≡_, refl, sym, ap, _∙_, true, false, List, [], _∷_, length, drop, List·getD-eq-default, getD-drop}
+use Rattle.rules.specs.Words.{at}
 use Rattle.rules.specs.Units.{moving, start, run, stop}
 use Rattle.rules.specs.Vocabulary.{IsTrip}
 use Rattle.rules.proofs.Laws.Words.{clash, by-test, by-order, by-eq}
@@ -171,3 +164,15 @@ pub stop-agree : (vs ws : List ℕ) (i : ℕ) → ((k : ℕ) → i ≤ k → k �
 unfolding stop
 stop-agree vs ws i h =
     ap (λ (k : ℕ). i + k) (run-agree (drop i vs) (drop i ws) (λ j a. run-at ws i j ∙ h (i + j) (omega arith) (omega arith) ∙ sym (run-at vs i j)))
+
+-- a moving second after a moving one lies in its trip
+pub next-start : (vs : List ℕ) (k : ℕ) → moving (at vs k) ≡ true → start vs (suc k) ≡ start vs k
+unfolding start
+next-start vs k m = rw m
+
+pub next-stop : (vs : List ℕ) (k : ℕ) → moving (at vs k) ≡ true → moving (at vs (suc k)) ≡ true → stop vs (suc k) ≡ stop vs k
+next-stop vs k m u =
+    let t = trip-of vs k m in
+    by-order (suc k) (stop vs k)
+    (λ h. trip-stop vs (t .0) (suc k) (omega arith) h)
+    (λ h. let e : suc k ≡ stop vs k = omega arith in clash u (rw e (t .0 .after)))

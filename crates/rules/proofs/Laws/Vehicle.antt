@@ -1,21 +1,9 @@
 -- A vehicle in bounds: what the thirteen tests say, as facts.
 -- Assumes nothing.
-use Prim.Native.Nat.{ℕ, zero, suc, _+_, _-_, _≤_, _<_}
-use native.Mathlib.Nat.{not-suc-le-zero, le-of-suc-le-suc}
-use native.Mathlib.Omega.{arith}
-use mathlib.Core.Path.{_≡_, refl, sym, _∙_}
-use mathlib.Core.Bool.{Bool, true, false}
-use mathlib.Core.Option.{Option, none, some}
-use mathlib.Core.List.{List, [], _∷_}
-use lib.ListN.{length, getD}
-use lib.Dec.{leb, ltb, eqb, lit<}
-use lib.IntN.{ℤ, pos, negsuc, negℤ, natAbs}
-use lib.Signed.{leZ}
-use borrow.Author.Tests.{leb-true, ltb-true, eqb-true, eq-eqb, ne-eqb}
+use Rattle.rules.proofs.Base.{ℕ, zero, suc, _+_, _-_, _≤_, _<_, not-suc-le-zero, le-of-suc-le-suc, arith, _≡_, refl, Bool, true, false, Option, none, some, List, [], _∷_, length, getD, leb, eqb, lit<, ℤ, pos, negsuc, negℤ, natAbs, leZ, leb-true, ltb-true, eqb-true, eq-eqb, ne-eqb, Vehicle}
 use Rattle.rules.specs.Inside.{InBounds}
-use Rattle.rules.specs.declared.Vehicle.{Vehicle}
-use Rattle.rules.specs.Words.{if_then_else_, _and_, _or_, within, at, every}
-use Rattle.rules.specs.Units.{newest, ratio-of, ratio-good, margin-good, point-good, bounds, first-failed, bad-field, low}
+use Rattle.rules.specs.Words.{_and_, _or_, within, at, every}
+use Rattle.rules.specs.Units.{newest, ratio-good, margin-good, point-good, bounds, first-failed, bad-field, low}
 use Rattle.rules.proofs.Laws.Words.{by-test, by-eq, and-left, and-right, or-skip}
 
 -- ---- the lowest gear, of which only this is known

@@ -1,15 +1,9 @@
 -- A search, and a test of every place, as a loop from left to right meets them: what is left, from here, is what was asked.
 -- Assumes nothing.
-use Prim.Native.Nat.{ℕ, zero, suc, _+_, _-_, _≤_, _<_}
-use native.Mathlib.Numerals.{add-one}
-use native.Mathlib.Omega.{arith}
-use mathlib.Core.Path.{_≡_, refl}
-use mathlib.Core.Bool.{Bool, true, false, not}
-use mathlib.Core.Option.{Option, none, some}
-use lib.Dec.{eqb}
-use borrow.Author.Tests.{eq-eqb, ne-eqb}
+use Rattle.rules.proofs.Base.{ℕ, suc, _+_, _-_, _≤_, _<_, add-one, arith, _≡_, Bool, true, false, not, Option, none, some, eqb, ne-eqb}
 use Rattle.rules.specs.Words.{_and_, every, first, highest}
-use Rattle.rules.proofs.Laws.Words.{clash, by-eq, highest-above, highest-none}
+use Rattle.rules.proofs.Laws.Words.{clash}
+use Rattle.rules.proofs.Laws.Searches.{highest-above}
 
 -- ---- the lowest place, from i up to hi, at which the test holds
 

@@ -1,32 +1,20 @@
 -- Refused for want of a gear: refusal 10 of a trace that passes the other checks.
 -- Assumes nothing.
-use Prim.Native.Nat.{ℕ, zero, suc, _+_, _-_, _*_, _≤_, _<_}
-use native.Mathlib.Nat.{sub-zero, le-trans, mul-le-mul-left}
-use native.Mathlib.Omega.{arith}
-use mathlib.Core.Path.{_≡_, refl, sym, ap, _∙_}
-use mathlib.Core.Logic.{_≢_, _↔_}
-use mathlib.Core.Bool.{Bool, true, false, not}
-use mathlib.Core.Option.{Option, none, some}
-use mathlib.Core.List.{List, [], _∷_}
-use lib.Dec.{leb, eqb}
-use lib.ListN.{length, drop}
-use borrow.Author.Tests.{leb-true, le-leb, eqb-true, eqb-false, eq-eqb, ne-eqb, not-true}
+use Rattle.rules.proofs.Base.{ℕ, _-_, _≤_, sub-zero, le-trans, mul-le-mul-left, arith, _≡_, refl, sym, ap, _∙_, _↔_, true, false, Option, none, some, List, eqb, length, drop, leb-true, le-leb, eqb-true, eqb-false, eq-eqb, ne-eqb, not-true, Vehicle, Role, AfterLow}
 use Rattle.rules.specs.Inside.{InBounds, gear-fault}
-use Rattle.rules.specs.declared.Vehicle.{Vehicle}
-use Rattle.rules.specs.declared.Role.{Role}
-use Rattle.rules.specs.Words.{if_then_else_, _and_, _or_, at, first}
+use Rattle.rules.specs.Words.{_and_, _or_, at, first}
 use Rattle.rules.specs.Units.{low, moving, rise, start}
-use Rattle.rules.specs.Gears.{engine, minimum, under-nmax, over-minimum, allowed, fits, choose, is-first}
-use Rattle.rules.specs.Corrections.{here, trip-speeds, trip-holds, first-at, closing, role-of}
-use Rattle.rules.specs.Refusals.{Fault, refuse-at, _orelse_, trace-fault, room-fault, vehicle-fault, no-gear, bad, span-fault, work-fault}
+use Rattle.rules.specs.Gears.{under-nmax, over-minimum, allowed, fits, choose, is-first}
+use Rattle.rules.specs.Corrections.{here, first-at, closing, role-of}
+use Rattle.rules.specs.Refusals.{Fault, refuse-at, no-gear, bad, work-fault}
 use Rattle.rules.specs.Vocabulary.{Turns, Allowed, Wanting, PassesOthers, role-at}
-use Rattle.rules.proofs.Laws.Words.{clash, by-test, by-order, both, and-left, and-right, or-skip, Found, first-found, first-none, none-first}
-use Rattle.rules.proofs.Laws.Trips.{start-le, moving-in}
+use Rattle.rules.proofs.Laws.Words.{clash, by-test, by-order, both, and-left, and-right, or-skip}
+use Rattle.rules.proofs.Laws.Searches.{first-found, none-first}
+use Rattle.rules.proofs.Laws.Trips.{moving-in}
 use Rattle.rules.proofs.Laws.Checks.{none-orelse, gears-last, rooms-in, vehicle-in}
 use Rattle.rules.proofs.Laws.Cards.{first-at-is}
 use Rattle.rules.proofs.Laws.Choice.{first-choice-plainly}
 use Rattle.rules.proofs.Laws.Minimum.{minimum-most}
-use Rattle.rules.specs.declared.Role.the-variants.{First, Closing, AfterLow, Inner}
 
 module _ (car : Vehicle) (here : Role) (v g : ℕ) where
   inside-true : Turns car here v g → over-minimum car here v g and under-nmax car v g ≡ true

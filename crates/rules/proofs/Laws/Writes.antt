@@ -1,29 +1,18 @@
 -- What is written reads back, and what is read is written as the same bytes.
 -- Assumes nothing.
-use Prim.Native.Nat.{ℕ, zero, suc, _+_, _-_, _≤_, _<_}
+use Rattle.rules.proofs.Base.{ℕ, zero, suc, _+_, _-_, _≤_, _<_, zero-add, arith, _≡_, refl, ap, _∙_, true, false, none, List, [], _∷_, map, length, drop, getD-drop, leb, ℤ, pos, negsuc, natAbs, _+ℤ_, _-ℤ_, +ℤ-negℤ-cancel, le-leb, le-ltb, ltb-false, not-false, Vehicle}
 use Prim.{Unit, tt}
-use native.Mathlib.Nat.{zero-add}
-use native.Mathlib.Omega.{arith}
-use mathlib.Core.Path.{_≡_, refl, ap, _∙_}
-use mathlib.Core.Bool.{true, false, not}
-use mathlib.Core.Option.{Option, none, some}
-use mathlib.Core.List.{List, [], _∷_, map}
-use lib.ListN.{length, drop}
-use lib.Seq.{getD-drop}
-use lib.Dec.{leb, eqb}
-use lib.IntN.{ℤ, pos, negsuc, natAbs, _+ℤ_, _-ℤ_, +ℤ-negℤ-cancel}
-use borrow.Author.Tests.{le-leb, le-ltb, ltb-false, eqb-true, eq-eqb, not-false}
 use Rattle.rules.specs.Inside.{InBounds}
-use Rattle.rules.specs.declared.Vehicle.{Vehicle}
-use Rattle.rules.specs.Words.{_and_, within, at, every, table}
+use Rattle.rules.specs.Words.{within, at, table}
 use Rattle.rules.specs.Units.{ratio-of, bad-field, longest, fastest}
-use Rattle.rules.specs.Refusals.{refuse-at, when, vehicle-fault, speed, over-ng, checks, bad, fault-of, seconds-fault, left}
+use Rattle.rules.specs.Refusals.{refuse-at, vehicle-fault, speed, over-ng, checks, bad, fault-of, seconds-fault}
 use Rattle.rules.specs.Groups.{got}
 use Rattle.rules.specs.Forms.{value, checked, bounded, _then_, seen, RowTakes, row, many, counted}
-use Rattle.rules.specs.Job.{version, profile, gearbox, numbers, point, curve, seconds, trace, points-of, vehicle-of, parts-of, vehicle, holds, Job, packed, fields, stages, job, job-read}
+use Rattle.rules.specs.Job.{version, profile, gearbox, numbers, point, curve, seconds, trace, points-of, parts-of, vehicle, holds, Job, packed, fields, stages, job, job-read}
 use Rattle.rules.specs.Write.{job-bytes, checks-fault, write-fault}
 use Rattle.rules.specs.Vocabulary.{Bytes, job-fault, job-from, cleared}
-use Rattle.rules.proofs.Laws.Words.{by-test, and-fails, both, none-first, length-table, at-table}
+use Rattle.rules.proofs.Laws.Words.{both, length-table, at-table}
+use Rattle.rules.proofs.Laws.Searches.{none-first}
 use Rattle.rules.proofs.Laws.Vehicle.{low-plainly, bounds-in, no-profile, no-margins, same-bounds}
 use Rattle.rules.proofs.Laws.Checks.{driven, orelse-none, none-orelse, refuse-none, when-none, none-when, trace-in, rooms-in}
 use Rattle.rules.proofs.Laws.Forms.{says-now, reads-whole, whole-says}

@@ -1,19 +1,13 @@
 -- `cards::rework::rework` meets its contract. The trip is worked in its own part of the card, then the second before it.
 -- Assumes nothing.
-use Prim.Native.Nat.{ℕ, _+_, _-_, _%_}
-use native.Mathlib.Omega.{arith}
-use mathlib.Core.Path.{_≡_, ap, _∙_}
-use mathlib.Core.List.{List, _++_}
-use lib.ListN.{set, take, drop}
-use borrow.Author.Needs.{needs}
-use borrow.Rule.Slice.PartMut.{postOf, post-is}
+use Rattle.rules.proofs.Base.{ℕ, _+_, _-_, _%_, arith, _≡_, ap, _∙_, List, _++_, set, take, drop, needs, postOf, post-is}
 use Rattle.rules.specs.Words.{at}
-use Rattle.cards.proofs.Reworking.{ready, worked}
+use Rattle.cards.proofs.Reworking.{ready, geared, worked}
 use Rattle.cards.proofs.rework.rework.Statement.{statement}
 use Rattle.cards.proofs.rework.rework.Tie as tie
 
 work-trip-requires : tie.Need-work-trip-requires
-work-trip-requires c κs = let P = c .before .before .before .before .before .before .pre .0 in (P, ready (c .before .before .before .before .before .before .pre .1) (P .lent .has .counts) (c .before .before .before .before .before .before .pre .2 (P .car) (P .lent)))
+work-trip-requires c κs = let s = c .before .before .before .before .before .before in (s .pre .0, ready (s .pre .1) (s .pre .0 .lent .has .counts) (s .pre .2 (s .pre .0 .car) (s .pre .0 .lent)), λ car L. geared (s .pre .1) car (L .bounds) (s .pre .2 car L))
 
 returns : tie.Need-returns
 returns c = λ car L.
@@ -29,22 +23,7 @@ returns c = λ car L.
 pub rework-spec : {M : Type 1} → statement M
 rework-spec =
     tie.close
-    (tie.spec
-    (λ c. search needs)
-    (λ c. search needs)
-    (λ c. search needs)
-    (λ c. search needs)
-    (λ c. search needs)
-    (λ c. search needs)
-    (λ c. search needs)
-    (λ c. search needs)
-    (λ c. search needs)
-    (λ c. search needs)
-    (λ c. search needs)
-    work-trip-requires
-    (λ c. search needs)
-    (λ c. search needs)
-    (λ c. search needs)
-    (λ c. search needs)
-    (λ c. search needs)
-    returns)
+    (tie.spec (λ c. search needs) (λ c. search needs) (λ c. search needs) (λ c. search needs) (λ c. search needs)
+    (λ c. search needs) (λ c. search needs) (λ c. search needs) (λ c. search needs) (λ c. search needs)
+    (λ c. search needs) work-trip-requires (λ c. search needs) (λ c. search needs) (λ c. search needs)
+    (λ c. search needs) (λ c. search needs) returns)

@@ -1,19 +1,10 @@
 -- `cards::rework::stretch` meets its contract. A standing second alone, or with the trip that follows.
 -- Assumes nothing.
-use Prim.Native.Nat.{_+_, _-_}
-use native.Mathlib.Omega.{arith}
-use mathlib.Core.Path.{_≡_, sym, _∙_}
-use borrow.Author.Needs.{needs}
+use Rattle.rules.proofs.Base.{_+_, _-_, arith, _≡_, sym, _∙_, needs}
 use Rattle.rules.specs.Units.{stop}
 use Rattle.cards.proofs.Reworking.{rests, follows, follows-fit}
 use Rattle.cards.proofs.rework.stretch.Statement.{statement}
 use Rattle.cards.proofs.rework.stretch.Tie as tie
-
-add-a : tie.Need-add-a
-add-a c = let A = c .before .before .before .pre .1 .0 in omega (arith, A .in-trace)
-
-trip-stop-requires : tie.Need-trip-stop-requires
-trip-stop-requires c κs = let A = c .before .before .before .pre .1 .0 in omega (arith, A .in-trace)
 
 slice-write-card : tie.Need-slice-write-card
 slice-write-card c = let A = c .before .before .before .before .before .pre .1 .0 in omega (arith, A .in-trace, A .range .room)
@@ -43,11 +34,6 @@ pub stretch-spec : {M : Type 1} → statement M
 stretch-spec =
     tie.close
     (tie.spec
-    add-a
-    trip-stop-requires
-    slice-write-card
-    (λ c. search needs)
-    returns
-    rework-requires
-    (λ c. search needs)
-    returns-2)
+    (λ c. let A = c .before .before .before .pre .1 .0 in omega (arith, A .in-trace))
+    (λ c κs. let A = c .before .before .before .pre .1 .0 in omega (arith, A .in-trace))
+    slice-write-card (λ c. search needs) returns rework-requires (λ c. search needs) returns-2)

@@ -1,8 +1,6 @@
 -- `cards::rework::sweep` meets its contract. The invariant: the card is right up to a standing second.
 -- Assumes nothing.
-use Prim.Native.Nat.{_-_}
-use native.Mathlib.Omega.{arith}
-use borrow.Author.Needs.{needs}
+use Rattle.rules.proofs.Base.{_-_, arith, needs}
 use Rattle.rules.specs.declared.Vehicle.{Vehicle}
 use Rattle.gears.specs.Parts.{Lent}
 use Rattle.cards.proofs.Reworking.{Swept, swept-none, swept-at, swept-more, swept-less, swept-all}
@@ -14,9 +12,6 @@ Inv-loop k ratio n p speeds holds card₀ range i₀ card i = (car : Vehicle) �
 
 abbrev μ-loop : tie.MeasureT-loop
 μ-loop k ratio n p speeds holds card₀ range i₀ card i = range .hi - i
-
-loop-holds : tie.Need-loop-holds Inv-loop μ-loop
-loop-holds c = λ car L. swept-none (c .before .before .before .pre .1)
 
 stretch-requires : tie.Need-stretch-requires Inv-loop μ-loop
 unfolding swept-at
@@ -37,4 +32,4 @@ returns c = λ car L. swept-all (c .before .before .before .before .before .befo
 pub sweep-spec : {M : Type 1} → statement M
 sweep-spec =
     tie.close
-    (tie.spec Inv-loop μ-loop loop-holds stretch-requires loop-less loop-again same-length returns)
+    (tie.spec Inv-loop μ-loop (λ c. λ car L. swept-none (c .before .before .before .pre .1)) stretch-requires loop-less loop-again same-length returns)

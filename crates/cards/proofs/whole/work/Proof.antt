@@ -1,15 +1,11 @@
 -- `cards::whole::work` meets its contract. One law for each stage says what is known from there on, one of `Working` for each return.
 -- Assumes nothing.
-use Prim.Native.Nat.{ℕ}
-use mathlib.Core.Path.{refl, sym}
-use mathlib.Core.List.{List}
+use Rattle.rules.proofs.Base.{ℕ, refl, sym, List, arith, needs}
 use Rattle.rules.specs.declared.Vehicle.{Vehicle}
-use native.Mathlib.Omega.{arith}
 use Rattle.gears.specs.Parts.{Counts, Lent}
 use Rattle.checks.proofs.Rows.{Opened, opened, spanned}
 use Rattle.cards.proofs.Working.{work-opening, its-parts, no-edit, work-span, work-range, work-passes, work-done, whole-resting}
 use Rattle.gears.proofs.Derating.{derates}
-use borrow.Author.Needs.{needs}
 use Rattle.cards.proofs.whole.work.Statement.{statement}
 use Rattle.cards.proofs.whole.work.Tie as tie
 
@@ -34,9 +30,6 @@ returns c =
     let s = c .before .before .before .before .before .before in
     work-opening (s .args .t1) (s .args .speeds .now) (s .args .holds .now) (s .args .card .now)
     (c .before .before .check-opening .ensures _ _ _ refl refl refl) (c .enum-told2 .given .1)
-
-derate-requires : tie.Need-derate-requires
-derate-requires c κs = derates _ (opened-at (c .before .before .before .before) .bounds)
 
 check-span-requires : tie.Need-check-span-requires
 check-span-requires c κs =
@@ -66,17 +59,6 @@ returns-3 c =
 pub work-spec : {M : Type 1} → statement M
 work-spec =
     tie.close
-    (tie.spec
-    (λ c κs. search needs)
-    (λ c. search needs)
-    (λ c. search needs)
-    returns
-    (λ c κs. search needs)
-    derate-requires
-    check-span-requires
-    (λ c. search needs)
-    (λ c. search needs)
-    returns-2
-    sweep-requires
-    (λ c. search needs)
-    returns-3)
+    (tie.spec (λ c κs. search needs) (λ c. search needs) (λ c. search needs) returns (λ c κs. search needs)
+    (λ c κs. derates _ (opened-at (c .before .before .before .before) .bounds))
+    check-span-requires (λ c. search needs) (λ c. search needs) returns-2 sweep-requires (λ c. search needs) returns-3)

@@ -1,37 +1,37 @@
 -- `checks::calm::calm` meets its contract: what is found of the pieces and of the second that is asked for is enough.
 -- Assumes nothing.
-use native.Mathlib.Omega.{arith}
-use mathlib.Core.Path.{refl}
-use borrow.Author.Tests.{not-false}
-use borrow.Author.Needs.{needs}
+use Rattle.rules.proofs.Base.{_+_, _≤_, arith, refl, not-false, needs}
+use Rattle.rules.specs.Units.{fastest, steepest}
 use Rattle.rules.proofs.Laws.Words.{clash}
-use Rattle.checks.proofs.Pieces.{calm-apart, calm-with}
+use Rattle.checks.proofs.Pieces.{quiet-part, calm-apart, calm-with}
 use Rattle.checks.proofs.calm.calm.Statement.{statement}
 use Rattle.checks.proofs.calm.calm.Tie as tie
 
-returns : tie.Need-returns
-returns c = λ e. clash e refl
-
-returns-2 : tie.Need-returns-2
-returns-2 c = λ e.
-    let s = c .before .before .before .before .before .before .before in
-    let a = s .args in
-    let rest = c .before .before .before .before .stands .ensures (not-false _ (c .before .before .before .if1 .left)) in
-    calm-apart (a .asked) (a .speeds .now) (a .span .lo) (a .span .hi) (a .k) (a .ratio .now) (a .holds .now) (s .pre .0 .inside) rest (c .before .if2 .taken) (c .quiet .ensures e)
-
-returns-3 : tie.Need-returns-3
-returns-3 c = λ e. clash e refl
-
 returns-4 : tie.Need-returns-4
-returns-4 c = λ e. clash e refl
-
-returns-5 : tie.Need-returns-5
-returns-5 c = λ e.
+returns-4 c = λ e.
     let s = c .before .before .before .before .before .before .before .before .before .before .before in
     let a = s .args in
-    let rest = c .before .before .before .before .before .before .before .before .stands .ensures (not-false _ (c .before .before .before .before .before .before .before .if1 .left)) in
+    let rest = c .before .before .before .before .stands .ensures (not-false _ (c .before .before .before .if3 .left)) in
+    let seen = s .pre .2 in
+    calm-apart (a .asked) (a .speeds .now) (a .span .lo) (a .span .hi) (a .k) (a .ratio .now) (a .holds .now) (s .pre .0 .inside) rest (c .before .if4 .taken)
+    (quiet-part seen (omega arith) (omega arith) (a .span .lo) (a .span .hi) (omega arith) (omega arith) (c .holds-pass .ensures e))
+
+returns-7 : tie.Need-returns-7
+returns-7 c = λ e.
+    let s = c .before .before .before .before .before .before .before .before .before .before .before .before .before .before .before in
+    let a = s .args in
+    let rest = c .before .before .before .before .before .before .before .before .stands .ensures (not-false _ (c .before .before .before .before .before .before .before .if3 .left)) in
+    let seen = s .pre .2 in
+    let slow : a .seen .fastest ≤ fastest = omega (arith, c .before .before .before .before .before .before .before .before .before .if2 .left) in
+    let small : a .seen .steepest ≤ steepest = omega (arith, c .before .before .before .before .before .before .before .before .before .before .before .if1 .left) in
+    let second = a .asked .second in
     calm-with (a .asked) (a .speeds .now) (a .span .lo) (a .span .hi) (a .k) (a .ratio .now) (a .holds .now) (s .pre .0 .inside) rest (s .pre .1) (omega arith) (s .pre .0 .rooms)
-    (c .before .before .before .before .quiet2 .ensures (not-false _ (c .before .before .before .if3 .left))) (c .before .before .quiet3 .ensures (not-false _ (c .before .if4 .left))) (c .own-passes .ensures e)
+    (quiet-part seen slow small (a .span .lo) second (omega arith) (omega arith) (c .before .before .before .before .holds-pass2 .ensures (not-false _ (c .before .before .before .if5 .left))))
+    (quiet-part seen slow small (second + 1) (a .span .hi) (omega (arith, s .pre .1)) (omega arith) (c .before .before .holds-pass3 .ensures (not-false _ (c .before .if6 .left)))) (c .own-passes .ensures e)
 
 pub calm-spec : {M : Type 1} → statement M
-calm-spec = tie.close (tie.spec (λ c κs. search needs) returns (λ c κs. search needs) returns-2 (λ c κs. search needs) returns-3 (λ c. search needs) (λ c κs. search needs) returns-4 (λ c κs. search needs) returns-5)
+calm-spec =
+    tie.close
+    (tie.spec (λ c. λ e. clash e refl) (λ c. λ e. clash e refl) (λ c κs. search needs) (λ c. λ e. clash e refl)
+    (λ c κs. search needs) returns-4 (λ c κs. search needs) (λ c. λ e. clash e refl) (λ c. search needs)
+    (λ c κs. search needs) (λ c. λ e. clash e refl) (λ c κs. search needs) returns-7)

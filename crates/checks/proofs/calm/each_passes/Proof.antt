@@ -1,10 +1,6 @@
 -- `checks::calm::each_passes` meets its contract: each held second so far passes.
 -- Assumes nothing.
-use Prim.Native.Nat.{_-_, _≤_}
-use native.Mathlib.Omega.{arith}
-use mathlib.Core.Path.{_≡_, refl, sym, _∙_}
-use mathlib.Core.Logic.{⊎-elim}
-use borrow.Author.Needs.{needs}
+use Rattle.rules.proofs.Base.{_-_, _≤_, arith, _≡_, refl, sym, _∙_, ⊎-elim, needs}
 use Rattle.rules.specs.Words.{at}
 use Rattle.rules.proofs.Laws.Words.{clash}
 use Rattle.checks.specs.Calm.{Each, HoldsPass}
@@ -23,9 +19,6 @@ loop-holds c =
     let a = c .before .before .args in
     (omega arith, omega arith, each-none (HoldsPass (a .k) (a .ratio .now) (a .speeds .now) (a .holds .now)) (a .span .lo))
 
-returns : tie.Need-returns Inv-loop μ-loop
-returns c = λ e. clash e refl
-
 loop-again : tie.Need-loop-again Inv-loop μ-loop
 loop-again c =
     let a = c .before .before .before .before .before .before .before .args in
@@ -40,10 +33,7 @@ loop-again c =
           (c .if2 .came)),
     )
 
-returns-2 : tie.Need-returns-2 Inv-loop μ-loop
-returns-2 c = λ e i a b. c .before .before .loop .inv .2 i a (omega arith)
-
 pub each-passes-spec : {M : Type 1} → statement M
 each-passes-spec =
     tie.close
-    (tie.spec Inv-loop μ-loop loop-holds (λ c. search needs) (λ c. search needs) (λ c. search needs) (λ c κs. search needs) returns (λ c. search needs) (λ c. search needs) loop-again returns-2)
+    (tie.spec Inv-loop μ-loop loop-holds (λ c. search needs) (λ c. search needs) (λ c. search needs) (λ c κs. search needs) (λ c. λ e. clash e refl) (λ c. search needs) (λ c. search needs) loop-again (λ c. λ e i a b. c .before .before .loop .inv .2 i a (omega arith)))

@@ -1,11 +1,9 @@
 -- `checks::calm::most_held` meets its contract: none of the holds so far is above what is kept.
 -- Assumes nothing.
-use Prim.Native.Nat.{_-_, _≤_}
-use native.Mathlib.Omega.{arith}
+use Rattle.rules.proofs.Base.{_-_, _≤_, arith, needs}
 use Rattle.rules.specs.Words.{at}
 use Rattle.checks.specs.Calm.{AtMost}
 use Rattle.checks.proofs.Calmness.{each-none, most-more}
-use borrow.Author.Needs.{needs}
 use Rattle.checks.proofs.calm.most_held.Statement.{statement}
 use Rattle.checks.proofs.calm.most_held.Tie as tie
 
@@ -24,19 +22,9 @@ loop-again c =
     let l = c .before .before .before .before .loop in
     (omega arith, most-more (at (a .holds .now)) (a .span .lo) (l .i) (l .inv .1) (c .higher .ensures .0) (c .higher .ensures .1))
 
-returns : tie.Need-returns Inv-loop μ-loop
-returns c = λ i a b. c .before .before .loop .inv .1 i a (omega arith)
-
 pub most-held-spec : {M : Type 1} → statement M
 most-held-spec =
     tie.close
-    (tie.spec
-    Inv-loop
-    μ-loop
-    loop-holds
-    (λ c. search needs)
-    (λ c κs. search needs)
-    (λ c. search needs)
-    (λ c. search needs)
-    loop-again
-    returns)
+    (tie.spec Inv-loop μ-loop loop-holds (λ c. search needs) (λ c κs. search needs) (λ c. search needs)
+    (λ c. search needs) loop-again
+    (λ c. λ i a b. c .before .before .loop .inv .1 i a (omega arith)))

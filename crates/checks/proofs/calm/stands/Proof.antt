@@ -1,19 +1,11 @@
 -- `checks::calm::stands` meets its contract: the two speeds that it reads are the first and the last of the span.
 -- Assumes nothing.
-use native.Mathlib.Omega.{arith}
-use mathlib.Core.Path.{refl, sym, ap, _∙_}
-use borrow.Author.Needs.{needs}
+use Rattle.rules.proofs.Base.{arith, refl, sym, ap, _∙_, needs}
 use Rattle.rules.specs.Units.{moving}
 use Rattle.rules.proofs.Laws.Words.{clash}
 use Rattle.checks.proofs.Scans.{not-so}
 use Rattle.checks.proofs.calm.stands.Statement.{statement}
 use Rattle.checks.proofs.calm.stands.Tie as tie
-
-returns : tie.Need-returns
-returns c = λ e. clash e refl
-
-returns-2 : tie.Need-returns-2
-returns-2 c = λ e. clash e refl
 
 returns-3 : tie.Need-returns-3
 returns-3 c = λ e. record {
@@ -23,4 +15,4 @@ returns-3 c = λ e. record {
 }
 
 pub stands-spec : {M : Type 1} → statement M
-stands-spec = tie.close (tie.spec returns (λ c κs. search needs) (λ c κs. search needs) returns-2 (λ c. search needs) (λ c κs. search needs) (λ c κs. search needs) returns-3)
+stands-spec = tie.close (tie.spec (λ c. λ e. clash e refl) (λ c κs. search needs) (λ c κs. search needs) (λ c. λ e. clash e refl) (λ c. search needs) (λ c κs. search needs) (λ c κs. search needs) returns-3)

@@ -22,10 +22,4 @@ returns-2 c vs hs old l h o =
 pub check-opening-spec : {M : Type 1} → statement M
 check-opening-spec =
     tie.close
-    (tie.spec
-    (λ c κs. search needs)
-    (λ c. search needs)
-    (λ c. search needs)
-    returns
-    (λ c κs. search needs)
-    returns-2)
+    (tie.spec (λ c κs. search needs) (λ c. search needs) (λ c. search needs) returns (λ c κs. search needs) returns-2)

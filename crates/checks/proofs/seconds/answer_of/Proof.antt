@@ -1,7 +1,6 @@
 -- `checks::seconds::answer_of` meets its contract: each arm is the refusal of its number, and past 9 there is none.
 -- Assumes nothing.
-use borrow.Author.Tests.{le-ltb}
-use Prim.Native.Nat.{_<_}
+use Rattle.rules.proofs.Base.{le-ltb, _<_}
 use Rattle.rules.specs.Refusals.{said}
 use Rattle.checks.specs.Checks.{kept}
 use Rattle.checks.proofs.Tests.{past}

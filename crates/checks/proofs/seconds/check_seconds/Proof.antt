@@ -1,13 +1,8 @@
--- `checks::seconds::check_seconds` meets its contract: the cheap test lets nothing wrong through, and the exact pass judges the rest.
+-- `checks::seconds::check_seconds` meets its contract: what the look found is handed on.
 -- Assumes nothing.
 use borrow.Author.Needs.{needs}
-use Rattle.rules.specs.Refusals.{said}
 use Rattle.checks.proofs.seconds.check_seconds.Statement.{statement}
 use Rattle.checks.proofs.seconds.check_seconds.Tie as tie
 
-returns : tie.Need-returns
-unfolding said
-returns c = λ car H. c .before .calm .ensures (c .if1 .taken) car H
-
 pub check-seconds-spec : {M : Type 1} → statement M
-check-seconds-spec = tie.close (tie.spec (λ c κs. search needs) returns (λ c κs. search needs) (λ c. search needs))
+check-seconds-spec = tie.close (tie.spec (λ c κs. search needs) (λ c κs. let s = c .before .before .before in (s .pre .0, s .pre .1, c .look .ensures)) (λ c. search needs))

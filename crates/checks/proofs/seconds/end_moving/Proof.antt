@@ -1,11 +1,6 @@
 -- `checks::seconds::end_moving` meets its contract: its three tests are check 6.
 -- Assumes nothing.
-use Prim.Native.Nat.{ℕ, _+_}
-use native.Mathlib.Omega.{arith}
-use mathlib.Core.Path.{_≡_, ap, _∙_}
-use mathlib.Core.Bool.{Bool}
-use lib.ListN.{length, set}
-use borrow.Author.Needs.{needs}
+use Rattle.rules.proofs.Base.{ℕ, _+_, arith, _≡_, ap, _∙_, Bool, length, set, needs}
 use Rattle.rules.specs.Words.{at}
 use Rattle.rules.specs.Units.{moving}
 use Rattle.checks.specs.Asked.{speeds-with}

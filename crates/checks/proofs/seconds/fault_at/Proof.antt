@@ -1,10 +1,6 @@
 -- `checks::seconds::fault_at` meets its contract: 4, 5, 6, and then those that look at a hold.
 -- Assumes nothing.
-use Prim.Native.Nat.{ℕ}
-use mathlib.Core.Path.{_≡_, sym, _∙_}
-use mathlib.Core.List.{List}
-use native.Mathlib.Omega.{arith}
-use borrow.Author.Needs.{needs}
+use Rattle.rules.proofs.Base.{ℕ, _≡_, sym, _∙_, List, arith, needs}
 use Rattle.checks.specs.Asked.{speeds-with}
 use Rattle.checks.proofs.Tests.{free-good, too-fast, stepped, ended, onward}
 use Rattle.checks.proofs.seconds.fault_at.Statement.{statement}

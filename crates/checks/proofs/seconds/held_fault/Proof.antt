@@ -1,10 +1,6 @@
 -- `checks::seconds::held_fault` meets its contract: 7, then 8, then 9; each return has its own law.
 -- Assumes nothing.
-use native.Mathlib.Omega.{arith}
-use mathlib.Core.Path.{_≡_, sym, ap, _∙_}
-use mathlib.Core.Bool.{false}
-use borrow.Author.Tests.{not-false}
-use borrow.Author.Needs.{needs}
+use Rattle.rules.proofs.Base.{arith, _≡_, sym, ap, _∙_, false, not-false, needs}
 use Rattle.rules.specs.declared.Vehicle.{Vehicle}
 use Rattle.rules.specs.Units.{moving}
 use Rattle.rules.specs.Refusals.{not-driven}

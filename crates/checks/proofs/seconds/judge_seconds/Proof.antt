@@ -1,10 +1,6 @@
 -- `checks::seconds::judge_seconds` meets its contract. The invariant: what is kept is what the seconds so far are refused by.
 -- Assumes nothing.
-use Prim.Native.Nat.{ℕ, _-_}
-use native.Mathlib.Omega.{arith}
-use mathlib.Core.Path.{_≡_, sym, _∙_}
-use mathlib.Core.Logic.{⊎-elim}
-use borrow.Author.Needs.{needs}
+use Rattle.rules.proofs.Base.{ℕ, _-_, arith, _≡_, sym, _∙_, ⊎-elim, needs}
 use Rattle.rules.specs.declared.Vehicle.{Vehicle}
 use Rattle.rules.specs.Refusals.{checks, seconds-fault}
 use Rattle.gears.specs.Parts.{Has}
@@ -21,9 +17,6 @@ Inv-loop k ratio speeds holds asked span best₀ place₀ i₀ best place i =
 
 abbrev μ-loop : tie.MeasureT-loop
 μ-loop k ratio speeds holds asked span best₀ place₀ i₀ best place i = span .hi - i
-
-loop-holds : tie.Need-loop-holds Inv-loop μ-loop
-loop-holds c = begin _ _ (omega arith)
 
 loop-again : tie.Need-loop-again Inv-loop μ-loop
 loop-again c =
@@ -46,4 +39,4 @@ unfolding seconds-fault
 returns c = λ car H. c .answer-of .ensures ∙ done _ _ (c .before .before .before .loop .inv) (omega arith) car H
 
 pub judge-seconds-spec : {M : Type 1} → statement M
-judge-seconds-spec = tie.close (tie.spec Inv-loop μ-loop loop-holds (λ c κs. search needs) (λ c κs. search needs) (λ c. search needs) (λ c. search needs) loop-again (λ c κs. search needs) returns)
+judge-seconds-spec = tie.close (tie.spec Inv-loop μ-loop (λ c. begin _ _ (omega arith)) (λ c κs. search needs) (λ c κs. search needs) (λ c. search needs) (λ c. search needs) loop-again (λ c κs. search needs) returns)

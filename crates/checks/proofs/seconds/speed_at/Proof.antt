@@ -1,9 +1,6 @@
 -- `checks::seconds::speed_at` meets its contract: `set` changes the asked place and no other.
 -- Assumes nothing.
-use mathlib.Core.Path.{_≡_, sym}
-use native.Mathlib.Omega.{arith}
-use lib.Seq.{getD-set-same, getD-set-other}
-use borrow.Author.Needs.{needs}
+use Rattle.rules.proofs.Base.{_≡_, sym, arith, getD-set-same, getD-set-other, needs}
 use Rattle.checks.proofs.seconds.speed_at.Statement.{statement}
 use Rattle.checks.proofs.seconds.speed_at.Tie as tie
 

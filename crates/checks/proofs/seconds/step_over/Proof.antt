@@ -1,9 +1,6 @@
 -- `checks::seconds::step_over` meets its contract: the gap of two speeds is over 150 exactly where check 5 fails.
 -- Assumes nothing.
-use Prim.Native.Nat.{ℕ}
-use mathlib.Core.List.{List}
-use native.Mathlib.Omega.{arith}
-use borrow.Author.Needs.{needs}
+use Rattle.rules.proofs.Base.{ℕ, List, arith, needs}
 use Rattle.checks.specs.Asked.{speeds-with}
 use Rattle.checks.proofs.Tests.{step-out, step-large, step-small}
 use Rattle.checks.proofs.seconds.step_over.Statement.{statement}

@@ -1,10 +1,6 @@
 -- `checks::trips_asked::closing_asked` meets its contract. The loop's invariant: every second from j on is in the closing run.
 -- Assumes nothing.
-use Prim.Native.Nat.{suc, _+_, _-_, _≤_, _<_}
-use native.Mathlib.Omega.{arith}
-use mathlib.Core.Path.{_≡_}
-use lib.ListN.{length}
-use borrow.Author.Needs.{needs}
+use Rattle.rules.proofs.Base.{suc, _+_, _-_, _≤_, _<_, arith, _≡_, length, needs}
 use Rattle.rules.specs.Words.{part}
 use Rattle.trips.proofs.Closing.{Closing, run-more, run-stops, run-whole}
 use Rattle.checks.specs.Asked.{speeds-with}
@@ -19,21 +15,12 @@ Inv-loop speeds asked trip j₀ j = (trip .lo + j ≤ trip .hi) × (trip .hi < l
 abbrev μ-loop : tie.MeasureT-loop
 μ-loop speeds asked trip j₀ j = j
 
-sub-j : tie.Need-sub-j Inv-loop μ-loop
-sub-j c = let A = c .before .before .pre in omega (arith, A .order)
-
 loop-holds : tie.Need-loop-holds Inv-loop μ-loop
 loop-holds c =
     let s = c .before .before in
     let a = s .args in
     let A = s .pre in
     (omega (arith, A .order), omega (arith, A .inside, length-speeds (a .asked) (a .speeds .now)), trip-closes A)
-
-speed-in-requires : tie.Need-speed-in-requires Inv-loop μ-loop
-speed-in-requires c κs = let l = c .before .loop in (omega (arith, l .inv .0), l .inv .1)
-
-speed-in-requires-2 : tie.Need-speed-in-requires-2 Inv-loop μ-loop
-speed-in-requires-2 c κs = let l = c .before .before .loop in (l .inv .0, l .inv .1)
 
 returns : tie.Need-returns Inv-loop μ-loop
 returns c =
@@ -58,4 +45,4 @@ returns-2 c =
     run-whole (part (speeds-with (a .asked) (a .speeds .now)) (a .trip .lo) (suc (a .trip .hi))) (c .before .loop .inv .2) (omega arith)
 
 pub closing-asked-spec : {M : Type 1} → statement M
-closing-asked-spec = tie.close (tie.spec Inv-loop μ-loop sub-j loop-holds (λ c. search needs) speed-in-requires speed-in-requires-2 returns (λ c. search needs) loop-again returns-2)
+closing-asked-spec = tie.close (tie.spec Inv-loop μ-loop (λ c. let A = c .before .before .pre in omega (arith, A .order)) loop-holds (λ c. search needs) (λ c κs. let l = c .before .loop in (omega (arith, l .inv .0), l .inv .1)) (λ c κs. let l = c .before .before .loop in (l .inv .0, l .inv .1)) returns (λ c. search needs) loop-again returns-2)

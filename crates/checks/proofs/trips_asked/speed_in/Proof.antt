@@ -1,9 +1,6 @@
 -- `checks::trips_asked::speed_in` meets its contract: the trip's speeds are a part of the trace's.
 -- Assumes nothing.
-use Prim.Native.Nat.{suc}
-use native.Mathlib.Omega.{arith}
-use mathlib.Core.Path.{sym, _∙_}
-use borrow.Author.Needs.{needs}
+use Rattle.rules.proofs.Base.{suc, arith, sym, _∙_, needs}
 use Rattle.rules.proofs.Laws.Words.{at-part, length-part}
 use Rattle.checks.specs.Asked.{speeds-with}
 use Rattle.checks.proofs.trips_asked.speed_in.Statement.{statement}

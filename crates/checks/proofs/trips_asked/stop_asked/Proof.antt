@@ -1,10 +1,6 @@
 -- `checks::trips_asked::stop_asked` meets its contract. The invariant: the trip of `k` ends where that of `i` does.
 -- Assumes nothing.
-use Prim.Native.Nat.{_-_, _≤_}
-use lib.ListN.{length}
-use native.Mathlib.Omega.{arith}
-use mathlib.Core.Path.{_≡_, refl, sym, ap, _∙_}
-use borrow.Author.Needs.{needs}
+use Rattle.rules.proofs.Base.{_-_, _≤_, length, arith, _≡_, refl, sym, ap, _∙_, needs}
 use Rattle.rules.specs.Units.{moving, stop}
 use Rattle.checks.specs.Asked.{speeds-with}
 use Rattle.checks.proofs.Through.{length-speeds}
@@ -17,9 +13,6 @@ Inv-loop speeds asked i k₀ k = (k ≤ length speeds) × (stop (speeds-with ask
 
 abbrev μ-loop : tie.MeasureT-loop
 μ-loop speeds asked i k₀ k = length speeds - k
-
-loop-holds : tie.Need-loop-holds Inv-loop μ-loop
-loop-holds c = (omega arith, refl)
 
 returns : tie.Need-returns Inv-loop μ-loop
 returns c =
@@ -42,4 +35,4 @@ returns-2 c =
     stop-end vs (c .before .loop .k) (omega (arith, length-speeds (a .asked) (a .speeds .now))) ∙ sym (c .before .loop .inv .1)
 
 pub stop-asked-spec : {M : Type 1} → statement M
-stop-asked-spec = tie.close (tie.spec Inv-loop μ-loop loop-holds (λ c κs. search needs) (λ c κs. search needs) returns (λ c. search needs) (λ c. search needs) loop-again returns-2)
+stop-asked-spec = tie.close (tie.spec Inv-loop μ-loop (λ c. (omega arith, refl)) (λ c κs. search needs) (λ c κs. search needs) returns (λ c. search needs) (λ c. search needs) loop-again returns-2)

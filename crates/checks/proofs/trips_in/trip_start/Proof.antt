@@ -1,9 +1,6 @@
 -- `checks::trips_in::trip_start` meets its contract. The invariant: the trip of `k` begins where that of `i` does.
 -- Assumes nothing.
-use Prim.Native.Nat.{_≤_}
-use native.Mathlib.Omega.{arith}
-use mathlib.Core.Path.{_≡_, refl, sym, _∙_}
-use borrow.Author.Needs.{needs}
+use Rattle.rules.proofs.Base.{_≤_, arith, _≡_, refl, sym, _∙_, needs}
 use Rattle.rules.specs.Units.{start}
 use Rattle.checks.proofs.Scans.{not-so, so, start-zero, start-here, start-more}
 use Rattle.checks.proofs.trips_in.trip_start.Statement.{statement}
@@ -14,9 +11,6 @@ Inv-loop speeds i k₀ k = (k ≤ i) × (start speeds i ≡ start speeds k)
 
 abbrev μ-loop : tie.MeasureT-loop
 μ-loop speeds i k₀ k = k
-
-loop-holds : tie.Need-loop-holds Inv-loop μ-loop
-loop-holds c = (omega arith, refl)
 
 returns : tie.Need-returns Inv-loop μ-loop
 returns c =
@@ -34,4 +28,4 @@ returns-2 : tie.Need-returns-2 Inv-loop μ-loop
 returns-2 c = start-zero (c .before .before .before .args .speeds .now) (c .before .loop .k) (omega arith) ∙ sym (c .before .loop .inv .1)
 
 pub trip-start-spec : {M : Type 1} → statement M
-trip-start-spec = tie.close (tie.spec Inv-loop μ-loop loop-holds (λ c. search needs) (λ c. search needs) (λ c. search needs) (λ c κs. search needs) returns (λ c. search needs) (λ c. search needs) loop-again returns-2)
+trip-start-spec = tie.close (tie.spec Inv-loop μ-loop (λ c. (omega arith, refl)) (λ c. search needs) (λ c. search needs) (λ c. search needs) (λ c κs. search needs) returns (λ c. search needs) (λ c. search needs) loop-again returns-2)

@@ -1,10 +1,6 @@
 -- `checks::trips_in::trip_stop` meets its contract. The invariant: the trip of `k` ends where that of `i` does.
 -- Assumes nothing.
-use Prim.Native.Nat.{_-_, _≤_}
-use lib.ListN.{length}
-use native.Mathlib.Omega.{arith}
-use mathlib.Core.Path.{_≡_, refl, sym, _∙_}
-use borrow.Author.Needs.{needs}
+use Rattle.rules.proofs.Base.{_-_, _≤_, length, arith, _≡_, refl, sym, _∙_, needs}
 use Rattle.rules.specs.Units.{stop}
 use Rattle.checks.proofs.Scans.{not-so, so, stop-here, stop-more, stop-end}
 use Rattle.checks.proofs.trips_in.trip_stop.Statement.{statement}
@@ -15,9 +11,6 @@ Inv-loop speeds i k₀ k = (k ≤ length speeds) × (stop speeds i ≡ stop spee
 
 abbrev μ-loop : tie.MeasureT-loop
 μ-loop speeds i k₀ k = length speeds - k
-
-loop-holds : tie.Need-loop-holds Inv-loop μ-loop
-loop-holds c = (omega arith, refl)
 
 returns : tie.Need-returns Inv-loop μ-loop
 returns c =
@@ -35,4 +28,4 @@ returns-2 : tie.Need-returns-2 Inv-loop μ-loop
 returns-2 c = stop-end (c .before .before .before .args .speeds .now) (c .before .loop .k) (omega arith) ∙ sym (c .before .loop .inv .1)
 
 pub trip-stop-spec : {M : Type 1} → statement M
-trip-stop-spec = tie.close (tie.spec Inv-loop μ-loop loop-holds (λ c. search needs) (λ c. search needs) (λ c κs. search needs) returns (λ c. search needs) (λ c. search needs) loop-again returns-2)
+trip-stop-spec = tie.close (tie.spec Inv-loop μ-loop (λ c. (omega arith, refl)) (λ c. search needs) (λ c. search needs) (λ c κs. search needs) returns (λ c. search needs) (λ c. search needs) loop-again returns-2)

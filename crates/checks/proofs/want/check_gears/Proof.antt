@@ -1,10 +1,6 @@
 -- `checks::want::check_gears` meets its contract: where no speed lies between two gears no second wants one, and the dry run judges the rest.
 -- Assumes nothing.
-use Prim.Native.Nat.{_≤_}
-use mathlib.Core.Path.{_≡_, sym, _∙_}
-use native.Mathlib.Omega.{arith}
-use lib.ListN.{length}
-use borrow.Author.Needs.{needs}
+use Rattle.rules.proofs.Base.{_≤_, _≡_, sym, _∙_, arith, length, needs}
 use Rattle.rules.specs.Refusals.{said}
 use Rattle.checks.specs.Asked.{speeds-with, holds-with}
 use Rattle.checks.proofs.Through.{length-speeds, length-holds}
@@ -16,7 +12,7 @@ use Rattle.checks.proofs.want.check_gears.Tie as tie
 returns : tie.Need-returns
 unfolding said
 returns c = λ car L.
-    let s = c .before .before .before .before .before in
+    let s = c .before .before .before .before in
     let a = s .args in
     let vs = speeds-with (a .asked) (a .speeds .now) in
     let hs = holds-with (a .asked) (a .holds .now) in
@@ -24,11 +20,11 @@ returns c = λ car L.
     let good = s .pre .4 car (L .has) in
     no-want (L .has) vs hs (a .span .lo) (a .span .hi) (length-holds (a .asked) (a .holds .now) ∙ s .pre .1 .rooms ∙ sym n)
     (rests car vs hs (a .span .lo) (a .span .hi) (sym good) (s .pre .3) (omega (arith, s .pre .1 .inside, n)))
-    (c .before .before .fastest-asked .ensures) (c .before .no-gap .ensures (c .if1 .taken)) good
+    (s .pre .2) (c .before .no-gap .ensures (c .if1 .taken)) good
 
 judge-gears-requires : tie.Need-judge-gears-requires
 judge-gears-requires c κs =
-    let s = c .before .before .before .before .before in
+    let s = c .before .before .before .before in
     let a = s .args in
     let P = s .pre .0 in
     let vs = speeds-with (a .asked) (a .speeds .now) in
@@ -37,4 +33,4 @@ judge-gears-requires c κs =
     (P, level (P .car) vs hs (a .span .lo) (a .span .hi) (sym (s .pre .4 (P .car) (P .lent .has))) (s .pre .3) (omega (arith, s .pre .1 .inside, n)) (s .pre .1 .rooms ∙ sym n))
 
 pub check-gears-spec : {M : Type 1} → statement M
-check-gears-spec = tie.close (tie.spec (λ c κs. search needs) (λ c κs. search needs) returns judge-gears-requires (λ c. search needs))
+check-gears-spec = tie.close (tie.spec (λ c κs. search needs) returns judge-gears-requires (λ c. search needs))

@@ -1,10 +1,6 @@
 -- `checks::want::covered` meets its contract: each gear so far hands on to the next.
 -- Assumes nothing.
-use Prim.Native.Nat.{_-_, _≤_}
-use native.Mathlib.Omega.{arith}
-use mathlib.Core.Path.{_≡_, refl}
-use borrow.Author.Tests.{not-false}
-use borrow.Author.Needs.{needs}
+use Rattle.rules.proofs.Base.{_-_, _≤_, arith, _≡_, refl, not-false, needs}
 use Rattle.rules.proofs.Laws.Words.{clash}
 use Rattle.gears.specs.Parts.{low-in}
 use Rattle.checks.specs.Calm.{Each, Follows}
@@ -27,17 +23,11 @@ loop-holds c =
 hands-on-requires : tie.Need-hands-on-requires Inv-loop μ-loop
 hands-on-requires c κs = record { from = omega (arith, c .before .before .before .loop .inv .1); rated-from = c .before .before .before .before .before .before .pre .rated-from }
 
-returns : tie.Need-returns Inv-loop μ-loop
-returns c = λ e. clash e refl
-
 loop-again : tie.Need-loop-again Inv-loop μ-loop
 loop-again c =
     let a = c .before .before .before .before .before .before .before .before .args in
     let l = c .before .before .before .before .before .loop in
     (l .inv .0, omega (arith, l .inv .1), each-more (Follows (a .k) (a .ratio .now)) (low-in (a .k)) (l .j) (l .inv .2) (c .before .hands-on .ensures (not-false _ (c .if1 .left))))
 
-returns-2 : tie.Need-returns-2 Inv-loop μ-loop
-returns-2 c = λ e g a b. c .before .loop .inv .2 g a (omega arith)
-
 pub covered-spec : {M : Type 1} → statement M
-covered-spec = tie.close (tie.spec Inv-loop μ-loop (λ c. search needs) (λ c κs. search needs) loop-holds (λ c. search needs) (λ c. search needs) (λ c. search needs) (λ c. search needs) (λ c. search needs) (λ c. search needs) hands-on-requires returns (λ c. search needs) (λ c. search needs) loop-again returns-2)
+covered-spec = tie.close (tie.spec Inv-loop μ-loop (λ c. search needs) (λ c κs. search needs) loop-holds (λ c. search needs) (λ c. search needs) (λ c. search needs) (λ c. search needs) (λ c. search needs) (λ c. search needs) hands-on-requires (λ c. λ e. clash e refl) (λ c. search needs) (λ c. search needs) loop-again (λ c. λ e g a b. c .before .loop .inv .2 g a (omega arith)))

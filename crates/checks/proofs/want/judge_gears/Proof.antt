@@ -1,10 +1,6 @@
 -- `checks::want::judge_gears` meets its contract: what is left of the search, from second a on, is what was asked, and the second before a stands.
 -- Assumes nothing.
-use Prim.Native.Nat.{_+_, _-_, _≤_, _<_}
-use native.Mathlib.Omega.{arith}
-use mathlib.Core.Path.{_≡_, refl, sym, _∙_}
-use mathlib.Core.Bool.{false}
-use borrow.Author.Needs.{needs}
+use Rattle.rules.proofs.Base.{_+_, _-_, _≤_, _<_, arith, _≡_, refl, sym, _∙_, false, needs}
 use Rattle.rules.specs.declared.Vehicle.{Vehicle}
 use Rattle.rules.specs.Words.{at, first}
 use Rattle.rules.specs.Units.{moving, stop}

@@ -1,23 +1,12 @@
 -- `checks::want::no_gap` meets its contract: each of its tests is one of the facts.
 -- Assumes nothing.
-use native.Mathlib.Omega.{arith}
-use mathlib.Core.Path.{refl}
-use borrow.Author.Needs.{needs}
+use Rattle.rules.proofs.Base.{arith, refl, needs}
 use Rattle.rules.proofs.Laws.Words.{clash}
 use Rattle.checks.proofs.want.no_gap.Statement.{statement}
 use Rattle.checks.proofs.want.no_gap.Tie as tie
 
-returns : tie.Need-returns
-returns c = λ e. clash e refl
-
 engine-requires : tie.Need-engine-requires
 engine-requires c κs = let l = c .before .before .lowest .ensures in record { from = omega (arith, l); to = omega (arith, l, c .before .if1 .left, c .before .before .before .before .pre .ng-to) }
-
-returns-2 : tie.Need-returns-2
-returns-2 c = λ e. clash e refl
-
-returns-3 : tie.Need-returns-3
-returns-3 c = λ e. clash e refl
 
 returns-4 : tie.Need-returns-4
 returns-4 c = λ e.
@@ -25,4 +14,4 @@ returns-4 c = λ e.
     record { some = omega (arith, l); at-first = rw (← l) (omega arith); at-most = omega arith; covered = c .covered .ensures e }
 
 pub no-gap-spec : {M : Type 1} → statement M
-no-gap-spec = tie.close (tie.spec (λ c. search needs) (λ c κs. search needs) returns (λ c κs. search needs) engine-requires returns-2 (λ c κs. search needs) returns-3 (λ c κs. search needs) returns-4)
+no-gap-spec = tie.close (tie.spec (λ c. search needs) (λ c κs. search needs) (λ c. λ e. clash e refl) (λ c κs. search needs) engine-requires (λ c. λ e. clash e refl) (λ c κs. search needs) (λ c. λ e. clash e refl) (λ c κs. search needs) returns-4)

@@ -1,13 +1,10 @@
 -- `cycles::filling::fill` meets its contract: refused, or the table is copied, which is the definition's cycle.
 -- Assumes nothing.
-use native.Mathlib.Omega.{arith}
-use mathlib.Core.Path.{_≡_, _∙_}
-use Rattle.rules.specs.Refusals.{left}
+use Rattle.rules.proofs.Base.{_∙_, needs}
 use Rattle.cycles.specs.Cycle.{cycle, low, medium, high, extra-high}
 use Rattle.cycles.specs.Parts.{fill-room}
 use Rattle.cycles.proofs.FillingEnds.{passed, untouched, written}
 use Rattle.cycles.proofs.Stretches.{accepted-room}
-use borrow.Author.Needs.{needs}
 use Rattle.cycles.proofs.filling.fill.Statement.{statement}
 use Rattle.cycles.proofs.filling.fill.Tie as tie
 
@@ -28,12 +25,5 @@ returns-2 c =
 pub fill-spec : {M : Type 1} → statement M
 fill-spec =
     tie.close
-    (tie.spec
-    (λ c κs. search needs)
-    (λ c. search needs)
-    (λ c. search needs)
-    returns
-    (λ c. search needs)
-    copy-in-requires
-    (λ c. search needs)
-    returns-2)
+    (tie.spec (λ c κs. search needs) (λ c. search needs) (λ c. search needs) returns (λ c. search needs)
+    copy-in-requires (λ c. search needs) returns-2)

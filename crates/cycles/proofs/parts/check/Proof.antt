@@ -1,7 +1,6 @@
 -- `cycles::parts::check` meets its contract. One line for each return.
 -- Assumes nothing.
-use native.Mathlib.Omega.{arith}
-use mathlib.Core.Path.{sym}
+use Rattle.rules.proofs.Base.{arith, sym}
 use Rattle.rules.specs.Refusals.{said}
 use Rattle.cycles.proofs.Stretches.{bad-part, short-room, accepted}
 use Rattle.cycles.proofs.parts.check.Statement.{statement}

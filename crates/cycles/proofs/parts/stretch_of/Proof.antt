@@ -1,11 +1,9 @@
 -- `cycles::parts::stretch_of` meets its contract: no seconds where filling refuses, else the part's.
 -- Assumes nothing.
-use native.Mathlib.Omega.{arith}
-use mathlib.Core.Path.{_≡_, sym, ap, _∙_}
+use Rattle.rules.proofs.Base.{arith, sym, ap, _∙_, needs}
 use Rattle.rules.specs.Refusals.{said}
 use Rattle.cycles.proofs.FillingEnds.{passed}
 use Rattle.cycles.proofs.Stretches.{ordered, stretch-part, no-stretch}
-use borrow.Author.Needs.{needs}
 use Rattle.cycles.proofs.parts.stretch_of.Statement.{statement}
 use Rattle.cycles.proofs.parts.stretch_of.Tie as tie
 
@@ -27,13 +25,5 @@ returns-2 c =
 pub stretch-of-spec : {M : Type 1} → statement M
 stretch-of-spec =
     tie.close
-    (tie.spec
-    (λ c κs. search needs)
-    (λ c. search needs)
-    (λ c. search needs)
-    returns
-    (λ c κs. search needs)
-    (λ c κs. search needs)
-    add-t6
-    sub-t7
-    returns-2)
+    (tie.spec (λ c κs. search needs) (λ c. search needs) (λ c. search needs) returns (λ c κs. search needs)
+    (λ c κs. search needs) add-t6 sub-t7 returns-2)

@@ -1,7 +1,6 @@
 -- `downscale::checks::check` meets its contract. One line for each return.
 -- Assumes nothing.
-use native.Mathlib.Omega.{arith}
-use borrow.Author.Tests.{lt-ltb, le-ltb, eq-eqb, ne-eqb}
+use Rattle.rules.proofs.Base.{lt-ltb, le-ltb, eq-eqb, ne-eqb}
 use Rattle.rules.specs.Refusals.{said, refuse-at, _orelse_, when}
 use Rattle.downscale.specs.Steps.{down-fault}
 use Rattle.downscale.proofs.checks.check.Statement.{statement}

@@ -1,10 +1,8 @@
 -- `downscale::checks::nearest` meets its contract: what is at most 65,535 wholes fits 16 bits when it is rounded.
 -- Assumes nothing.
-use native.Mathlib.Omega.{arith}
-use mathlib.Core.Path.{refl}
-use Rattle.downscale.specs.Steps.{nearest}
+use Rattle.rules.proofs.Base.{arith, refl, needs}
+use Rattle.rules.specs.Words.{nearest}
 use Rattle.downscale.proofs.Rounding.{nearest-most}
-use borrow.Author.Needs.{needs}
 use Rattle.downscale.proofs.checks.nearest.Statement.{statement}
 use Rattle.downscale.proofs.checks.nearest.Tie as tie
 

@@ -1,17 +1,11 @@
 -- `downscale::closed::downscale` meets its contract: refused, or the cycle with its two stretches drawn.
 -- Assumes nothing.
-use Prim.Native.Nat.{ℕ, _≤_}
-use native.Mathlib.Omega.{arith}
-use mathlib.Core.Path.{_≡_, ap, _∙_}
-use mathlib.Core.Option.{none}
-use lib.ListN.{length}
-use denote.Ref.{now}
+use Rattle.rules.proofs.Base.{_≤_, arith, _≡_, ap, _∙_, none, length, now, needs}
 use Rattle.cycles.specs.Cycle.{cycle}
 use Rattle.cycles.proofs.FillingEnds.{passed, untouched, written}
 use Rattle.cycles.proofs.Table.{length-cycle}
 use Rattle.downscale.specs.Steps.{down-fault, down-room}
 use Rattle.downscale.proofs.ScaledRoom.{accepted-factor, accepted-length, filled-cycle, rise-draws, fall-draws, drawn-whole}
-use borrow.Author.Needs.{needs}
 use Rattle.downscale.proofs.closed.downscale.Statement.{statement}
 use Rattle.downscale.proofs.closed.downscale.Tie as tie
 
@@ -58,14 +52,5 @@ returns-2 c =
 pub downscale-spec : {M : Type 1} → statement M
 downscale-spec =
     tie.close
-    (tie.spec
-    (λ c κs. search needs)
-    (λ c. search needs)
-    (λ c. search needs)
-    returns
-    (λ c κs. search needs)
-    draw-requires
-    (λ c. search needs)
-    draw-requires-2
-    (λ c. search needs)
-    returns-2)
+    (tie.spec (λ c κs. search needs) (λ c. search needs) (λ c. search needs) returns (λ c κs. search needs)
+    draw-requires (λ c. search needs) draw-requires-2 (λ c. search needs) returns-2)

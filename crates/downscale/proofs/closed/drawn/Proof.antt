@@ -1,10 +1,8 @@
 -- `downscale::closed::drawn` meets its contract: the sum is at most 65,535 wholes.
 -- Assumes nothing.
-use Prim.Native.Nat.{_*_, _+_, _-_, _≤_}
-use native.Mathlib.Omega.{arith}
+use Rattle.rules.proofs.Base.{_*_, _+_, _-_, _≤_, arith, needs}
 use Rattle.downscale.specs.Closed.{drawn, drawn-speed}
 use Rattle.downscale.proofs.Rounding.{drawn-most}
-use borrow.Author.Needs.{needs}
 use Rattle.downscale.proofs.closed.drawn.Statement.{statement}
 use Rattle.downscale.proofs.closed.drawn.Tie as tie
 
@@ -13,22 +11,10 @@ sum-most : (c : tie.Start) → (c .args .whole - c .args .parts) * c .args .spee
 unfolding drawn
 sum-most c = drawn-most (c .args .whole) (c .args .parts) (c .args .rest) (c .pre .parts) (c .args .speed) 65535 (omega arith) (c .pre .speed)
 
-mul-nearest : tie.Need-mul-nearest
-mul-nearest c = let h = sum-most c in search needs
-
-mul-nearest-2 : tie.Need-mul-nearest-2
-mul-nearest-2 c = let h = sum-most c in search needs
-
-add-nearest : tie.Need-add-nearest
-add-nearest c = let h = sum-most c in search needs
-
-nearest-requires : tie.Need-nearest-requires
-nearest-requires c κs = (c .pre .from, c .pre .to, sum-most c)
-
 returns : tie.Need-returns
 unfolding drawn-speed drawn
 returns c = c .nearest .ensures
 
 pub drawn-spec : {M : Type 1} → statement M
 drawn-spec =
-    tie.close (tie.spec (λ c. search needs) mul-nearest mul-nearest-2 add-nearest nearest-requires returns)
+    tie.close (tie.spec (λ c. search needs) (λ c. let h = sum-most c in search needs) (λ c. let h = sum-most c in search needs) (λ c. let h = sum-most c in search needs) (λ c κs. (c .pre .from, c .pre .to, sum-most c)) returns)

@@ -1,16 +1,10 @@
 -- `downscale::stepwise::downscale_steps` meets its contract: refused, or the cycle with its two stretches stepped.
 -- Assumes nothing.
-use Prim.Native.Nat.{ℕ, _+_, _-_, _*_, _≤_}
-use native.Mathlib.Omega.{arith}
-use mathlib.Core.Path.{_≡_, _∙_}
-use mathlib.Core.Option.{none}
-use lib.ListN.{length}
-use denote.Ref.{now}
+use Rattle.rules.proofs.Base.{_+_, _-_, _*_, _≤_, arith, _≡_, _∙_, none, length, now, needs}
 use Rattle.cycles.specs.Cycle.{cycle}
 use Rattle.cycles.proofs.FillingEnds.{passed, untouched, written}
 use Rattle.downscale.specs.Steps.{down-fault, down-room}
 use Rattle.downscale.proofs.ScaledRoom.{accepted-factor, accepted-length, filled-cycle, rise-begins, peak-is, fall-begins, stepped-whole}
-use borrow.Author.Needs.{needs}
 use Rattle.downscale.proofs.stepwise.downscale_steps.Statement.{statement}
 use Rattle.downscale.proofs.stepwise.downscale_steps.Tie as tie
 
@@ -36,9 +30,6 @@ peak-there q = peak-is _ (factor-fine (q .before .before .before .before .before
 returns : tie.Need-returns
 unfolding down-room
 returns c = let said = c .before .before .check .ensures in (said, untouched said _ _ (c .enum-told2 .given .1))
-
-sub-add-steps : tie.Need-sub-add-steps
-sub-add-steps c = let f = factor-fine (c .before .before .before .before .before) in omega arith
 
 add-steps-requires : tie.Need-add-steps-requires
 add-steps-requires c κs = rise-begins _ (factor-fine (c .before .before .before .before .before)) (filled-is (c .before .before .before))
@@ -72,18 +63,7 @@ returns-2 c =
 pub downscale-steps-spec : {M : Type 1} → statement M
 downscale-steps-spec =
     tie.close
-    (tie.spec
-    (λ c κs. search needs)
-    (λ c. search needs)
-    (λ c. search needs)
-    returns
-    (λ c κs. search needs)
-    sub-add-steps
-    (λ c. search needs)
-    add-steps-requires
-    (λ c. search needs)
-    sub-add-steps-2
-    mul-add-steps-3
-    add-steps-requires-2
-    (λ c. search needs)
-    returns-2)
+    (tie.spec (λ c κs. search needs) (λ c. search needs) (λ c. search needs) returns (λ c κs. search needs)
+    (λ c. let f = factor-fine (c .before .before .before .before .before) in omega arith)
+    (λ c. search needs) add-steps-requires (λ c. search needs) sub-add-steps-2 mul-add-steps-3 add-steps-requires-2
+    (λ c. search needs) returns-2)

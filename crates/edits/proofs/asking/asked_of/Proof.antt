@@ -1,10 +1,8 @@
 -- `edits::asking::asked_of` meets its contract: what each edit asks for, as `asked-of` has it.
 -- Assumes nothing.
-use native.Mathlib.Omega.{arith}
-use mathlib.Core.Path.{_≡_}
+use Rattle.rules.proofs.Base.{arith, _≡_, needs}
 use Rattle.rules.specs.Edit.{second}
 use Rattle.edits.specs.Asks.{asked-of}
-use borrow.Author.Needs.{needs}
 use Rattle.edits.proofs.asking.asked_of.Statement.{statement}
 use Rattle.edits.proofs.asking.asked_of.Tie as tie
 
@@ -43,16 +41,5 @@ returns-3 c = rw (c .before .before .edit3 .given .1)
 pub asked-of-spec : {M : Type 1} → statement M
 asked-of-spec =
     tie.close
-    (tie.spec
-    (λ c. search needs)
-    mul-t10
-    shared-slice-read-t12
-    (λ c κs. search needs)
-    (λ c. search needs)
-    mul-t14
-    shared-slice-read-t16
-    (λ c. search needs)
-    shared-slice-read-t18
-    returns
-    returns-2
-    returns-3)
+    (tie.spec (λ c. search needs) mul-t10 shared-slice-read-t12 (λ c κs. search needs) (λ c. search needs) mul-t14
+    shared-slice-read-t16 (λ c. search needs) shared-slice-read-t18 returns returns-2 returns-3)

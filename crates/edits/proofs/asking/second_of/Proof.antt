@@ -1,8 +1,7 @@
 -- `edits::asking::second_of` meets its contract: each edit names its second.
 -- Assumes nothing.
-use mathlib.Core.Path.{_≡_}
+use Rattle.rules.proofs.Base.{_≡_, needs}
 use Rattle.rules.specs.Edit.{second}
-use borrow.Author.Needs.{needs}
 use Rattle.edits.proofs.asking.second_of.Statement.{statement}
 use Rattle.edits.proofs.asking.second_of.Tie as tie
 

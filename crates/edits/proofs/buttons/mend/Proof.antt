@@ -1,11 +1,9 @@
 -- `edits::buttons::mend` meets its contract: `Carried` has what the sweep asks and what is left.
 -- Assumes nothing.
-use native.Mathlib.Omega.{arith}
-use mathlib.Core.Path.{_≡_, sym, ap}
+use Rattle.rules.proofs.Base.{arith, _≡_, sym, ap, needs}
 use Rattle.rules.specs.declared.Edit.the-variants.{Mend}
 use Rattle.rules.specs.Edit.{Screen, second, asked-speeds, asked-holds}
 use Rattle.edits.proofs.Carried.{Accepted, refused-left, in-trace-at, in-holds-at, parts-at, few-at, range-at, passes-there, speeds-at, holds-at, card-left-at, summary-at}
-use borrow.Author.Needs.{needs}
 use Rattle.edits.proofs.buttons.mend.Statement.{statement}
 use Rattle.edits.proofs.buttons.mend.Tie as tie
 
@@ -42,17 +40,6 @@ returns-2 c =
 pub mend-spec : {M : Type 1} → statement M
 mend-spec =
     tie.close
-    (tie.spec
-    (λ c κs. search needs)
-    (λ c. search needs)
-    (λ c. search needs)
-    (λ c. search needs)
-    (λ c. search needs)
-    returns
-    mul-speeds
-    slice-write-speeds
-    (λ c κs. search needs)
-    carry-out-requires
-    (λ c. search needs)
-    (λ c. search needs)
-    returns-2)
+    (tie.spec (λ c κs. search needs) (λ c. search needs) (λ c. search needs) (λ c. search needs) (λ c. search needs)
+    returns mul-speeds slice-write-speeds (λ c κs. search needs) carry-out-requires (λ c. search needs)
+    (λ c. search needs) returns-2)

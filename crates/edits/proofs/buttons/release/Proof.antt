@@ -1,11 +1,9 @@
 -- `edits::buttons::release` meets its contract: `Carried` has what the sweep asks and what is left.
 -- Assumes nothing.
-use native.Mathlib.Omega.{arith}
-use mathlib.Core.Path.{_≡_, sym, ap}
+use Rattle.rules.proofs.Base.{arith, _≡_, sym, ap, needs}
 use Rattle.rules.specs.declared.Edit.the-variants.{Release}
 use Rattle.rules.specs.Edit.{Screen, second, asked-speeds, asked-holds}
 use Rattle.edits.proofs.Carried.{Accepted, refused-left, in-trace-at, in-holds-at, parts-at, few-at, range-at, passes-there, speeds-at, holds-at, card-left-at, summary-at}
-use borrow.Author.Needs.{needs}
 use Rattle.edits.proofs.buttons.release.Statement.{statement}
 use Rattle.edits.proofs.buttons.release.Tie as tie
 
@@ -38,16 +36,6 @@ returns-2 c =
 pub release-spec : {M : Type 1} → statement M
 release-spec =
     tie.close
-    (tie.spec
-    (λ c κs. search needs)
-    (λ c. search needs)
-    (λ c. search needs)
-    (λ c. search needs)
-    (λ c. search needs)
-    returns
-    slice-write-holds
-    (λ c κs. search needs)
-    carry-out-requires
-    (λ c. search needs)
-    (λ c. search needs)
+    (tie.spec (λ c κs. search needs) (λ c. search needs) (λ c. search needs) (λ c. search needs) (λ c. search needs)
+    returns slice-write-holds (λ c κs. search needs) carry-out-requires (λ c. search needs) (λ c. search needs)
     returns-2)

@@ -1,7 +1,6 @@
 -- `edits::judging::carry_out` meets its contract: the sweep, and the seconds counted again.
 -- Assumes nothing.
-use mathlib.Core.Path.{_≡_, ap, _∙_}
-use borrow.Author.Needs.{needs}
+use Rattle.rules.proofs.Base.{_≡_, ap, _∙_, needs}
 use Rattle.edits.proofs.judging.carry_out.Statement.{statement}
 use Rattle.edits.proofs.judging.carry_out.Tie as tie
 

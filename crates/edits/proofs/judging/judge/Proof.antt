@@ -1,10 +1,6 @@
 -- `edits::judging::judge` meets its contract: one law for each stage says what is known from there on, one of `Answers` for each return.
 -- Assumes nothing.
-use native.Mathlib.Omega.{arith}
-use mathlib.Core.Path.{_≡_, refl, sym, ap, _∙_}
-use mathlib.Core.List.{List}
-use Prim.Native.Nat.{ℕ, _+_, _<_, min}
-use lib.ListN.{length}
+use Rattle.rules.proofs.Base.{arith, _≡_, refl, sym, ap, _∙_, List, ℕ, _+_, _<_, min, length, needs}
 use Rattle.rules.specs.declared.Vehicle.{Vehicle}
 use Rattle.rules.specs.declared.Edit.{Edit}
 use Rattle.rules.specs.Refusals.{said}
@@ -16,7 +12,6 @@ use Rattle.cards.proofs.Working.{its-parts}
 use Rattle.edits.proofs.Places.{spanned-at, since-at, resting-at, countable-at}
 use Rattle.edits.proofs.Answers.{not-done, asked-second, asked-speeds-are, own-at, at-opening, at-second, at-span}
 use Rattle.edits.proofs.Carried.{passes-at}
-use borrow.Author.Needs.{needs}
 use Rattle.edits.proofs.judging.judge.Statement.{statement}
 use Rattle.edits.proofs.judging.judge.Tie as tie
 
@@ -69,9 +64,6 @@ returns-2 c = (
   λ d. not-done refl (sym (c .refused2 .ensures) ∙ d),
 )
 
-derate-requires : tie.Need-derate-requires
-derate-requires c κs = derates _ (opened-at (c .before .before .before .before .before .before) .bounds)
-
 asked-of-requires : tie.Need-asked-of-requires
 asked-of-requires c κs =
     let l = inside-at (c .before .before .before .before .before .before .before .before .before .before) in
@@ -122,24 +114,8 @@ returns-4 c =
 pub judge-spec : {M : Type 1} → statement M
 judge-spec =
     tie.close
-    (tie.spec
-    (λ c κs. search needs)
-    (λ c. search needs)
-    (λ c. search needs)
-    (λ c κs. search needs)
-    returns
-    (λ c κs. search needs)
-    (λ c κs. search needs)
-    returns-2
-    (λ c κs. search needs)
-    derate-requires
-    (λ c κs. search needs)
-    asked-of-requires
-    (λ c κs. search needs)
-    check-span-requires
-    (λ c. search needs)
-    (λ c. search needs)
-    (λ c κs. search needs)
-    returns-3
-    count-requires
-    returns-4)
+    (tie.spec (λ c κs. search needs) (λ c. search needs) (λ c. search needs) (λ c κs. search needs) returns
+    (λ c κs. search needs) (λ c κs. search needs) returns-2 (λ c κs. search needs)
+    (λ c κs. derates _ (opened-at (c .before .before .before .before .before .before) .bounds))
+    (λ c κs. search needs) asked-of-requires (λ c κs. search needs) check-span-requires (λ c. search needs)
+    (λ c. search needs) (λ c κs. search needs) returns-3 count-requires returns-4)

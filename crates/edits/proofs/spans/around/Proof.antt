@@ -1,11 +1,8 @@
 -- `edits::spans::around` meets its contract: the two scans, and the second before the first.
 -- Assumes nothing.
-use Prim.Native.Nat.{ℕ, _-_}
-use native.Mathlib.Numerals.{add-one}
-use mathlib.Core.Path.{_≡_, ap, _∙_}
+use Rattle.rules.proofs.Base.{ℕ, _-_, add-one, _≡_, ap, _∙_, needs}
 use Rattle.rules.specs.Units.{stop}
 use Rattle.rules.specs.Edit.{around}
-use borrow.Author.Needs.{needs}
 use Rattle.edits.proofs.spans.around.Statement.{statement}
 use Rattle.edits.proofs.spans.around.Tie as tie
 

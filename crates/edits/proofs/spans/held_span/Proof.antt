@@ -17,10 +17,4 @@ returns-2 c = let m = so (c .before .before .moving .ensures) (c .before .if1 .l
 pub held-span-spec : {M : Type 1} → statement M
 held-span-spec =
     tie.close
-    (tie.spec
-    (λ c. search needs)
-    (λ c. search needs)
-    (λ c κs. search needs)
-    returns
-    (λ c κs. search needs)
-    returns-2)
+    (tie.spec (λ c. search needs) (λ c. search needs) (λ c κs. search needs) returns (λ c κs. search needs) returns-2)

@@ -1,8 +1,7 @@
 -- `edits::spans::span_of` meets its contract: each edit's own.
 -- Assumes nothing.
-use mathlib.Core.Path.{_≡_}
+use Rattle.rules.proofs.Base.{_≡_, needs}
 use Rattle.rules.specs.Edit.{second, span}
-use borrow.Author.Needs.{needs}
 use Rattle.edits.proofs.spans.span_of.Statement.{statement}
 use Rattle.edits.proofs.spans.span_of.Tie as tie
 
@@ -33,13 +32,5 @@ returns-3 c = rw (c .before .before .edit3 .given .1) (c .around .ensures)
 pub span-of-spec : {M : Type 1} → statement M
 span-of-spec =
     tie.close
-    (tie.spec
-    (λ c. search needs)
-    held-span-requires
-    (λ c. search needs)
-    held-span-requires-2
-    (λ c. search needs)
-    around-requires
-    returns
-    returns-2
-    returns-3)
+    (tie.spec (λ c. search needs) held-span-requires (λ c. search needs) held-span-requires-2 (λ c. search needs)
+    around-requires returns returns-2 returns-3)

@@ -4,12 +4,6 @@ use borrow.Author.Needs.{needs}
 use Rattle.exports.proofs.Found.and.Statement.{statement}
 use Rattle.exports.proofs.Found.and.Tie as tie
 
-returns : tie.Need-returns
-returns c = rw (c .before .met .given .1)
-
-returns-2 : tie.Need-returns-2
-returns-2 c = rw (c .before .before .met2 .given .1)
-
 pub and-spec : {M : Type 1} → statement M
 and-spec =
-    tie.close (tie.spec (λ c. search needs) (λ c. search needs) (λ c. search needs) returns returns-2 (λ c. search needs))
+    tie.close (tie.spec (λ c. search needs) (λ c. search needs) (λ c. search needs) (λ c. rw (c .before .met .given .1)) (λ c. rw (c .before .before .met2 .given .1)) (λ c. search needs))

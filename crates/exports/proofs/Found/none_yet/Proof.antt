@@ -1,7 +1,6 @@
 -- `exports::Found::none_yet` meets its contract: 0.0 is the float of bits that are all 0.
 -- Assumes nothing.
-use mathlib.Core.Path.{refl}
-use lib.Ieee.{ofBits}
+use Rattle.rules.proofs.Base.{refl, ofBits}
 use Rattle.exports.specs.Export.{none-yet}
 use Rattle.exports.proofs.Found.none_yet.Statement.{statement}
 use Rattle.exports.proofs.Found.none_yet.Tie as tie

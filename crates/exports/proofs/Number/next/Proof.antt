@@ -4,11 +4,5 @@ use borrow.Author.Needs.{needs}
 use Rattle.exports.proofs.Number.next.Statement.{statement}
 use Rattle.exports.proofs.Number.next.Tie as tie
 
-returns : tie.Need-returns
-returns c = rw (c .before .self .given .1)
-
-returns-2 : tie.Need-returns-2
-returns-2 c = rw (c .before .self2 .given .1)
-
 pub next-spec : {M : Type 1} → statement M
-next-spec = tie.close (tie.spec (λ c. search needs) (λ c. search needs) returns returns-2)
+next-spec = tie.close (tie.spec (λ c. search needs) (λ c. search needs) (λ c. rw (c .before .self .given .1)) (λ c. rw (c .before .self2 .given .1)))

@@ -1,16 +1,10 @@
 -- `exports::fields::in_bounds` meets its contract: from 2^23 on a value is beyond every bound.
 -- Assumes nothing.
-use native.Mathlib.Omega.{arith}
-use mathlib.Core.Path.{sym}
-use mir.Facts.{toZ-ofZ}
+use Rattle.rules.proofs.Base.{arith, sym, toZ-ofZ, needs}
 use Rattle.exports.specs.Fields.{units, in-bounds}
 use Rattle.exports.proofs.Values.{no-nan, beyond}
-use borrow.Author.Needs.{needs}
 use Rattle.exports.proofs.fields.in_bounds.Statement.{statement}
 use Rattle.exports.proofs.fields.in_bounds.Tie as tie
-
-float-to-bits-exponent : tie.Need-float-to-bits-exponent
-float-to-bits-exponent c = no-nan (c .args .x) (c .pre .0 .number)
 
 returns : tie.Need-returns
 returns c =
@@ -28,10 +22,5 @@ returns-2 c =
 pub in-bounds-spec : {M : Type 1} → statement M
 in-bounds-spec =
     tie.close
-    (tie.spec
-    float-to-bits-exponent
-    (λ c κs. search needs)
-    returns
-    (λ c κs. search needs)
-    (λ c κs. search needs)
-    returns-2)
+    (tie.spec (λ c. no-nan (c .args .x) (c .pre .0 .number)) (λ c κs. search needs) returns (λ c κs. search needs)
+    (λ c κs. search needs) returns-2)

@@ -1,9 +1,8 @@
 -- `exports::fields::in_units` meets its contract, field by field.
 -- Assumes nothing.
-use mir.Facts.{toZ-ofZ}
+use Rattle.rules.proofs.Base.{toZ-ofZ, needs}
 use Rattle.exports.specs.Fields.{F0, F2}
 use Rattle.exports.proofs.Sizes.{f1-short, f0-plain, f2-plain}
-use borrow.Author.Needs.{needs}
 use Rattle.exports.proofs.fields.in_units.Statement.{statement}
 use Rattle.exports.proofs.fields.in_units.Tie as tie
 

@@ -1,15 +1,10 @@
 -- `exports::fields::whole` meets its contract: within bounds that are not negative a value is its size.
 -- Assumes nothing.
-use native.Mathlib.Omega.{arith}
-use mathlib.Core.Path.{_∙_, ap}
-use lib.IntN.{pos}
+use Rattle.rules.proofs.Base.{arith, _∙_, ap, pos}
 use Rattle.exports.proofs.Values.{no-nan, moderate}
 use Rattle.exports.proofs.Sizes.{size-is}
 use Rattle.exports.proofs.fields.whole.Statement.{statement}
 use Rattle.exports.proofs.fields.whole.Tie as tie
-
-float-to-bits-size-of : tie.Need-float-to-bits-size-of
-float-to-bits-size-of c = no-nan (c .args .x) (c .pre .0 .is .number)
 
 size-of-requires : tie.Need-size-of-requires
 size-of-requires c κs = let m = moderate (c .args .field) (c .args .x) (c .pre .1 .fair) (c .pre .0) in (m .below, m .scale)
@@ -21,4 +16,4 @@ returns : tie.Need-returns
 returns c = ap pos (c .size-of .ensures .0) ∙ size-is (c .before .args .field) (c .before .args .x) (c .before .pre .1) (c .before .pre .0) .0
 
 pub whole-spec : {M : Type 1} → statement M
-whole-spec = tie.close (tie.spec float-to-bits-size-of size-of-requires cast-result returns)
+whole-spec = tie.close (tie.spec (λ c. no-nan (c .args .x) (c .pre .0 .is .number)) size-of-requires cast-result returns)

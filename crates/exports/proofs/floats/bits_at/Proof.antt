@@ -1,8 +1,7 @@
 -- `exports::floats::bits_at` meets its contract: four bytes fit 32 bits.
 -- Assumes nothing.
-use native.Mathlib.Omega.{arith}
+use Rattle.rules.proofs.Base.{arith, needs}
 use Rattle.exports.specs.Floats.{four-bytes}
-use borrow.Author.Needs.{needs}
 use Rattle.exports.proofs.floats.bits_at.Statement.{statement}
 use Rattle.exports.proofs.floats.bits_at.Tie as tie
 
@@ -13,22 +12,7 @@ returns c = omega arith
 pub bits-at-spec : {M : Type 1} → statement M
 bits-at-spec =
     tie.close
-    (tie.spec
-    (λ c. search needs)
-    (λ c κs. search needs)
-    (λ c. search needs)
-    (λ c. search needs)
-    (λ c κs. search needs)
-    (λ c. search needs)
-    (λ c. search needs)
-    (λ c. search needs)
-    (λ c. search needs)
-    (λ c κs. search needs)
-    (λ c. search needs)
-    (λ c. search needs)
-    (λ c. search needs)
-    (λ c. search needs)
-    (λ c κs. search needs)
-    (λ c. search needs)
-    (λ c. search needs)
-    returns)
+    (tie.spec (λ c. search needs) (λ c κs. search needs) (λ c. search needs) (λ c. search needs) (λ c κs. search needs)
+    (λ c. search needs) (λ c. search needs) (λ c. search needs) (λ c. search needs) (λ c κs. search needs)
+    (λ c. search needs) (λ c. search needs) (λ c. search needs) (λ c. search needs) (λ c κs. search needs)
+    (λ c. search needs) (λ c. search needs) returns)

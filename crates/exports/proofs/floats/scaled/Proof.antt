@@ -1,17 +1,10 @@
 -- `exports::floats::scaled` meets its contract: the exact value's size, and the sign in front of it.
 -- Assumes nothing.
-use native.Mathlib.Omega.{arith}
+use Rattle.rules.proofs.Base.{arith, needs}
 use Rattle.exports.proofs.Values.{no-nan}
 use Rattle.exports.proofs.Sizes.{plain, minus-short, turned}
-use borrow.Author.Needs.{needs}
 use Rattle.exports.proofs.floats.scaled.Statement.{statement}
 use Rattle.exports.proofs.floats.scaled.Tie as tie
-
-float-to-bits-bits : tie.Need-float-to-bits-bits
-float-to-bits-bits c = no-nan (c .args .x) (c .pre .number)
-
-cast-size : tie.Need-cast-size
-cast-size c = record { sfits = omega arith }
 
 returns : tie.Need-returns
 returns c =
@@ -33,4 +26,4 @@ returns-2 c =
 
 pub scaled-spec : {M : Type 1} → statement M
 scaled-spec =
-    tie.close (tie.spec float-to-bits-bits (λ c κs. search needs) cast-size returns sub-result returns-2)
+    tie.close (tie.spec (λ c. no-nan (c .args .x) (c .pre .number)) (λ c κs. search needs) (λ c. record { sfits = omega arith }) returns sub-result returns-2)

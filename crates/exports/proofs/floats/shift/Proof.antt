@@ -1,10 +1,7 @@
 -- `exports::floats::shift` meets its contract: a field of 0 counts as one of 1.
 -- Assumes nothing.
-use native.Mathlib.Omega.{arith}
-use mathlib.Core.Path.{sym, _∙_}
-use borrow.Author.Tests.{eq-eqb, ne-eqb}
+use Rattle.rules.proofs.Base.{arith, sym, _∙_, eq-eqb, ne-eqb, needs}
 use Rattle.exports.specs.Bits.{shift}
-use borrow.Author.Needs.{needs}
 use Rattle.exports.proofs.floats.shift.Statement.{statement}
 use Rattle.exports.proofs.floats.shift.Tie as tie
 

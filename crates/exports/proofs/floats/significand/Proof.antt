@@ -1,10 +1,7 @@
 -- `exports::floats::significand` meets its contract: the leading one stands where the exponent's field is not 0.
 -- Assumes nothing.
-use native.Mathlib.Omega.{arith}
-use mathlib.Core.Path.{sym, _∙_}
-use borrow.Author.Tests.{eq-eqb, ne-eqb}
+use Rattle.rules.proofs.Base.{arith, sym, _∙_, eq-eqb, ne-eqb, needs}
 use Rattle.exports.specs.Bits.{mantissa, significand}
-use borrow.Author.Needs.{needs}
 use Rattle.exports.proofs.floats.significand.Statement.{statement}
 use Rattle.exports.proofs.floats.significand.Tie as tie
 

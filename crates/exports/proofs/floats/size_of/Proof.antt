@@ -1,11 +1,8 @@
 -- `exports::floats::size_of` meets its contract: the product is below 2^41, and what is shifted away is less than a half.
 -- Assumes nothing.
-use native.Mathlib.Omega.{arith}
-use Prim.Native.Nat.{_*_}
-use mathlib.Core.Path.{sym, ap, _∙_}
+use Rattle.rules.proofs.Base.{arith, _*_, sym, _∙_, needs}
 use Rattle.exports.specs.Bits.{size-of}
 use Rattle.exports.proofs.Sizes.{product-low, tiny-size, rounded, sum-low, rounded-low}
-use borrow.Author.Needs.{needs}
 use Rattle.exports.proofs.floats.size_of.Statement.{statement}
 use Rattle.exports.proofs.floats.size_of.Tie as tie
 
@@ -41,16 +38,5 @@ returns-2 c =
 pub size-of-spec : {M : Type 1} → statement M
 size-of-spec =
     tie.close
-    (tie.spec
-    (λ c κs. search needs)
-    mul-product
-    (λ c κs. search needs)
-    returns
-    mul-result
-    (λ c. search needs)
-    (λ c. search needs)
-    add-result
-    (λ c. search needs)
-    (λ c. search needs)
-    (λ c. search needs)
-    returns-2)
+    (tie.spec (λ c κs. search needs) mul-product (λ c κs. search needs) returns mul-result (λ c. search needs)
+    (λ c. search needs) add-result (λ c. search needs) (λ c. search needs) (λ c. search needs) returns-2)

@@ -1,14 +1,9 @@
 -- `exports::records::float_at` meets its contract: an exponent's field of 255 is an infinity or a NaN, and none other is.
 -- Assumes nothing.
-use native.Mathlib.Omega.{arith}
-use Prim.Native.Nat.{_+_, _<_, _≤_, _%_, _/_}
-use mathlib.Core.Path.{_≡_, sym, _∙_}
-use borrow.Author.Tests.{le-ltb}
-use lib.Ieee.Bits.{nanBits-above}
+use Rattle.rules.proofs.Base.{arith, _<_, _≤_, _%_, sym, _∙_, le-ltb, nanBits-above, needs}
 use Rattle.exports.specs.Floats.{float-of}
 use Rattle.exports.specs.Bits.{exponent}
 use Rattle.exports.proofs.RecordAnswers.{comes, float-short, float-bad, float-good}
-use borrow.Author.Needs.{needs}
 use Rattle.exports.proofs.records.float_at.Statement.{statement}
 use Rattle.exports.proofs.records.float_at.Tie as tie
 
@@ -48,13 +43,5 @@ returns-4 c =
 pub float-at-spec : {M : Type 1} → statement M
 float-at-spec =
     tie.close
-    (tie.spec
-    returns
-    (λ c. search needs)
-    returns-2
-    (λ c κs. search needs)
-    (λ c κs. search needs)
-    returns-3
-    float-from-bits-t12
-    (λ c. search needs)
-    returns-4)
+    (tie.spec returns (λ c. search needs) returns-2 (λ c κs. search needs) (λ c κs. search needs) returns-3
+    float-from-bits-t12 (λ c. search needs) returns-4)

@@ -1,10 +1,7 @@
 -- `exports::records::judged_at` meets its contract: one law for each `return`.
 -- Assumes nothing.
-use mathlib.Core.Path.{sym, _∙_, ap}
-use borrow.Author.Tests.{not-true, not-false}
-use Rattle.exports.specs.Answers.{float-as, Comes}
+use Rattle.rules.proofs.Base.{sym, _∙_, not-true, not-false, needs}
 use Rattle.exports.proofs.RecordAnswers.{judged-stops, judged-out, judged-good}
-use borrow.Author.Needs.{needs}
 use Rattle.exports.proofs.records.judged_at.Statement.{statement}
 use Rattle.exports.proofs.records.judged_at.Tie as tie
 
@@ -38,11 +35,5 @@ returns-3 c =
 pub judged-at-spec : {M : Type 1} → statement M
 judged-at-spec =
     tie.close
-    (tie.spec
-    (λ c κs. search needs)
-    (λ c. search needs)
-    (λ c. search needs)
-    returns
-    in-bounds-requires
-    returns-2
+    (tie.spec (λ c κs. search needs) (λ c. search needs) (λ c. search needs) returns in-bounds-requires returns-2
     returns-3)

@@ -1,9 +1,7 @@
 -- `exports::records::record_at` meets its contract: one law for each `return`.
 -- Assumes nothing.
-use native.Mathlib.Omega.{arith}
-use mathlib.Core.Path.{_∙_}
+use Rattle.rules.proofs.Base.{arith, needs}
 use Rattle.exports.proofs.RecordAnswers.{no-kind, kind-0, kind-1-twice, kind-1, kind-2-twice, kind-2, kind-unknown}
-use borrow.Author.Needs.{needs}
 use Rattle.exports.proofs.records.record_at.Statement.{statement}
 use Rattle.exports.proofs.records.record_at.Tie as tie
 
@@ -45,18 +43,6 @@ returns-7 c =
 pub record-at-spec : {M : Type 1} → statement M
 record-at-spec =
     tie.close
-    (tie.spec
-    returns
-    (λ c. search needs)
-    (λ c. search needs)
-    (λ c κs. search needs)
-    returns-2
-    returns-3
-    (λ c. search needs)
-    (λ c κs. search needs)
-    returns-4
-    returns-5
-    (λ c. search needs)
-    (λ c κs. search needs)
-    returns-6
+    (tie.spec returns (λ c. search needs) (λ c. search needs) (λ c κs. search needs) returns-2 returns-3
+    (λ c. search needs) (λ c κs. search needs) returns-4 returns-5 (λ c. search needs) (λ c κs. search needs) returns-6
     returns-7)

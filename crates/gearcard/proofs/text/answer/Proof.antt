@@ -1,18 +1,11 @@
 -- `gearcard::text::answer` meets its contract: the rooms begin with what was read, and what is put at place 0 begins the memory.
 -- Assumes nothing.
-use native.Mathlib.Omega.{arith}
-use mathlib.Core.Path.{_≡_, sym, _∙_}
-use lib.ListN.{length, take}
-use lib.Seq.{length-take-le}
+use Rattle.rules.proofs.Base.{arith, _≡_, sym, _∙_, length, take, length-take-le, needs}
 use Rattle.gearcard.proofs.TextInTurn.{begins}
-use Rattle.jobs.proofs.Rooms.{rooms}
+use Rattle.reading.proofs.Rooms.{rooms}
 use Rattle.gearcard.proofs.Jobs.{room-is, printed-done, printed-stop}
-use borrow.Author.Needs.{needs}
 use Rattle.gearcard.proofs.text.answer.Statement.{statement}
 use Rattle.gearcard.proofs.text.answer.Tie as tie
-
-array-share-prefix-speeds : tie.Need-array-share-prefix-speeds
-array-share-prefix-speeds c = let w = rooms (c .before .before .before .before .before .read .ensures) in w .speeds-fit
 
 slice-aggregate-put-worked : tie.Need-slice-aggregate-put-worked
 slice-aggregate-put-worked c = let w = rooms (c .before .before .before .before .before .before .read .ensures) in sym (length-take-le _ _ (w .speeds-fit))
@@ -51,20 +44,8 @@ returns-2 c =
 pub answer-spec : {M : Type 1} → statement M
 answer-spec =
     tie.close
-    (tie.spec
-    (λ c. search needs)
-    (λ c. search needs)
-    (λ c κs. search needs)
-    (λ c. search needs)
-    array-share-prefix-speeds
-    slice-aggregate-put-worked
-    array-share-prefix-holds
-    slice-aggregate-put-worked-2
-    array-borrow-prefix-card
-    slice-aggregate-put-worked-3
-    put-worked-requires
-    (λ c. search needs)
-    (λ c κs. search needs)
-    (λ c κs. search needs)
-    returns
-    returns-2)
+    (tie.spec (λ c. search needs) (λ c. search needs) (λ c κs. search needs) (λ c. search needs)
+    (λ c. let w = rooms (c .before .before .before .before .before .read .ensures) in w .speeds-fit)
+    slice-aggregate-put-worked array-share-prefix-holds slice-aggregate-put-worked-2 array-borrow-prefix-card
+    slice-aggregate-put-worked-3 put-worked-requires (λ c. search needs) (λ c κs. search needs) (λ c κs. search needs)
+    returns returns-2)

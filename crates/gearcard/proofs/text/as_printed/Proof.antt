@@ -1,7 +1,6 @@
 -- `gearcard::text::as_printed` meets its contract: 2 is told as 1, any other number as it is.
 -- Assumes nothing.
-use mathlib.Core.Path.{sym, _∙_}
-use borrow.Author.Needs.{needs}
+use Rattle.rules.proofs.Base.{sym, _∙_, needs}
 use Rattle.gearcard.proofs.Jobs.{as-too-long, as-it-is}
 use Rattle.gearcard.proofs.text.as_printed.Statement.{statement}
 use Rattle.gearcard.proofs.text.as_printed.Tie as tie

@@ -1,13 +1,7 @@
 -- `gearcard::text::put` meets its contract. The loop's invariant: the bytes that are left, put after those that are put, make it whole.
 -- Assumes nothing.
-use Prim.Native.Nat.{_+_, _-_, _≤_}
-use native.Mathlib.Omega.{arith}
-use native.Mathlib.Nat.{add-zero, add-assoc}
-use native.Mathlib.Numerals.{add-one}
-use lib.ListN.{length, drop, drop-of-length-le}
-use lib.Seq.{drop-cons}
-use borrow.Author.Needs.{needs}
-use Rattle.jobs.proofs.PutInTurn.{Left, all-left, fewer-left, none-left, said-as, put-byte}
+use Rattle.rules.proofs.Base.{_+_, _-_, _≤_, arith, add-zero, add-assoc, add-one, length, drop, drop-of-length-le, drop-cons, needs}
+use Rattle.reading.proofs.PutInTurn.{Left, all-left, fewer-left, none-left, said-as, put-byte}
 use Rattle.gearcard.proofs.text.put.Statement.{statement}
 use Rattle.gearcard.proofs.text.put.Tie as tie
 
@@ -26,25 +20,11 @@ loop-again c =
     let s = c .before .before .before in
     (omega arith, rw (← add-assoc (s .args .at) (l .i) 1, add-one (l .i)) (fewer-left (said-as (drop-cons (s .args .src .now) (l .i) 0 (omega arith)) (l .inv .1)) (put-byte _ _ _ (omega arith))))
 
-same-length : tie.Need-same-length Inv-loop μ-loop
-same-length c = c .before .loop .inv .1 .long
-
 returns : tie.Need-returns Inv-loop μ-loop
 returns c = let l = c .before .loop in none-left (said-as (drop-of-length-le _ {i = l .i} (omega arith)) (l .inv .1))
 
 pub put-spec : {M : Type 1} → statement M
 put-spec =
     tie.close
-    (tie.spec
-    Inv-loop
-    μ-loop
-    loop-holds
-    (λ c. search needs)
-    (λ c. omega arith)
-    (λ c. omega arith)
-    (λ c. search needs)
-    (λ c. search needs)
-    loop-again
-    (λ c. search needs)
-    same-length
-    returns)
+    (tie.spec Inv-loop μ-loop loop-holds (λ c. search needs) (λ c. omega arith) (λ c. omega arith) (λ c. search needs)
+    (λ c. search needs) loop-again (λ c. search needs) (λ c. c .before .loop .inv .1 .long) returns)

@@ -1,7 +1,7 @@
 -- `gearcard::text::put_card` meets its contract: the heading and the lines.
 -- Assumes nothing.
 use Rattle.rules.specs.Text.{heading, card-text}
-use Rattle.jobs.proofs.PutInTurn.{put-both}
+use Rattle.reading.proofs.PutInTurn.{put-both}
 use borrow.Author.Needs.{needs}
 use Rattle.gearcard.proofs.text.put_card.Statement.{statement}
 use Rattle.gearcard.proofs.text.put_card.Tie as tie

@@ -1,9 +1,8 @@
 -- `gearcard::text::put_gear` meets its contract: three pieces in a row.
 -- Assumes nothing.
-use native.Mathlib.Omega.{arith}
-use Rattle.jobs.proofs.PutInTurn.{put-both}
+use Rattle.rules.proofs.Base.{arith, needs}
+use Rattle.reading.proofs.PutInTurn.{put-both}
 use Rattle.gearcard.proofs.TextInTurn.{gear-length}
-use borrow.Author.Needs.{needs}
 use Rattle.gearcard.proofs.text.put_gear.Statement.{statement}
 use Rattle.gearcard.proofs.text.put_gear.Tie as tie
 
@@ -19,11 +18,5 @@ returns c = put-both (c .before .before .before .before .before .before .before 
 pub put-gear-spec : {M : Type 1} → statement M
 put-gear-spec =
     tie.close
-    (tie.spec
-    (λ c. search needs)
-    (λ c κs. search needs)
-    (λ c. search needs)
-    put-decimal-requires
-    put-pedal-requires
-    (λ c. search needs)
-    returns)
+    (tie.spec (λ c. search needs) (λ c κs. search needs) (λ c. search needs) put-decimal-requires put-pedal-requires
+    (λ c. search needs) returns)

@@ -1,9 +1,8 @@
 -- `gearcard::text::put_line` meets its contract: four pieces in a row.
 -- Assumes nothing.
-use native.Mathlib.Omega.{arith}
-use Rattle.jobs.proofs.PutInTurn.{put-both}
+use Rattle.rules.proofs.Base.{arith, needs}
+use Rattle.reading.proofs.PutInTurn.{put-both}
 use Rattle.gearcard.proofs.TextInTurn.{line-is, line-lengths}
-use borrow.Author.Needs.{needs}
 use Rattle.gearcard.proofs.text.put_line.Statement.{statement}
 use Rattle.gearcard.proofs.text.put_line.Tie as tie
 
@@ -38,11 +37,5 @@ returns c =
 pub put-line-spec : {M : Type 1} → statement M
 put-line-spec =
     tie.close
-    (tie.spec
-    put-decimal-requires
-    (λ c. search needs)
-    put-requires
-    put-speed-requires
-    put-gear-requires
-    (λ c. search needs)
-    returns)
+    (tie.spec put-decimal-requires (λ c. search needs) put-requires put-speed-requires put-gear-requires
+    (λ c. search needs) returns)

@@ -1,9 +1,6 @@
 -- `gearcard::text::put_lines` meets its contract. The loop's invariant: the lines of the first i seconds are put.
 -- Assumes nothing.
-use Prim.Native.Nat.{_-_, _<_}
-use native.Mathlib.Omega.{arith}
-use lib.ListN.{length, getD}
-use borrow.Author.Needs.{needs}
+use Rattle.rules.proofs.Base.{_-_, _<_, arith, length, getD, needs}
 use Rattle.rules.proofs.Laws.Lines.{line-short}
 use Rattle.gearcard.proofs.TextInTurn.{Lined, lines-begin, lines-again, lines-end}
 use Rattle.gearcard.proofs.text.put_lines.Statement.{statement}
@@ -14,9 +11,6 @@ Inv-loop out₀ at speeds card next₀ i₀ out next i = Lined speeds card out�
 
 abbrev μ-loop : tie.MeasureT-loop
 μ-loop out₀ at speeds card next₀ i₀ out next i = length speeds - i
-
-loop-holds : tie.Need-loop-holds Inv-loop μ-loop
-loop-holds c = lines-begin _ _ _ _ (omega arith)
 
 put-line-requires : tie.Need-put-line-requires Inv-loop μ-loop
 put-line-requires c κs =
@@ -32,25 +26,10 @@ loop-again c =
     let v : getD (a .speeds .now) (l .i) 0 < 65536 = omega (arith, c .before .before .before .before .before .shared-slice-known3 .given (l .i)) in
     lines-again _ _ _ _ (l .inv) (omega arith) (omega arith) v (c .before .before .put-line .ensures)
 
-same-length : tie.Need-same-length Inv-loop μ-loop
-same-length c = c .before .loop .inv .same
-
-returns : tie.Need-returns Inv-loop μ-loop
-returns c = lines-end _ _ _ _ (c .before .loop .inv) (omega arith)
-
 pub put-lines-spec : {M : Type 1} → statement M
 put-lines-spec =
     tie.close
-    (tie.spec
-    Inv-loop
-    μ-loop
-    loop-holds
-    (λ c. search needs)
-    (λ c. search needs)
-    (λ c. search needs)
-    put-line-requires
-    (λ c. search needs)
-    (λ c. search needs)
-    loop-again
-    same-length
-    returns)
+    (tie.spec Inv-loop μ-loop (λ c. lines-begin _ _ _ _ (omega arith)) (λ c. search needs) (λ c. search needs)
+    (λ c. search needs) put-line-requires (λ c. search needs) (λ c. search needs) loop-again
+    (λ c. c .before .loop .inv .same)
+    (λ c. lines-end _ _ _ _ (c .before .loop .inv) (omega arith)))

@@ -1,8 +1,7 @@
 -- `gearcard::text::put_pedal` meets its contract, one law for each side of the test.
 -- Assumes nothing.
-use native.Mathlib.Omega.{arith}
+use Rattle.rules.proofs.Base.{arith, needs}
 use Rattle.gearcard.proofs.TextInTurn.{pedal-down, pedal-up}
-use borrow.Author.Needs.{needs}
 use Rattle.gearcard.proofs.text.put_pedal.Statement.{statement}
 use Rattle.gearcard.proofs.text.put_pedal.Tie as tie
 
@@ -21,12 +20,5 @@ returns-2 c = let s = c .before .before .before .before .before .before .before 
 pub put-pedal-spec : {M : Type 1} → statement M
 put-pedal-spec =
     tie.close
-    (tie.spec
-    (λ c. search needs)
-    put-requires
-    (λ c. search needs)
-    returns
-    (λ c. search needs)
-    put-requires-2
-    (λ c. search needs)
-    returns-2)
+    (tie.spec (λ c. search needs) put-requires (λ c. search needs) returns (λ c. search needs) put-requires-2
+    (λ c. search needs) returns-2)

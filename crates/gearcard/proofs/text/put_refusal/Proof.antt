@@ -1,12 +1,9 @@
 -- `gearcard::text::put_refusal` meets its contract: five pieces in a row.
 -- Assumes nothing.
-use Prim.Native.Nat.{_≤_}
-use native.Mathlib.Omega.{arith}
-use lib.ListN.{length}
+use Rattle.rules.proofs.Base.{_≤_, arith, length, needs}
 use Rattle.rules.specs.Text.{decimal, refusal-text}
 use Rattle.rules.proofs.Laws.Lines.{tens, decimal-short}
-use Rattle.jobs.proofs.PutInTurn.{put-both}
-use borrow.Author.Needs.{needs}
+use Rattle.reading.proofs.PutInTurn.{put-both}
 use Rattle.gearcard.proofs.text.put_refusal.Statement.{statement}
 use Rattle.gearcard.proofs.text.put_refusal.Tie as tie
 
@@ -14,9 +11,6 @@ use Rattle.gearcard.proofs.text.put_refusal.Tie as tie
 short-at : (p : tie.After-place) → (length (decimal (p .before .number .result)) ≤ 10) × (length (decimal (p .place .result)) ≤ 20)
 unfolding tens
 short-at p = (decimal-short 9 (p .before .number .result) (omega arith), decimal-short 19 (p .place .result) (omega arith))
-
-put-decimal-requires : tie.Need-put-decimal-requires
-put-decimal-requires c κs = omega (arith, short-at (c .before .before .before .before .before .before))
 
 put-requires-2 : tie.Need-put-requires-2
 put-requires-2 c κs = omega (arith, short-at (c .before .before .before .before .before .before .before .before .before .before .before))
@@ -44,17 +38,8 @@ returns c =
 pub put-refusal-spec : {M : Type 1} → statement M
 put-refusal-spec =
     tie.close
-    (tie.spec
+    (tie.spec (λ c κs. search needs) (λ c. search needs) (λ c κs. search needs) (λ c. search needs)
     (λ c κs. search needs)
-    (λ c. search needs)
-    (λ c κs. search needs)
-    (λ c. search needs)
-    (λ c κs. search needs)
-    put-decimal-requires
-    (λ c. search needs)
-    put-requires-2
-    put-decimal-requires-2
-    (λ c. search needs)
-    put-requires-3
-    (λ c. search needs)
+    (λ c κs. omega (arith, short-at (c .before .before .before .before .before .before)))
+    (λ c. search needs) put-requires-2 put-decimal-requires-2 (λ c. search needs) put-requires-3 (λ c. search needs)
     returns)

@@ -1,14 +1,10 @@
 -- `gearcard::text::put_speed` meets its contract: three pieces in a row.
 -- Assumes nothing.
-use native.Mathlib.Omega.{arith}
-use Rattle.jobs.proofs.PutInTurn.{put-both}
+use Rattle.rules.proofs.Base.{arith, needs}
+use Rattle.reading.proofs.PutInTurn.{put-both}
 use Rattle.gearcard.proofs.TextInTurn.{speed-length}
-use borrow.Author.Needs.{needs}
 use Rattle.gearcard.proofs.text.put_speed.Statement.{statement}
 use Rattle.gearcard.proofs.text.put_speed.Tie as tie
-
-put-decimal-requires : tie.Need-put-decimal-requires
-put-decimal-requires c κs = let s = c .before .before in omega (arith, speed-length (s .args .v))
 
 put-requires : tie.Need-put-requires
 put-requires c κs = let s = c .before .before .before .before .before .before .before in omega (arith, speed-length (s .args .v))
@@ -22,12 +18,6 @@ returns c = put-both (c .before .before .before .before .before .before .before 
 pub put-speed-spec : {M : Type 1} → statement M
 put-speed-spec =
     tie.close
-    (tie.spec
-    (λ c. search needs)
-    put-decimal-requires
-    (λ c. search needs)
-    put-requires
-    (λ c. search needs)
-    put-decimal-requires-2
-    (λ c. search needs)
-    returns)
+    (tie.spec (λ c. search needs)
+    (λ c κs. let s = c .before .before in omega (arith, speed-length (s .args .v)))
+    (λ c. search needs) put-requires (λ c. search needs) put-decimal-requires-2 (λ c. search needs) returns)

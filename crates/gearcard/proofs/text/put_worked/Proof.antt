@@ -5,12 +5,6 @@ use borrow.Author.Needs.{needs}
 use Rattle.gearcard.proofs.text.put_worked.Statement.{statement}
 use Rattle.gearcard.proofs.text.put_worked.Tie as tie
 
-put-card-requires : tie.Need-put-card-requires
-put-card-requires c κs = let e = room-is in search needs
-
-put-refusal-requires : tie.Need-put-refusal-requires
-put-refusal-requires c κs = let e = room-is in search needs
-
 returns : tie.Need-returns
 returns c =
     let p = c .before .before .before .before .before in
@@ -32,15 +26,6 @@ returns-2 c =
 pub put-worked-spec : {M : Type 1} → statement M
 put-worked-spec =
     tie.close
-    (tie.spec
-    (λ c κs. search needs)
-    (λ c. search needs)
-    put-card-requires
-    (λ c. search needs)
-    put-refusal-requires
-    (λ c. search needs)
-    (λ c. search needs)
-    returns
-    (λ c. search needs)
-    (λ c. search needs)
-    returns-2)
+    (tie.spec (λ c κs. search needs) (λ c. search needs) (λ c κs. let e = room-is in search needs) (λ c. search needs)
+    (λ c κs. let e = room-is in search needs) (λ c. search needs) (λ c. search needs) returns (λ c. search needs)
+    (λ c. search needs) returns-2)

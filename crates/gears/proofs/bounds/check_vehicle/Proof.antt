@@ -1,14 +1,6 @@
 -- `gears::bounds::check_vehicle` meets its contract: the tests before a return hold, so the first that fails is that return's own.
 -- Assumes nothing.
-use Prim.Native.Nat.{_+_}
-use mathlib.Core.Path.{_≡_, refl, sym, _∙_}
-use mir.Syntax.{w32}
-use mir.Val.{toZ, ofZ}
-use mir.Facts.{toZ-ofZ}
-use mathlib.Core.Bool.{true}
-use native.Mathlib.Omega.{arith}
-use lib.Dec.{leb, eqb, lit<}
-use borrow.Author.Tests.{le-leb, lt-leb, not-true, not-false}
+use Rattle.rules.proofs.Base.{_+_, _≡_, refl, sym, _∙_, w32, toZ, ofZ, toZ-ofZ, true, arith, leb, eqb, lit<, le-leb, lt-leb, not-true, not-false, needs}
 use Rattle.rules.specs.Words.{_and_, _or_, within}
 use Rattle.rules.specs.Units.{bounds}
 use Rattle.rules.specs.declared.Vehicle.{Vehicle}
@@ -16,7 +8,6 @@ use Rattle.rules.proofs.Laws.Vehicle.{within-lo, within-hi}
 use Rattle.rules.proofs.Laws.Words.{and-right}
 use Rattle.gears.specs.Second.{CurveOf}
 use Rattle.gears.proofs.Fields.{Passed, passed-none, passed-more, refused-here, passed-all}
-use borrow.Author.Needs.{needs}
 use Rattle.gears.proofs.bounds.check_vehicle.Statement.{statement}
 use Rattle.gears.proofs.bounds.check_vehicle.Tie as tie
 
@@ -91,9 +82,6 @@ returns : tie.Need-returns
 unfolding bounds
 returns c = refused-here (passed-none {v = c .before .before .args .version} {car = c .before .before .args .t1}) (lit< tt) (sym (c .before .gears-good .ensures) ∙ not-true (c .before .gears-good .result) (c .if1 .taken))
 
-ratios-good-requires : tie.Need-ratios-good-requires
-ratios-good-requires c κs = within-hi _ _ _ (and-right _ _ (good-1 (c .before .before)))
-
 returns-2 : tie.Need-returns-2
 unfolding bounds
 returns-2 c = refused-here (passed-1 (c .before .before .before .before)) (lit< tt) (sym (c .before .ratios-good .ensures _ refl) ∙ not-true (c .before .ratios-good .result) (c .if2 .taken))
@@ -134,9 +122,6 @@ returns-11 : tie.Need-returns-11
 unfolding bounds
 returns-11 c = refused-here (passed-10 (c .before .before)) (lit< tt) (sym (c .before .within4 .ensures) ∙ not-true (c .before .within4 .result) (c .if11 .taken))
 
-points-good-requires : tie.Need-points-good-requires
-points-good-requires c κs = (within-hi _ _ _ (good-11 (c .before .before .before .before)), omega arith)
-
 returns-12 : tie.Need-returns-12
 unfolding bounds
 returns-12 c = refused-here (passed-11 (c .before .before .before .before .before .before)) (lit< tt) (sym (c .before .points-good .ensures _ its-curve) ∙ not-true (c .before .points-good .result) (c .if12 .taken))
@@ -151,34 +136,13 @@ returns-13 : tie.Need-returns-13
 unfolding bounds
 returns-13 c = refused-here (passed-12 (c .before .before .before .before)) (lit< tt) (sym (c .before .ends-good .ensures) ∙ not-true (c .before .ends-good .result) (c .if13 .taken))
 
-returns-14 : tie.Need-returns-14
-returns-14 c = passed-all (passed-13 c)
-
 pub check-vehicle-spec : {M : Type 1} → statement M
 check-vehicle-spec =
     tie.close
-    (tie.spec
-    (λ c κs. search needs)
-    returns
-    ratios-good-requires
-    returns-2
-    (λ c κs. search needs)
-    returns-3
-    (λ c κs. search needs)
-    returns-4
-    (λ c κs. search needs)
-    returns-5
-    returns-6
-    (λ c κs. search needs)
-    returns-7
-    returns-8
-    (λ c κs. search needs)
-    returns-9
-    returns-10
-    (λ c κs. search needs)
-    returns-11
-    points-good-requires
-    returns-12
-    ends-good-requires
-    returns-13
-    returns-14)
+    (tie.spec (λ c κs. search needs) returns
+    (λ c κs. within-hi _ _ _ (and-right _ _ (good-1 (c .before .before))))
+    returns-2 (λ c κs. search needs) returns-3 (λ c κs. search needs) returns-4 (λ c κs. search needs) returns-5
+    returns-6 (λ c κs. search needs) returns-7 returns-8 (λ c κs. search needs) returns-9 returns-10
+    (λ c κs. search needs) returns-11
+    (λ c κs. (within-hi _ _ _ (good-11 (c .before .before .before .before)), omega arith))
+    returns-12 ends-good-requires returns-13 (λ c. passed-all (passed-13 c)))

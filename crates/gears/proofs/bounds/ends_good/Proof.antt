@@ -1,8 +1,7 @@
 -- `gears::bounds::ends_good` meets its contract: the two tests, one after the other.
 -- Assumes nothing.
-use borrow.Author.Tests.{le-leb, lt-leb}
+use Rattle.rules.proofs.Base.{le-leb, lt-leb, needs}
 use Rattle.rules.specs.Words.{_and_}
-use borrow.Author.Needs.{needs}
 use Rattle.gears.proofs.bounds.ends_good.Statement.{statement}
 use Rattle.gears.proofs.bounds.ends_good.Tie as tie
 

@@ -1,11 +1,7 @@
 -- `gears::bounds::gears_good` meets its contract: the tests, one after the other.
 -- Assumes nothing.
-use Prim.Native.Nat.{_+_}
-use native.Mathlib.Omega.{arith}
-use mathlib.Core.Path.{_≡_}
-use borrow.Author.Tests.{le-leb, lt-leb, not-true, not-false}
+use Rattle.rules.proofs.Base.{_+_, arith, _≡_, le-leb, lt-leb, not-true, not-false, needs}
 use Rattle.rules.specs.Words.{_and_}
-use borrow.Author.Needs.{needs}
 use Rattle.gears.proofs.bounds.gears_good.Statement.{statement}
 use Rattle.gears.proofs.bounds.gears_good.Tie as tie
 

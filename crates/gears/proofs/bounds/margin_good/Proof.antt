@@ -1,7 +1,6 @@
 -- `gears::bounds::margin_good` meets its contract: the tests of a point's margin, one after the other.
 -- Assumes nothing.
-use borrow.Author.Needs.{needs}
-use borrow.Author.Tests.{le-leb, lt-leb}
+use Rattle.rules.proofs.Base.{needs, le-leb, lt-leb}
 use Rattle.rules.specs.Words.{_and_}
 use Rattle.gears.proofs.bounds.margin_good.Statement.{statement}
 use Rattle.gears.proofs.bounds.margin_good.Tie as tie

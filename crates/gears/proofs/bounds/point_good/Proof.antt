@@ -1,9 +1,8 @@
 -- `gears::bounds::point_good` meets its contract: the tests of `point-good`, one after the other.
 -- Assumes nothing.
-use borrow.Author.Tests.{le-leb, lt-leb, not-true, not-false}
+use Rattle.rules.proofs.Base.{le-leb, lt-leb, not-true, not-false, needs}
 use Rattle.rules.specs.Words.{_and_}
 use Rattle.rules.specs.Units.{margin-good, point-good}
-use borrow.Author.Needs.{needs}
 use Rattle.gears.proofs.bounds.point_good.Statement.{statement}
 use Rattle.gears.proofs.bounds.point_good.Tie as tie
 
@@ -26,17 +25,6 @@ returns-4 c = λ car C. let e = c .before .before in let d = e .before .before i
 pub point-good-spec : {M : Type 1} → statement M
 point-good-spec =
     tie.close
-    (tie.spec
-    (λ c. search needs)
-    (λ c. search needs)
-    (λ c κs. search needs)
-    returns
-    (λ c κs. search needs)
-    returns-2
-    (λ c. search needs)
-    (λ c. search needs)
-    returns-3
-    (λ c. search needs)
-    (λ c. search needs)
-    (λ c κs. search needs)
+    (tie.spec (λ c. search needs) (λ c. search needs) (λ c κs. search needs) returns (λ c κs. search needs) returns-2
+    (λ c. search needs) (λ c. search needs) returns-3 (λ c. search needs) (λ c. search needs) (λ c κs. search needs)
     returns-4)

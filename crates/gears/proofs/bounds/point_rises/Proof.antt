@@ -1,9 +1,8 @@
 -- `gears::bounds::point_rises` meets its contract: the tests of a rise, without a sum that could wrap.
 -- Assumes nothing.
-use borrow.Author.Tests.{eq-eqb, ne-eqb}
+use Rattle.rules.proofs.Base.{eq-eqb, ne-eqb, needs}
 use Rattle.rules.specs.Words.{_or_}
 use Rattle.gears.proofs.Fields.{rise-none, rise-within}
-use borrow.Author.Needs.{needs}
 use Rattle.gears.proofs.bounds.point_rises.Statement.{statement}
 use Rattle.gears.proofs.bounds.point_rises.Tie as tie
 
@@ -22,13 +21,5 @@ returns-3 c = rw (ne-eqb _ _ (c .before .before .before .if1 .left)) (rise-withi
 pub point-rises-spec : {M : Type 1} → statement M
 point-rises-spec =
     tie.close
-    (tie.spec
-    returns
-    (λ c. search needs)
-    (λ c. search needs)
-    (λ c. search needs)
-    (λ c. search needs)
-    (λ c. search needs)
-    returns-2
-    (λ c. search needs)
-    returns-3)
+    (tie.spec returns (λ c. search needs) (λ c. search needs) (λ c. search needs) (λ c. search needs)
+    (λ c. search needs) returns-2 (λ c. search needs) returns-3)

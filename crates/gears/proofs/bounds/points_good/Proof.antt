@@ -1,10 +1,6 @@
 -- `gears::bounds::points_good` meets its contract: what is left to test, from point k on, is what was asked.
 -- Assumes nothing.
-use Prim.Native.Nat.{_-_, _≤_}
-use native.Mathlib.Omega.{arith}
-use mathlib.Core.Path.{_≡_, sym, _∙_}
-use borrow.Author.Needs.{needs}
-use borrow.Author.Tests.{not-true, not-false}
+use Rattle.rules.proofs.Base.{_-_, _≤_, arith, _≡_, sym, _∙_, needs, not-true, not-false}
 use Rattle.rules.specs.declared.Vehicle.{Vehicle}
 use Rattle.rules.specs.Words.{every}
 use Rattle.rules.specs.Units.{point-good}
@@ -19,28 +15,16 @@ Inv-loop n p m margin points version end k₀ k = (k ≤ end) × ((car : Vehicle
 abbrev μ-loop : tie.MeasureT-loop
 μ-loop n p m margin points version end k₀ k = end - k
 
-loop-holds : tie.Need-loop-holds Inv-loop μ-loop
-loop-holds c = (omega arith, λ car C. all-start (omega arith))
-
 returns : tie.Need-returns Inv-loop μ-loop
 returns c = λ car C. all-stops (c .before .before .before .loop .inv .1 car C) (omega arith) (sym (c .before .point-good .ensures car C) ∙ not-true (c .before .point-good .result) (c .if1 .taken))
 
 loop-again : tie.Need-loop-again Inv-loop μ-loop
 loop-again c = (omega arith, λ car C. all-again (c .before .before .before .loop .inv .1 car C) (omega arith) (sym (c .before .point-good .ensures car C) ∙ not-false (c .before .point-good .result) (c .if1 .left)))
 
-returns-2 : tie.Need-returns-2 Inv-loop μ-loop
-returns-2 c = λ car C. all-ends (c .before .loop .inv .1 car C) (omega arith)
-
 pub points-good-spec : {M : Type 1} → statement M
 points-good-spec =
     tie.close
-    (tie.spec
-    Inv-loop
-    μ-loop
-    loop-holds
-    (λ c κs. search needs)
-    returns
-    (λ c. search needs)
-    (λ c. search needs)
-    loop-again
-    returns-2)
+    (tie.spec Inv-loop μ-loop
+    (λ c. (omega arith, λ car C. all-start (omega arith)))
+    (λ c κs. search needs) returns (λ c. search needs) (λ c. search needs) loop-again
+    (λ c. λ car C. all-ends (c .before .loop .inv .1 car C) (omega arith)))

@@ -1,12 +1,8 @@
 -- `gears::bounds::ratio_good` meets its contract: the tests of `ratio-good`, one after the other.
 -- Assumes nothing.
-use Prim.Native.Nat.{_-_}
-use native.Mathlib.Omega.{arith}
-use mathlib.Core.Path.{_≡_}
-use borrow.Author.Tests.{eq-eqb, ne-eqb, not-true, not-false}
+use Rattle.rules.proofs.Base.{_-_, arith, _≡_, eq-eqb, ne-eqb, not-true, not-false, needs}
 use Rattle.rules.specs.Words.{_and_, _or_}
 use Rattle.rules.specs.Units.{ratio-good, ratio-of}
-use borrow.Author.Needs.{needs}
 use Rattle.gears.proofs.bounds.ratio_good.Statement.{statement}
 use Rattle.gears.proofs.bounds.ratio_good.Tie as tie
 
@@ -27,14 +23,5 @@ returns-3 c = λ car e.
 pub ratio-good-spec : {M : Type 1} → statement M
 ratio-good-spec =
     tie.close
-    (tie.spec
-    (λ c. search needs)
-    (λ c. search needs)
-    (λ c. search needs)
-    (λ c κs. search needs)
-    returns
-    returns-2
-    (λ c. search needs)
-    (λ c. search needs)
-    (λ c. search needs)
-    returns-3)
+    (tie.spec (λ c. search needs) (λ c. search needs) (λ c. search needs) (λ c κs. search needs) returns returns-2
+    (λ c. search needs) (λ c. search needs) (λ c. search needs) returns-3)

@@ -1,10 +1,6 @@
 -- `gears::bounds::ratios_good` meets its contract: what is left to test, from gear g on, is what was asked.
 -- Assumes nothing.
-use Prim.Native.Nat.{suc, _-_, _≤_}
-use native.Mathlib.Omega.{arith}
-use mathlib.Core.Path.{_≡_, sym, _∙_}
-use borrow.Author.Needs.{needs}
-use borrow.Author.Tests.{not-true, not-false}
+use Rattle.rules.proofs.Base.{suc, _-_, _≤_, arith, _≡_, sym, _∙_, needs, not-true, not-false}
 use Rattle.rules.specs.declared.Vehicle.{Vehicle}
 use Rattle.rules.specs.Words.{every}
 use Rattle.rules.specs.Units.{ratio-good}
@@ -18,28 +14,16 @@ Inv-loop ratio ng top g₀ g = (1 ≤ g) × (g ≤ suc top) × ((car : Vehicle) 
 abbrev μ-loop : tie.MeasureT-loop
 μ-loop ratio ng top g₀ g = suc top - g
 
-loop-holds : tie.Need-loop-holds Inv-loop μ-loop
-loop-holds c = (omega arith, omega arith, λ car e. all-start (omega arith))
-
 returns : tie.Need-returns Inv-loop μ-loop
 returns c = λ car e. all-stops (c .before .before .before .loop .inv .2 car e) (omega arith) (sym (c .before .ratio-good .ensures car e) ∙ not-true (c .before .ratio-good .result) (c .if1 .taken))
 
 loop-again : tie.Need-loop-again Inv-loop μ-loop
 loop-again c = (omega arith, omega arith, λ car e. all-again (c .before .before .before .loop .inv .2 car e) (omega arith) (sym (c .before .ratio-good .ensures car e) ∙ not-false (c .before .ratio-good .result) (c .if1 .left)))
 
-returns-2 : tie.Need-returns-2 Inv-loop μ-loop
-returns-2 c = λ car e. all-ends (c .before .loop .inv .2 car e) (omega arith)
-
 pub ratios-good-spec : {M : Type 1} → statement M
 ratios-good-spec =
     tie.close
-    (tie.spec
-    Inv-loop
-    μ-loop
-    loop-holds
-    (λ c κs. search needs)
-    returns
-    (λ c. search needs)
-    (λ c. search needs)
-    loop-again
-    returns-2)
+    (tie.spec Inv-loop μ-loop
+    (λ c. (omega arith, omega arith, λ car e. all-start (omega arith)))
+    (λ c κs. search needs) returns (λ c. search needs) (λ c. search needs) loop-again
+    (λ c. λ car e. all-ends (c .before .loop .inv .2 car e) (omega arith)))

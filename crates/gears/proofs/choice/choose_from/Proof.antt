@@ -1,36 +1,27 @@
 -- `gears::choice::choose_from` meets its contract: before each turn the gears from `g` on have been tried.
 -- Assumes nothing.
-use Prim.Native.Nat.{ℕ, _+_, _-_, _≤_, _<_, min}
-use lib.IntN.{ℤ}
-use native.Mathlib.Omega.{arith}
-use mathlib.Core.Bool.{true, false}
-use mathlib.Core.Path.{_≡_, refl, sym, _∙_}
-use borrow.Author.Needs.{needs}
-use borrow.Author.Tests.{le-leb}
-use mir.Facts.{toZ-ofZ}
-use mir.Syntax.{w64}
-use mir.Val.{toZ, ofZ}
+use Rattle.rules.proofs.Base.{ℕ, _+_, _-_, _≤_, _<_, min, ℤ, arith, true, false, _≡_, refl, sym, _∙_, needs, le-leb, toZ-ofZ, w64, toZ, ofZ}
 use Rattle.rules.proofs.Laws.Words.{by-order, and-right, and-fails}
 use Rattle.rules.specs.Gears.{fits}
-use Rattle.rules.specs.Corrections.{role-of}
 use Rattle.rules.specs.declared.Vehicle.{Vehicle}
 use Rattle.rules.specs.declared.Role.{Role}
 use Rattle.gears.specs.declared.Best.{Best}
 use Rattle.gears.specs.Parts.{low-in, Lent}
 use Rattle.gears.specs.Choosing.{InGear, Turning, Tried}
-use Rattle.gears.proofs.Parts.{low-of, ng-of, idle-of, rated-of}
-use Rattle.gears.proofs.Choices.{reach-below, highest-sized, highest-suits, highest-tried, best-sized, tried-unfit, tried-weak, tried-suits, tried-all, suits-power}
+use Rattle.gears.proofs.Parts.{low-of, ng-of}
+use Rattle.gears.proofs.Reach.{reach-below}
+use Rattle.gears.proofs.Choices.{highest-sized, highest-suits, highest-tried, best-sized, tried-unfit, tried-weak, tried-suits, tried-all, suits-power}
 use Rattle.gears.proofs.Powers.{turning-of, turned-curve, turned-next, sized-of}
 use Rattle.gears.proofs.choice.choose_from.Statement.{statement}
 use Rattle.gears.proofs.choice.choose_from.Tie as tie
 
 abbrev Inv-loop : tie.InvT-loop
-Inv-loop k ratio n p closes before v e first near low highest best₀ s₀ g₀ best s g =
+Inv-loop k ratio n p here next v e first near low highest best₀ s₀ g₀ best s g =
     (s + 1 < k .points) × (first .gear ≤ g → best ≡ first)
-    × ((car : Vehicle) → Lent car k ratio n p → g < first .gear → Tried car (role-of car false closes before) v (toZ w64 e) g best)
+    × ((car : Vehicle) → Lent car k ratio n p → g < first .gear → Tried car here v (toZ w64 e) g best)
 
 abbrev μ-loop : tie.MeasureT-loop
-μ-loop k ratio n p closes before v e first near low highest best₀ s₀ g₀ best s g = g
+μ-loop k ratio n p here next v e first near low highest best₀ s₀ g₀ best s g = g
 
 -- the parts lent
 abbrev Of : tie.Start Inv-loop μ-loop → Vehicle → Type 0
@@ -38,7 +29,7 @@ Of s car = Lent car (s .args .k) (s .args .ratio .now) (s .args .n .now) (s .arg
 
 -- past the highest that fits, which has not enough power, all from the gear on have been tried
 tried-at : (c : tie.Else1 Inv-loop μ-loop) → let s = c .before .before .before .before .before in (car : Vehicle) → Of s car
-    → Tried car (role-of car false (s .args .closes) (s .args .before)) (s .args .v) (toZ w64 (ofZ w64 (s .args .e))) (min (c .before .before .loop .g) (s .args .first .gear)) (c .before .before .loop .best)
+    → Tried car (s .args .here) (s .args .v) (toZ w64 (ofZ w64 (s .args .e))) (min (c .before .before .loop .g) (s .args .first .gear)) (c .before .before .loop .best)
 tried-at c car L =
     let s = c .before .before .before .before .before in
     let l = c .before .before .loop in
@@ -47,7 +38,7 @@ tried-at c car L =
     (λ o.
     let z : min (l .g) (s .args .first .gear) ≡ s .args .first .gear = omega arith in
     let weak = and-fails _ _ (le-leb _ _ o) (sym (c .before .suffices .ensures) ∙ c .if1 .left) in
-    rw (z, l .inv .1 o) (highest-tried (s .pre .4 car L .0) _ weak))
+    rw (z, l .inv .1 o) (highest-tried (s .pre .5 car L .0) _ weak))
 
 -- the next gear down is one, below the highest in reach and below the one before
 next : (c : tie.After-below Inv-loop μ-loop) → let s = c .before .before .before .before .before .before .before in
@@ -65,15 +56,15 @@ in-gear c = record { from = omega (arith, next c .0); to = next c .2 }
 
 -- whether it fits
 same : (c : tie.After-fits-in-reach Inv-loop μ-loop) → let s = c .before .before .before .before .before .before .before .before in (car : Vehicle) → Of s car
-    → c .fits-in-reach .result ≡ fits car (role-of car false (s .args .closes) (s .args .before)) (s .args .v) (c .before .below .result)
+    → c .fits-in-reach .result ≡ fits car (s .args .here) (s .args .v) (c .before .below .result)
 same c car L =
     let s = c .before .before .before .before .before .before .before .before in
     let x = next (c .before) .1 in
-    c .fits-in-reach .ensures car (L .has) (reach-below (s .pre .4 car L .1) (omega (arith, x)))
+    c .fits-in-reach .ensures car (L .has) (reach-below (s .pre .5 car L .1) (omega (arith, x)))
 
 -- it does
 fit : (c : tie.Then3 Inv-loop μ-loop) → let s = c .before .before .before .before .before .before .before .before .before in (car : Vehicle) → Of s car
-    → fits car (role-of car false (s .args .closes) (s .args .before)) (s .args .v) (c .before .before .below .result) ≡ true
+    → fits car (s .args .here) (s .args .v) (c .before .before .below .result) ≡ true
 fit c car L = sym (same (c .before) car L) ∙ c .if3 .taken
 
 -- so it is within nmax
@@ -91,21 +82,16 @@ suffices-requires : tie.Need-suffices-requires Inv-loop μ-loop
 suffices-requires c κs =
     let s = c .before .before .before in
     let L = s .pre .0 .lent in
-    record { sized = highest-sized (s .pre .4 (s .pre .0 .car) L .0) L; e-in = rw (toZ-ofZ (s .fits .e)) (s .pre .1) }
+    record { sized = highest-sized (s .pre .5 (s .pre .0 .car) L .0) L; e-in = rw (toZ-ofZ (s .fits .e)) (s .pre .1) }
 
 below-requires : tie.Need-below-requires Inv-loop μ-loop
 below-requires c κs = let h = c .before .before .before .before .before .before .pre .3 in (omega (arith, c .if2 .left, c .before .before .before .before .before .lowest .ensures), omega (arith, h .from))
 
 fits-in-reach-requires : tie.Need-fits-in-reach-requires Inv-loop μ-loop
 fits-in-reach-requires c κs =
-    let L = c .before .before .before .before .before .before .before .pre .0 .lent in (
-      record {
-        from = omega (arith, next c .0);
-        to = omega (arith, next c .2, ng-of (L .has .counts), L .bounds .ng-to);
-        rated-from = omega (arith, idle-of (L .has .counts), rated-of (L .has .counts), L .bounds .rated-from);
-      },
-      next c .0,
-    )
+    let s = c .before .before .before .before .before .before .before in
+    let L = s .pre .0 .lent in
+    (record { from = omega (arith, next c .0); to = omega (arith, next c .2, ng-of (L .has .counts), L .bounds .ng-to) }, next c .0, s .pre .4)
 
 segment-at-requires : tie.Need-segment-at-requires Inv-loop μ-loop
 segment-at-requires c κs =
@@ -133,9 +119,6 @@ stronger-requires c κs =
     let L = s .pre .0 .lent in
     (best-sized (L .bounds) (tried-at (c .before .before .before .before .before .before .before .before) car L) L, sized-of L _ _ (turns (c .before .before .before .before)) (c .before .before .power-at .result) (c .before .before .power-at .ensures car L))
 
-loop-less : tie.Need-loop-less Inv-loop μ-loop
-loop-less c = omega (arith, next (c .before .before .before .before .before .before .before) .3)
-
 loop-again : tie.Need-loop-again Inv-loop μ-loop
 loop-again c =
     let s = c .before .before .before .before .before .before .before .before .before .before .before .before .before .before in
@@ -146,9 +129,6 @@ loop-again c =
       λ car L o. again _ _ _ (d .below .ensures)
           (rw (c .stronger .ensures, d .below .ensures) (tried-weak (L .bounds) (tried-at (c .before .before .before .before .before .before .before .before .before) car L) (c .before .before .before .power-at .result) (rw (d .below .ensures) at (fit t car L)) (rw (d .below .ensures) at (c .before .before .before .power-at .ensures car L)) (sym (c .before .before .enough .ensures) ∙ c .before .if4 .left))),
     )
-
-loop-less-2 : tie.Need-loop-less-2 Inv-loop μ-loop
-loop-less-2 c = omega (arith, next (c .before .before) .3)
 
 loop-again-2 : tie.Need-loop-again-2 Inv-loop μ-loop
 loop-again-2 c =
@@ -161,7 +141,7 @@ loop-again-2 c =
 returns : tie.Need-returns Inv-loop μ-loop
 returns c = λ car L.
     let s = c .before .before .before .before .before in
-    rw (toZ-ofZ (s .fits .e)) at (highest-suits (s .pre .4 car L .0) _ (omega (arith, s .pre .3 .from)) (and-right _ _ (sym (c .before .suffices .ensures) ∙ c .if1 .taken)))
+    rw (toZ-ofZ (s .fits .e)) at (highest-suits (s .pre .5 car L .0) _ (omega (arith, s .pre .3 .from)) (and-right _ _ (sym (c .before .suffices .ensures) ∙ c .if1 .taken)))
 
 returns-2 : tie.Need-returns-2 Inv-loop μ-loop
 returns-2 c = λ car L.
@@ -180,23 +160,7 @@ returns-3 c = λ car L.
 pub choose-from-spec : {M : Type 1} → statement M
 choose-from-spec =
     tie.close
-    (tie.spec
-    Inv-loop
-    μ-loop
-    (λ c κs. search needs)
-    (λ c. search needs)
-    loop-holds
-    suffices-requires
-    below-requires
-    fits-in-reach-requires
-    segment-at-requires
-    power-at-requires
-    enough-requires
-    stronger-requires
-    loop-less
-    loop-again
-    loop-less-2
-    loop-again-2
-    returns
-    returns-2
-    returns-3)
+    (tie.spec Inv-loop μ-loop (λ c κs. search needs) (λ c. search needs) loop-holds suffices-requires below-requires
+    fits-in-reach-requires segment-at-requires power-at-requires enough-requires stronger-requires
+    (λ c. omega (arith, next (c .before .before .before .before .before .before .before) .3))
+    loop-again (λ c. omega (arith, next (c .before .before) .3)) loop-again-2 returns returns-2 returns-3)

@@ -1,7 +1,6 @@
 -- `gears::choice::enough` meets its contract: both products stay inside an i64, by the sizes of their parts.
 -- Assumes nothing.
-use lib.IntN.{pos}
-use borrow.Author.Needs.{needs}
+use Rattle.rules.proofs.Base.{pos, needs}
 use Rattle.rules.proofs.Laws.Range.{E, lit, var, _⊗_, fits, le-read}
 use Rattle.gears.specs.Choosing.{most-E, enough-for}
 use Rattle.gears.proofs.choice.enough.Statement.{statement}
@@ -14,12 +13,6 @@ q c = var (c .args .a .q) 1000000000000 (c .pre .sized .q-in)
 abbrev asked : tie.Start → E
 asked c = var (c .args .e) most-E (c .pre .e-in) ⊗ var (c .args .a .w) 1000 (c .pre .sized .w-in)
 
-mul-result : tie.Need-mul-result
-mul-result c = fits (q (c .before .before) ⊗ lit (pos 3240000)) tt
-
-mul-result-2 : tie.Need-mul-result-2
-mul-result-2 c = fits (asked (c .before .before .before .before)) tt
-
 returns : tie.Need-returns
 unfolding enough-for
 returns c =
@@ -27,4 +20,4 @@ returns c =
     le-read (asked s) (q s ⊗ lit (pos 3240000)) tt tt
 
 pub enough-spec : {M : Type 1} → statement M
-enough-spec = tie.close (tie.spec mul-result mul-result-2 returns)
+enough-spec = tie.close (tie.spec (λ c. fits (q (c .before .before) ⊗ lit (pos 3240000)) tt) (λ c. fits (asked (c .before .before .before .before)) tt) returns)

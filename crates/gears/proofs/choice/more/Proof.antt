@@ -11,15 +11,9 @@ left c = var (c .args .b .q) 1000000000000 (c .pre .1 .q-in) ⊗ var (c .args .a
 abbrev right : tie.Start → E
 right c = var (c .args .a .q) 1000000000000 (c .pre .0 .q-in) ⊗ var (c .args .b .w) 1000 (c .pre .1 .w-in)
 
-mul-result : tie.Need-mul-result
-mul-result c = fits (left (c .before .before .before .before)) tt
-
-mul-result-2 : tie.Need-mul-result-2
-mul-result-2 c = fits (right (c .before .before .before .before .before .before .before .before)) tt
-
 returns : tie.Need-returns
 unfolding more
 returns c = let s = c .before .before .before .before .before .before .before .before in lt-read (left s) (right s) tt tt
 
 pub more-spec : {M : Type 1} → statement M
-more-spec = tie.close (tie.spec mul-result mul-result-2 returns)
+more-spec = tie.close (tie.spec (λ c. fits (left (c .before .before .before .before)) tt) (λ c. fits (right (c .before .before .before .before .before .before .before .before)) tt) returns)

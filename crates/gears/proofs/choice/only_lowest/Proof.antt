@@ -1,11 +1,9 @@
 -- `gears::choice::only_lowest` meets its contract: one law of `fits` for each return.
 -- Assumes nothing.
-use native.Mathlib.Omega.{arith}
-use borrow.Author.Tests.{eq-eqb}
+use Rattle.rules.proofs.Base.{arith, eq-eqb, needs}
 use Rattle.gears.specs.Choosing.{only-lowest}
 use Rattle.gears.proofs.Parts.{low-of}
 use Rattle.gears.proofs.Speeds.{fits-over, fits-one}
-use borrow.Author.Needs.{needs}
 use Rattle.gears.proofs.choice.only_lowest.Statement.{statement}
 use Rattle.gears.proofs.choice.only_lowest.Tie as tie
 

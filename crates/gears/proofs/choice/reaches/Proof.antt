@@ -1,8 +1,7 @@
 -- `gears::choice::reaches` meets its contract: there is no such gear, or X decides.
 -- Assumes nothing.
-use borrow.Author.Tests.{le-leb, lt-leb}
+use Rattle.rules.proofs.Base.{le-leb, lt-leb, needs}
 use Rattle.rules.specs.Words.{_and_}
-use borrow.Author.Needs.{needs}
 use Rattle.gears.proofs.choice.reaches.Statement.{statement}
 use Rattle.gears.proofs.choice.reaches.Tie as tie
 

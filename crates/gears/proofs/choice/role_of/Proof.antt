@@ -1,9 +1,8 @@
 -- `gears::choice::role_of` meets its contract: each return is one of the places.
 -- Assumes nothing.
-use borrow.Author.Tests.{eq-eqb, ne-eqb}
+use Rattle.rules.proofs.Base.{eq-eqb, ne-eqb, needs}
 use Rattle.rules.specs.Corrections.{role-of}
 use Rattle.gears.proofs.Parts.{low-of}
-use borrow.Author.Needs.{needs}
 use Rattle.gears.proofs.choice.role_of.Statement.{statement}
 use Rattle.gears.proofs.choice.role_of.Tie as tie
 

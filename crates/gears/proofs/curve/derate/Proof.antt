@@ -1,9 +1,6 @@
 -- `gears::curve::derate` meets its contract. The loop's invariant: the powers of the points up to i are there.
 -- Assumes nothing.
-use Prim.Native.Nat.{ℕ, _-_, _≤_}
-use native.Mathlib.Omega.{arith}
-use mathlib.Core.Path.{_≡_, ap, _∙_}
-use borrow.Author.Needs.{needs}
+use Rattle.rules.proofs.Base.{ℕ, _-_, _≤_, arith, _≡_, ap, _∙_, needs}
 use Rattle.gears.specs.Choosing.{available}
 use Rattle.gears.proofs.Derating.{begun, goes-on}
 use Rattle.gears.proofs.curve.derate.Statement.{statement}
@@ -14,12 +11,6 @@ Inv-loop margin p m points powers₀ end i₀ powers i = (i ≤ end) × (powers 
 
 abbrev μ-loop : tie.MeasureT-loop
 μ-loop margin p m points powers₀ end i₀ powers i = end - i
-
-loop-holds : tie.Need-loop-holds Inv-loop μ-loop
-loop-holds c = (omega arith, begun _ _ _)
-
-derated-requires : tie.Need-derated-requires Inv-loop μ-loop
-derated-requires c κs = let l = c .before .before .before in l .before .pre .left (l .loop .i) (omega arith)
 
 loop-again : tie.Need-loop-again Inv-loop μ-loop
 loop-again c = let l = c .before .before .before .before in (omega arith, goes-on _ _ _ (l .loop .i) (l .loop .inv .1) (c .derated .ensures))
@@ -34,18 +25,7 @@ returns c =
 pub derate-spec : {M : Type 1} → statement M
 derate-spec =
     tie.close
-    (tie.spec
-    Inv-loop
-    μ-loop
-    loop-holds
-    (λ c. search needs)
-    (λ c. search needs)
-    (λ c. search needs)
-    (λ c. search needs)
-    derated-requires
-    (λ c. search needs)
-    (λ c. search needs)
-    (λ c. search needs)
-    (λ c. search needs)
-    loop-again
-    returns)
+    (tie.spec Inv-loop μ-loop (λ c. (omega arith, begun _ _ _)) (λ c. search needs) (λ c. search needs)
+    (λ c. search needs) (λ c. search needs)
+    (λ c κs. let l = c .before .before .before in l .before .pre .left (l .loop .i) (omega arith))
+    (λ c. search needs) (λ c. search needs) (λ c. search needs) (λ c. search needs) loop-again returns)

@@ -1,9 +1,6 @@
 -- `gears::curve::derated` meets its contract: of 100 per cent both margins leave something, and the product has room.
 -- Assumes nothing.
-use Prim.Native.Nat.{_-_, _*_, _≤_}
-use native.Mathlib.Nat.{mul-le-mul}
-use native.Mathlib.Omega.{arith}
-use borrow.Author.Needs.{needs}
+use Rattle.rules.proofs.Base.{_-_, _*_, _≤_, mul-le-mul, arith, needs}
 use Rattle.gears.proofs.curve.derated.Statement.{statement}
 use Rattle.gears.proofs.curve.derated.Tie as tie
 

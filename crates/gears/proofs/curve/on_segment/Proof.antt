@@ -1,10 +1,6 @@
 -- `gears::curve::on_segment` meets its contract: every step of Q stays inside an i64, by the sizes of its parts.
 -- Assumes nothing.
-use Prim.Native.Nat.{ℕ}
-use native.Mathlib.Numerals.{add-one}
-use mathlib.Core.Path.{_≡_, ap, _∙_}
-use lib.IntN.{ℤ, pos}
-use borrow.Author.Needs.{needs}
+use Rattle.rules.proofs.Base.{ℕ, add-one, _≡_, ap, _∙_, ℤ, pos, needs}
 use Rattle.rules.specs.Words.{at}
 use Rattle.rules.proofs.Laws.Range.{E, lit, var, is, _⊕_, _⊖_, _⊗_, fits, read}
 use Rattle.rules.specs.Gears.{Power, between}
@@ -44,30 +40,6 @@ past c =
 abbrev q : tie.After-signed-power2 → E
 q c = lit (pos 1000) ⊗ p1 (c .before .before .before .before) ⊗ w (c .before .before) ⊕ climb c ⊗ past c
 
-sub-w : tie.Need-sub-w
-sub-w c = fits (w c) tt
-
-mul-q : tie.Need-mul-q
-mul-q c = fits (lit (pos 1000) ⊗ p1 (c .before .before)) tt
-
-mul-q-2 : tie.Need-mul-q-2
-mul-q-2 c = fits (lit (pos 1000) ⊗ p1 (c .before .before) ⊗ w c) tt
-
-sub-q : tie.Need-sub-q
-sub-q c = fits (climb c) tt
-
-mul-q-3 : tie.Need-mul-q-3
-mul-q-3 c = fits (lit (pos 1000) ⊗ n1 (c .before .before .before .before .before .before)) tt
-
-sub-q-2 : tie.Need-sub-q-2
-sub-q-2 c = fits (past c) tt
-
-mul-q-4 : tie.Need-mul-q-4
-mul-q-4 c = fits (climb c ⊗ past c) tt
-
-add-q : tie.Need-add-q
-add-q c = fits (q c) tt
-
 returns : tie.Need-returns
 unfolding between
 returns c =
@@ -78,28 +50,12 @@ returns c =
 pub on-segment-spec : {M : Type 1} → statement M
 on-segment-spec =
     tie.close
-    (tie.spec
+    (tie.spec (λ c. search needs) (λ c. search needs) (λ c κs. search needs) (λ c. search needs) (λ c. search needs)
+    (λ c κs. search needs) (λ c. search needs) (λ c. search needs) (λ c. search needs) (λ c κs. search needs)
+    (λ c. fits (w c) tt)
+    (λ c. fits (lit (pos 1000) ⊗ p1 (c .before .before)) tt)
+    (λ c. fits (lit (pos 1000) ⊗ p1 (c .before .before) ⊗ w c) tt)
+    (λ c. search needs) (λ c. search needs) (λ c. search needs) (λ c κs. search needs) (λ c. fits (climb c) tt)
     (λ c. search needs)
-    (λ c. search needs)
-    (λ c κs. search needs)
-    (λ c. search needs)
-    (λ c. search needs)
-    (λ c κs. search needs)
-    (λ c. search needs)
-    (λ c. search needs)
-    (λ c. search needs)
-    (λ c κs. search needs)
-    sub-w
-    mul-q
-    mul-q-2
-    (λ c. search needs)
-    (λ c. search needs)
-    (λ c. search needs)
-    (λ c κs. search needs)
-    sub-q
-    (λ c. search needs)
-    mul-q-3
-    sub-q-2
-    mul-q-4
-    add-q
-    returns)
+    (λ c. fits (lit (pos 1000) ⊗ n1 (c .before .before .before .before .before .before)) tt)
+    (λ c. fits (past c) tt) (λ c. fits (climb c ⊗ past c) tt) (λ c. fits (q c) tt) returns)

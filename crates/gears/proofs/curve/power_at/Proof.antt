@@ -1,14 +1,12 @@
 -- `gears::curve::power_at` meets its contract: the engine speed lies on the curve, and the segment given is read.
 -- Assumes nothing.
-use native.Mathlib.Omega.{arith}
-use mathlib.Core.Path.{_≡_, _∙_}
+use Rattle.rules.proofs.Base.{arith, _≡_, _∙_, needs}
 use Rattle.rules.specs.Gears.{power-speed}
 use Rattle.rules.specs.declared.Vehicle.{Vehicle}
 use Rattle.gears.specs.Parts.{Lent}
 use Rattle.gears.specs.Choosing.{segment-in, turned}
 use Rattle.gears.proofs.Parts.{ng-of}
 use Rattle.gears.proofs.Powers.{speed-is, power-is, turning-segment}
-use borrow.Author.Needs.{needs}
 use Rattle.gears.proofs.curve.power_at.Statement.{statement}
 use Rattle.gears.proofs.curve.power_at.Tie as tie
 

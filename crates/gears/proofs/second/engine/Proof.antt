@@ -5,20 +5,9 @@ use borrow.Author.Needs.{needs}
 use Rattle.gears.proofs.second.engine.Statement.{statement}
 use Rattle.gears.proofs.second.engine.Tie as tie
 
-mul-result : tie.Need-mul-result
-mul-result c = product 65535 65535 (c .before .wide .ensures .1) (c .wide2 .ensures .1) tt
-
-returns : tie.Need-returns
-returns c = rw (c .before .wide .ensures .0, c .wide2 .ensures .0)
-
 pub engine-spec : {M : Type 1} → statement M
 engine-spec =
     tie.close
-    (tie.spec
-    (λ c. search needs)
-    (λ c. search needs)
-    (λ c. search needs)
-    (λ c κs. search needs)
-    (λ c κs. search needs)
-    mul-result
-    returns)
+    (tie.spec (λ c. search needs) (λ c. search needs) (λ c. search needs) (λ c κs. search needs) (λ c κs. search needs)
+    (λ c. product 65535 65535 (c .before .wide .ensures .1) (c .wide2 .ensures .1) tt)
+    (λ c. rw (c .before .wide .ensures .0, c .wide2 .ensures .0)))

@@ -1,22 +1,17 @@
 -- `gears::second::minimum` meets its contract: each arm of the match is a clause of `minimum-of`.
 -- Assumes nothing.
-use native.Mathlib.Omega.{arith}
-use mathlib.Core.Path.{_≡_, sym, _∙_}
+use Rattle.rules.proofs.Base.{arith, _≡_, sym, _∙_, needs}
 use Rattle.rules.specs.declared.Vehicle.{Vehicle}
 use Rattle.rules.specs.Units.{low}
 use Rattle.gears.specs.Parts.{Counts}
 use Rattle.gears.proofs.Speeds.{minimum-one, minimum-two, minimum-above}
 use Rattle.gears.proofs.Parts.{low-of, idle-of, rated-of}
-use borrow.Author.Needs.{needs}
 use Rattle.gears.proofs.second.minimum.Statement.{statement}
 use Rattle.gears.proofs.second.minimum.Tie as tie
 
 -- what was returned is the lowest gear
 low-is : (c : tie.After-lowest) (car : Vehicle) → Counts car (c .before .before .before .args .k) → low car ≡ c .lowest .result
 low-is c car C = low-of C ∙ sym (c .lowest .ensures)
-
-sub-match : tie.Need-sub-match
-sub-match c = omega (arith, c .lowest .ensures, c .before .before .before .pre .from)
 
 returns : tie.Need-returns
 returns c = (λ car C. rw (minimum-one car _ (c .before .before .before .before .args .g) (rw (low-is (c .before) car C) (c .match .keys1)), idle-of C) (c .before .before .before .wide .ensures .0), search needs)
@@ -35,15 +30,6 @@ returns-3 c = (
 pub minimum-spec : {M : Type 1} → statement M
 minimum-spec =
     tie.close
-    (tie.spec
-    (λ c κs. search needs)
-    (λ c κs. search needs)
-    (λ c κs. search needs)
-    sub-match
-    (λ c κs. search needs)
-    (λ c. search needs)
-    (λ c. search needs)
-    (λ c. search needs)
-    returns
-    returns-2
-    returns-3)
+    (tie.spec (λ c κs. search needs) (λ c κs. search needs) (λ c κs. search needs)
+    (λ c. omega (arith, c .lowest .ensures, c .before .before .before .pre .from))
+    (λ c κs. search needs) (λ c. search needs) (λ c. search needs) (λ c. search needs) returns returns-2 returns-3)

@@ -1,12 +1,6 @@
 -- `gears::second::not_driven` meets its contract: one side of the rule for each return.
 -- Assumes nothing.
-use Prim.Native.Nat.{ℕ, _≤_}
-use native.Mathlib.Omega.{arith}
-use mathlib.Core.Path.{_≡_, refl, _∙_}
-use mathlib.Core.Bool.{false}
-use lib.Dec.{ltb}
-use borrow.Author.Tests.{lt-ltb, le-ltb}
-use borrow.Author.Needs.{needs}
+use Rattle.rules.proofs.Base.{ℕ, _≤_, arith, _≡_, refl, _∙_, false, ltb, lt-ltb, le-ltb, needs}
 use Rattle.rules.specs.declared.Vehicle.{Vehicle}
 use Rattle.rules.specs.Words.{_and_, _or_}
 use Rattle.rules.specs.Units.{low}

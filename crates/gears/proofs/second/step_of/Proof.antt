@@ -1,9 +1,7 @@
 -- `gears::second::step_of` meets its contract: a difference of two numbers of 16 bits fits.
 -- Assumes nothing.
-use native.Mathlib.Omega.{arith}
-use lib.IntN.{pos}
+use Rattle.rules.proofs.Base.{arith, pos, needs}
 use Rattle.rules.proofs.Laws.Range.{E, var, _⊖_, fits, read}
-use borrow.Author.Needs.{needs}
 use Rattle.gears.proofs.second.step_of.Statement.{statement}
 use Rattle.gears.proofs.second.step_of.Tie as tie
 
@@ -13,11 +11,5 @@ this c = var (pos (c .args .this)) 65535 (omega arith)
 abbrev next : tie.Start → E
 next c = var (pos (c .args .next)) 65535 (omega arith)
 
-sub-result : tie.Need-sub-result
-sub-result c = fits (next c ⊖ this c) tt
-
-returns : tie.Need-returns
-returns c = read (next c ⊖ this c) tt
-
 pub step-of-spec : {M : Type 1} → statement M
-step-of-spec = tie.close (tie.spec (λ c. search needs) (λ c. search needs) sub-result returns)
+step-of-spec = tie.close (tie.spec (λ c. search needs) (λ c. search needs) (λ c. fits (next c ⊖ this c) tt) (λ c. read (next c ⊖ this c) tt))

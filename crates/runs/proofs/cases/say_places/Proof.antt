@@ -1,9 +1,6 @@
 -- `runs::cases::say_places` is safe and ends: the line has 127 numbers at most.
 -- Assumes nothing.
-use native.Mathlib.Omega.{arith}
-use Prim.Native.Nat.{_≤_, _-_}
-use lib.ListN.{length}
-use borrow.Author.Needs.{needs}
+use Rattle.rules.proofs.Base.{_≤_, _-_, needs}
 use Rattle.runs.proofs.cases.say_places.Statement.{statement}
 use Rattle.runs.proofs.cases.say_places.Tie as tie
 
@@ -16,20 +13,6 @@ abbrev μ-loop : tie.MeasureT-loop
 pub say-places-spec : {M : Type 1} → statement M
 say-places-spec =
     tie.close
-    (tie.spec
-    Inv-loop
-    μ-loop
-    (λ c. search needs)
-    (λ c κs. search needs)
-    (λ c κs. search needs)
-    (λ c. search needs)
-    (λ c. search needs)
-    (λ c. search needs)
-    (λ c κs. search needs)
-    (λ c. search needs)
-    (λ c. search needs)
-    (λ c κs. search needs)
-    (λ c. search needs)
-    (λ c. search needs)
-    (λ c. search needs)
-    (λ c. search needs))
+    (tie.spec Inv-loop μ-loop (λ c. search needs) (λ c κs. search needs) (λ c κs. search needs) (λ c. search needs)
+    (λ c. search needs) (λ c. search needs) (λ c κs. search needs) (λ c. search needs) (λ c. search needs)
+    (λ c κs. search needs) (λ c. search needs) (λ c. search needs) (λ c. search needs) (λ c. search needs))

@@ -1,9 +1,6 @@
 -- `runs::lines::begun` is safe and ends: the part is as long as was asked for.
 -- Assumes nothing.
-use native.Mathlib.Omega.{arith}
-use mathlib.Core.Path.{sym}
-use lib.Seq.{length-take-le}
-use borrow.Author.Needs.{needs}
+use Rattle.rules.proofs.Base.{arith, sym, length-take-le, needs}
 use Rattle.runs.proofs.lines.begun.Statement.{statement}
 use Rattle.runs.proofs.lines.begun.Tie as tie
 

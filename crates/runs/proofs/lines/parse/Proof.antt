@@ -1,9 +1,6 @@
 -- `runs::lines::parse` is safe and ends: each call asks nothing that is not there.
 -- Assumes nothing.
-use native.Mathlib.Omega.{arith}
-use Prim.Native.Nat.{_≤_, _-_}
-use lib.ListN.{length}
-use borrow.Author.Needs.{needs}
+use Rattle.rules.proofs.Base.{_≤_, _-_, length, needs}
 use Rattle.runs.proofs.lines.parse.Statement.{statement}
 use Rattle.runs.proofs.lines.parse.Tie as tie
 
@@ -16,14 +13,5 @@ abbrev μ-loop : tie.MeasureT-loop
 pub parse-spec : {M : Type 1} → statement M
 parse-spec =
     tie.close
-    (tie.spec
-    Inv-loop
-    μ-loop
-    (λ c. search needs)
-    (λ c. search needs)
-    (λ c. search needs)
-    (λ c κs. search needs)
-    (λ c. search needs)
-    (λ c. search needs)
-    (λ c. search needs)
-    (λ c. search needs))
+    (tie.spec Inv-loop μ-loop (λ c. search needs) (λ c. search needs) (λ c. search needs) (λ c κs. search needs)
+    (λ c. search needs) (λ c. search needs) (λ c. search needs) (λ c. search needs))

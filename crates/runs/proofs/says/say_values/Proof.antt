@@ -1,9 +1,6 @@
 -- `runs::says::say_values` is safe and ends: each call asks nothing that is not there.
 -- Assumes nothing.
-use native.Mathlib.Omega.{arith}
-use Prim.Native.Nat.{_≤_, _-_}
-use lib.ListN.{length}
-use borrow.Author.Needs.{needs}
+use Rattle.rules.proofs.Base.{_≤_, _-_, length, needs}
 use Rattle.runs.proofs.says.say_values.Statement.{statement}
 use Rattle.runs.proofs.says.say_values.Tie as tie
 
@@ -16,16 +13,6 @@ abbrev μ-loop : tie.MeasureT-loop
 pub say-values-spec : {M : Type 1} → statement M
 say-values-spec =
     tie.close
-    (tie.spec
-    Inv-loop
-    μ-loop
-    (λ c. search needs)
-    (λ c κs. search needs)
-    (λ c. search needs)
-    (λ c. search needs)
-    (λ c. search needs)
-    (λ c κs. search needs)
-    (λ c. search needs)
-    (λ c. search needs)
-    (λ c. search needs)
+    (tie.spec Inv-loop μ-loop (λ c. search needs) (λ c κs. search needs) (λ c. search needs) (λ c. search needs)
+    (λ c. search needs) (λ c κs. search needs) (λ c. search needs) (λ c. search needs) (λ c. search needs)
     (λ c. search needs))

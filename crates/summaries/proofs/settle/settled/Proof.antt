@@ -1,8 +1,7 @@
 -- `summaries::settle::settled` meets its contract. One line for each return.
 -- Assumes nothing.
-use native.Mathlib.Omega.{arith}
+use Rattle.rules.proofs.Base.{arith, needs}
 use Rattle.summaries.proofs.Settling.{stops-low, stops-high, between}
-use borrow.Author.Needs.{needs}
 use Rattle.summaries.proofs.settle.settled.Statement.{statement}
 use Rattle.summaries.proofs.settle.settled.Tie as tie
 

@@ -1,9 +1,7 @@
 -- `summaries::settle::settled_gears` meets its contract. The loop's invariant: the first k gears are settled.
 -- Assumes nothing.
-use Prim.Native.Nat.{_-_, _≤_}
-use native.Mathlib.Omega.{arith}
+use Rattle.rules.proofs.Base.{_-_, _≤_, arith, needs}
 use Rattle.summaries.proofs.Settling.{Settled, settled-more, settled-done}
-use borrow.Author.Needs.{needs}
 use Rattle.summaries.proofs.settle.settled_gears.Statement.{statement}
 use Rattle.summaries.proofs.settle.settled_gears.Tie as tie
 
@@ -19,22 +17,7 @@ loop-again c = let l = c .before .before .before .before .before .loop in (omega
 pub settled-gears-spec : {M : Type 1} → statement M
 settled-gears-spec =
     tie.close
-    (tie.spec
-    Inv-loop
-    μ-loop
-    (λ c. search needs)
-    (λ c. search needs)
-    (λ c. search needs)
-    (λ c. search needs)
-    (λ c. search needs)
-    (λ c. search needs)
-    (λ c. search needs)
-    (λ c. search needs)
-    (λ c. search needs)
-    (λ c κs. search needs)
-    (λ c. search needs)
-    (λ c. search needs)
-    (λ c. search needs)
-    (λ c. search needs)
-    loop-again
+    (tie.spec Inv-loop μ-loop (λ c. search needs) (λ c. search needs) (λ c. search needs) (λ c. search needs)
+    (λ c. search needs) (λ c. search needs) (λ c. search needs) (λ c. search needs) (λ c. search needs)
+    (λ c κs. search needs) (λ c. search needs) (λ c. search needs) (λ c. search needs) (λ c. search needs) loop-again
     (λ c. let l = c .before .loop in settled-done _ _ _ (l .k) (l .inv .1) (omega arith)))

@@ -1,10 +1,9 @@
 -- `summaries::whole::summary_of` meets its contract: an empty summary, brought up to date.
 -- Assumes nothing.
-use mathlib.Core.Path.{refl, _∙_}
+use Rattle.rules.proofs.Base.{refl, _∙_, needs}
 use Rattle.rules.specs.Summary.{summary-fault, counted-summary}
 use Rattle.checks.proofs.Rows.{said-none, left-old}
 use Rattle.summaries.proofs.Totals.{said-done, all-countable, whole-settled}
-use borrow.Author.Needs.{needs}
 use Rattle.summaries.proofs.whole.summary_of.Statement.{statement}
 use Rattle.summaries.proofs.whole.summary_of.Tie as tie
 
@@ -31,13 +30,5 @@ returns-2 c =
 pub summary-of-spec : {M : Type 1} → statement M
 summary-of-spec =
     tie.close
-    (tie.spec
-    (λ c κs. search needs)
-    (λ c κs. search needs)
-    (λ c. search needs)
-    (λ c. search needs)
-    returns
-    count-requires
-    (λ c κs. search needs)
-    (λ c κs. search needs)
-    returns-2)
+    (tie.spec (λ c κs. search needs) (λ c κs. search needs) (λ c. search needs) (λ c. search needs) returns
+    count-requires (λ c κs. search needs) (λ c κs. search needs) returns-2)

@@ -1,9 +1,7 @@
 -- `trips::peak::one_above` meets its contract.
 -- Assumes nothing.
-use native.Mathlib.Omega.{arith}
-use mathlib.Core.Path.{_∙_}
+use Rattle.rules.proofs.Base.{arith, _∙_, needs}
 use Rattle.trips.proofs.Seconds.{above-right, above-left}
-use borrow.Author.Needs.{needs}
 use Rattle.trips.proofs.peak.one_above.Statement.{statement}
 use Rattle.trips.proofs.peak.one_above.Tie as tie
 

@@ -1,8 +1,7 @@
 -- `trips::peak::over` meets its contract.
 -- Assumes nothing.
-use native.Mathlib.Omega.{arith}
+use Rattle.rules.proofs.Base.{arith, needs}
 use Rattle.trips.proofs.Seconds.{over-no, over-yes}
-use borrow.Author.Needs.{needs}
 use Rattle.trips.proofs.peak.over.Statement.{statement}
 use Rattle.trips.proofs.peak.over.Tie as tie
 

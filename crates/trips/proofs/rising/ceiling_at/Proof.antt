@@ -1,9 +1,7 @@
 -- `trips::rising::ceiling_at` meets its contract, by one law of the ceiling for each return.
 -- Assumes nothing.
-use native.Mathlib.Omega.{arith}
-use mathlib.Core.Path.{_∙_}
+use Rattle.rules.proofs.Base.{arith, _∙_, needs}
 use Rattle.trips.proofs.Seconds.{ceiling-second, ceiling-same, ceiling-other}
-use borrow.Author.Needs.{needs}
 use Rattle.trips.proofs.rising.ceiling_at.Statement.{statement}
 use Rattle.trips.proofs.rising.ceiling_at.Tie as tie
 

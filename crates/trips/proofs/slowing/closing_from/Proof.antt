@@ -1,7 +1,6 @@
 -- `trips::slowing::closing_from` meets its contract. The loop's invariant: every second from j on is in the closing run.
 -- Assumes nothing.
-use native.Mathlib.Omega.{arith}
-use borrow.Author.Needs.{needs}
+use Rattle.rules.proofs.Base.{arith, needs}
 use Rattle.trips.proofs.Closing.{Closing, run-start, run-never, run-more, run-stops, run-whole}
 use Rattle.trips.proofs.slowing.closing_from.Statement.{statement}
 use Rattle.trips.proofs.slowing.closing_from.Tie as tie
@@ -32,21 +31,6 @@ returns-3 c = run-whole (c .before .before .before .before .before .before .args
 pub closing-from-spec : {M : Type 1} → statement M
 closing-from-spec =
     tie.close
-    (tie.spec
-    Inv-loop
-    μ-loop
-    (λ c. search needs)
-    (λ c. search needs)
-    (λ c. search needs)
-    (λ c κs. search needs)
-    returns
-    loop-holds
-    (λ c. search needs)
-    (λ c. search needs)
-    (λ c. search needs)
-    (λ c. search needs)
-    (λ c. search needs)
-    returns-2
-    (λ c. search needs)
-    loop-again
-    returns-3)
+    (tie.spec Inv-loop μ-loop (λ c. search needs) (λ c. search needs) (λ c. search needs) (λ c κs. search needs) returns
+    loop-holds (λ c. search needs) (λ c. search needs) (λ c. search needs) (λ c. search needs) (λ c. search needs)
+    returns-2 (λ c. search needs) loop-again returns-3)

@@ -1,8 +1,6 @@
 -- `trips::work::begin` meets its contract: one second is gone through, or none.
 -- Assumes nothing.
-use native.Mathlib.Omega.{arith}
-use mathlib.Core.Path.{refl}
-use borrow.Author.Needs.{needs}
+use Rattle.rules.proofs.Base.{arith, refl, needs}
 use Rattle.rules.specs.Units.{rise}
 use Rattle.rules.proofs.Laws.Words.{and-no}
 use Rattle.trips.specs.Trip.{on-way}
@@ -27,18 +25,9 @@ returns c =
 returns-2 : tie.Need-returns-2
 returns-2 c = (omega arith, (λ l. absurd (omega (arith, c .if2 .left)), λ car H b run last. pass-start _ _))
 
-returns-3 : tie.Need-returns-3
-returns-3 c = (omega arith, (λ l. no-and _ _ (c .if1 .left), λ car H b run last. pass-start _ _))
-
 pub begin-spec : {M : Type 1} → statement M
 begin-spec =
     tie.close
-    (tie.spec
-    (λ c. search needs)
-    (λ c. search needs)
-    (λ c κs. search needs)
-    (λ c. search needs)
-    (λ c. search needs)
-    returns
-    returns-2
-    returns-3)
+    (tie.spec (λ c. search needs) (λ c. search needs) (λ c κs. search needs) (λ c. search needs) (λ c. search needs)
+    returns returns-2
+    (λ c. (omega arith, (λ l. no-and _ _ (c .if1 .left), λ car H b run last. pass-start _ _))))

@@ -1,8 +1,7 @@
 -- `trips::work::choice_at` meets its contract: what is handed on is what the second is, and D.
 -- Assumes nothing.
-use native.Mathlib.Omega.{arith}
+use Rattle.rules.proofs.Base.{arith, needs}
 use Rattle.trips.proofs.Clutch.{rise-here}
-use borrow.Author.Needs.{needs}
 use Rattle.trips.proofs.work.choice_at.Statement.{statement}
 use Rattle.trips.proofs.work.choice_at.Tie as tie
 
@@ -22,12 +21,5 @@ returns c =
 pub choice-at-spec : {M : Type 1} → statement M
 choice-at-spec =
     tie.close
-    (tie.spec
-    (λ c. search needs)
-    (λ c. search needs)
-    (λ c. search needs)
-    (λ c. search needs)
-    (λ c. search needs)
-    (λ c. search needs)
-    choice-after-requires
-    returns)
+    (tie.spec (λ c. search needs) (λ c. search needs) (λ c. search needs) (λ c. search needs) (λ c. search needs)
+    (λ c. search needs) choice-after-requires returns)

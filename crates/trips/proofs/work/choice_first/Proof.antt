@@ -1,13 +1,9 @@
 -- `trips::work::choice_first` meets its contract: one law of the first second for each return.
 -- Assumes nothing.
-use native.Mathlib.Omega.{arith}
-use borrow.Author.Needs.{needs}
+use Rattle.rules.proofs.Base.{arith, needs}
 use Rattle.trips.proofs.Trip.{first-none, first-one, first-held}
 use Rattle.trips.proofs.work.choice_first.Statement.{statement}
 use Rattle.trips.proofs.work.choice_first.Tie as tie
-
-returns : tie.Need-returns
-returns c = λ car H b d. first-held car _ d _ (c .if1 .taken)
 
 engine-requires : tie.Need-engine-requires
 engine-requires c κs =
@@ -28,4 +24,4 @@ returns-3 : tie.Need-returns-3
 returns-3 c = λ car H b d. first-one H b _ d _ (c .before .before .before .before .if1 .left) (c .before .before .before .lowest .ensures) (rw (c .before .before .top .ensures, c .before .engine .ensures) at (c .if2 .left))
 
 pub choice-first-spec : {M : Type 1} → statement M
-choice-first-spec = tie.close (tie.spec returns (λ c κs. search needs) (λ c κs. search needs) engine-requires returns-2 cast-result returns-3)
+choice-first-spec = tie.close (tie.spec (λ c. λ car H b d. first-held car _ d _ (c .if1 .taken)) (λ c κs. search needs) (λ c κs. search needs) engine-requires returns-2 cast-result returns-3)

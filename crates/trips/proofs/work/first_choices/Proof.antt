@@ -1,15 +1,6 @@
 -- `trips::work::first_choices` meets its contract. The loop's invariant: the slice holds the first choices up to second j.
 -- Assumes nothing.
-use Prim.Native.Nat.{ℕ, _+_, _-_, _≤_, _<_}
-use mathlib.Core.Path.{_≡_, refl, sym, ap, _∙_}
-use native.Mathlib.Omega.{arith}
-use mathlib.Core.List.{List}
-use borrow.Author.Needs.{needs}
-use lib.ListN.{length, length-set}
-use lib.Seq.{getD-set-same}
-use mathlib.Core.Bool.{false}
-use lib.Dec.{eqb}
-use borrow.Author.Tests.{ne-eqb}
+use Rattle.rules.proofs.Base.{ℕ, _+_, _-_, _≤_, _<_, _≡_, refl, sym, ap, _∙_, arith, List, needs, length, length-set, getD-set-same, false, eqb, ne-eqb}
 use Rattle.rules.specs.Words.{if_then_else_, _and_, at, pass}
 use Rattle.rules.proofs.Laws.Words.{and-no}
 use Rattle.trips.specs.Trip.{on-way}
@@ -52,9 +43,6 @@ add-j c =
     let l = c .before .before .loop in
     omega (arith, s .fits, s .pre .2, l .inv .1, c .before .loop-test)
 
-loop-less : tie.Need-loop-less Inv-loop μ-loop
-loop-less c = simp length-set (omega arith)
-
 loop-again : tie.Need-loop-again Inv-loop μ-loop
 loop-again c =
     let s = c .before .before .before .before .before .before .before .before .before .before .before .before .before in
@@ -83,18 +71,6 @@ returns c =
 pub first-choices-spec : {M : Type 1} → statement M
 first-choices-spec =
     tie.close
-    (tie.spec
-    Inv-loop
-    μ-loop
-    begin-requires
-    (λ c κs. search needs)
-    (λ c κs. search needs)
-    (λ c. search needs)
-    loop-holds
-    choice-at-requires
-    (λ c. omega arith)
-    add-j
-    loop-less
-    loop-again
-    (λ c. search needs)
-    returns)
+    (tie.spec Inv-loop μ-loop begin-requires (λ c κs. search needs) (λ c κs. search needs) (λ c. search needs)
+    loop-holds choice-at-requires (λ c. omega arith) add-j (λ c. simp length-set (omega arith)) loop-again
+    (λ c. search needs) returns)

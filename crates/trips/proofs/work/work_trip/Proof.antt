@@ -1,12 +1,10 @@
 -- `trips::work::work_trip` meets its contract: what each call leaves is what the next one finds.
 -- Assumes nothing.
-use native.Mathlib.Omega.{arith}
-use mathlib.Core.Path.{_≡_}
+use Rattle.rules.proofs.Base.{arith, _≡_, needs}
 use Rattle.rules.specs.declared.Vehicle.{Vehicle}
 use Rattle.rules.specs.Corrections.{gears}
 use Rattle.gears.specs.Parts.{Lent}
-use Rattle.trips.proofs.Trip.{gears-is, way-firsts, bytes-is, moves-on, gears-few, gears-small}
-use borrow.Author.Needs.{needs}
+use Rattle.trips.proofs.Trip.{gears-is, way-firsts, bytes-is, moves-on, gears-few, gears-there}
 use Rattle.trips.proofs.work.work_trip.Statement.{statement}
 use Rattle.trips.proofs.work.work_trip.Tie as tie
 
@@ -48,7 +46,7 @@ bytes-requires : tie.Need-bytes-requires
 bytes-requires c κs =
     let s = start (c .before .before .before) in
     let P = s .pre .0 in
-    gears-small (P .car) _ _ (P .lent) (s .pre .1) (done (c .before .before .before) (P .car) (P .lent))
+    gears-there (P .car) _ _ (s .pre .1 .lists .speeds) (s .pre .2 (P .car) (P .lent)) (done (c .before .before .before) (P .car) (P .lent))
 
 returns : tie.Need-returns
 returns c = λ car L.
@@ -58,12 +56,5 @@ returns c = λ car L.
 pub work-trip-spec : {M : Type 1} → statement M
 work-trip-spec =
     tie.close
-    (tie.spec
-    closing-from-requires
-    first-choices-requires
-    pass-a-requires
-    pass-b-requires
-    pass-c-requires
-    bytes-requires
-    (λ c. search needs)
-    returns)
+    (tie.spec closing-from-requires first-choices-requires pass-a-requires pass-b-requires pass-c-requires
+    bytes-requires (λ c. search needs) returns)

@@ -1,9 +1,6 @@
 -- `runs::lines::Job::with_group` is safe and ends: each call asks nothing that is not there.
 -- Assumes nothing.
-use native.Mathlib.Omega.{arith}
-use lib.ListN.{length}
-use Prim.Native.Nat.{_≤_, _-_}
-use borrow.Author.Needs.{needs}
+use Rattle.rules.proofs.Base.{_≤_, needs}
 use Rattle.runs.proofs.lines.Job.with_group.Statement.{statement}
 use Rattle.runs.proofs.lines.Job.with_group.Tie as tie
 
@@ -16,15 +13,5 @@ abbrev μ-loop : tie.MeasureT-loop
 pub with-group-spec : {M : Type 1} → statement M
 with-group-spec =
     tie.close
-    (tie.spec
-    Inv-loop
-    μ-loop
-    (λ c. search needs)
-    (λ c. search needs)
-    (λ c. search needs)
-    (λ c κs. search needs)
-    (λ c. search needs)
-    (λ c. search needs)
-    (λ c. search needs)
-    (λ c κs. search needs)
-    (λ c. search needs))
+    (tie.spec Inv-loop μ-loop (λ c. search needs) (λ c. search needs) (λ c. search needs) (λ c κs. search needs)
+    (λ c. search needs) (λ c. search needs) (λ c. search needs) (λ c κs. search needs) (λ c. search needs))

@@ -1,8 +1,6 @@
 -- `runs::lines::Job::with_rest` is safe and ends: the line has 127 numbers at most.
 -- Assumes nothing.
-use Prim.Native.Nat.{_≤_, _-_}
-use native.Mathlib.Omega.{arith}
-use borrow.Author.Needs.{needs}
+use Rattle.rules.proofs.Base.{_≤_, _-_, needs}
 use Rattle.runs.proofs.lines.Job.with_rest.Statement.{statement}
 use Rattle.runs.proofs.lines.Job.with_rest.Tie as tie
 
@@ -15,15 +13,5 @@ abbrev μ-loop : tie.MeasureT-loop
 pub with-rest-spec : {M : Type 1} → statement M
 with-rest-spec =
     tie.close
-    (tie.spec
-    Inv-loop
-    μ-loop
-    (λ c κs. search needs)
-    (λ c. search needs)
-    (λ c. search needs)
-    (λ c. search needs)
-    (λ c κs. search needs)
-    (λ c. search needs)
-    (λ c. search needs)
-    (λ c. search needs)
-    (λ c. search needs))
+    (tie.spec Inv-loop μ-loop (λ c κs. search needs) (λ c. search needs) (λ c. search needs) (λ c. search needs)
+    (λ c κs. search needs) (λ c. search needs) (λ c. search needs) (λ c. search needs) (λ c. search needs))

@@ -1,0 +1,15 @@
+-- `checks::calm::holds_pass` meets its contract: where no second has a hold there is nothing to pass.
+-- Assumes nothing.
+use Rattle.rules.proofs.Base.{arith, _≡_, needs}
+use Rattle.rules.specs.Words.{at}
+use Rattle.checks.proofs.calm.holds_pass.Statement.{statement}
+use Rattle.checks.proofs.calm.holds_pass.Tie as tie
+
+returns : tie.Need-returns
+returns c = λ e i x y held.
+    let z = c .before .most-held .ensures i x y in
+    let n : at (c .before .before .before .before .args .holds .now) i ≡ 0 = omega arith in
+    absurd (held n)
+
+pub holds-pass-spec : {M : Type 1} → statement M
+holds-pass-spec = tie.close (tie.spec (λ c κs. search needs) returns (λ c κs. search needs) (λ c. search needs))

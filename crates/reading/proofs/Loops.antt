@@ -1,0 +1,176 @@
+-- The reader's loops. The invariant says that what is left to read, from here, is what was asked; the laws are the loop's ways on.
+-- Assumes nothing.
+use Rattle.rules.proofs.Base.{ℕ, suc, _+_, _-_, _/_, _<_, _≤_, add-one, arith, _≡_, sym, _∙_, true, List, [], _∷_, leb, ltb, length, set, sets}
+use Prim.{Unit, tt}
+use Rattle.rules.specs.Refusals.{Fault}
+use Rattle.rules.specs.Words.{_and_, within, at}
+use Rattle.rules.specs.Groups.{Read, got, refused, hand-on, _>>=_, _>>_, give, demand, group}
+use Rattle.rules.specs.Forms.{Form, value, checked, _then_, row-read, row, many}
+use Rattle.rules.specs.Job.{hold, put}
+use Rattle.rules.proofs.Laws.Forms.{says-now, value-sound}
+use Rattle.rules.proofs.Laws.Gathers.{HoldFits, takes-hold, hold-sound}
+use Rattle.reading.specs.Progress.{holds-from, hold-row, Comes, Short, used}
+use Rattle.reading.proofs.Steps.{joined, went, passed, use-as-is, many-length}
+use Rattle.reading.proofs.GroupAnswers.{gear-first}
+use Rattle.reading.proofs.StageAnswers.{all-filled}
+
+-- ---- k parts in a row, of which i are read: `keep` is what becomes of the others
+
+pub record Row {A S B : Type 0} (part : S → Form A) (move : S → A → S) (job : List ℕ) (k i : ℕ) (s : S) (next : ℕ) (keep : List A → B) (R : Read B) : Type 0 where
+  pub left : hand-on (row-read part move (k - i) s job next) (λ l. give (keep l)) ≡ R
+
+pub row-begins : {A S B : Type 0} (part : S → Form A) (move : S → A → S) (job : List ℕ) (k : ℕ) (s : S) (next : ℕ) (keep : List A → B)
+    → Row part move job k 0 s next keep (used keep (row part move s k) job next)
+unfolding used row
+row-begins part move job k s next keep = let z : k - 0 ≡ k = omega arith in record { left = rw z }
+
+module _ {A S B : Type 0} {part : S → Form A} {move : S → A → S} {job : List ℕ} {k i : ℕ} {s : S} {next : ℕ} {keep : List A → B} {R : Read B} (p : Row part move job k i s next keep R) where
+  pub ends : k ≤ i → got (keep []) next ≡ R
+  unfolding hand-on row-read
+  ends h = let z : k - i ≡ 0 = omega arith in rw z at (p .left)
+
+  module _ (h : i < k) where
+    more : k - i ≡ suc (k - suc i)
+    more = omega arith
+
+    pub stops : {f : Fault} → refused f ≡ part s .read job next → refused f ≡ R
+    unfolding hand-on row-read
+    stops e = rw (more, ← e) at (p .left)
+
+    pub again : {a : A} {after : ℕ} → got a after ≡ part s .read job next → Row part move job k (i + 1) (move s a) after (λ l. keep (a ∷ l)) R
+    unfolding hand-on row-read
+    again {a} {after} e = record {
+      left = rw add-one (sym (joined (row-read part move (k - suc i) (move s a) job after) (λ l. give (a ∷ l)) (λ l. give (keep l))) ∙ (rw (more, ← e) at (p .left)));
+    }
+
+    -- where all of it comes, the next part does
+    pub comes-here : Comes R → Comes (part s .read job next)
+    unfolding row-read
+    comes-here r =
+        went (row-read part move (k - i) s job next) _ (p .left ∙ r .comes) (λ l j e _.
+        went (part s .read job next) _ (rw more at e) (λ a m e _. record { what = a; end = m; comes = e }))
+
+-- what is put to use comes where what is read does
+pub used-comes : {A B : Type 0} (f : A → B) (part : Form A) (job : List ℕ) (i : ℕ) → Comes (part .read job i) → Comes (used f part job i)
+unfolding used hand-on
+used-comes f part job i c = record { what = f (c .what); end = c .end; comes = rw (c .comes) }
+
+-- ---- parts of one form
+
+abbrev pub Many : {A B : Type 0} → Form A → List ℕ → ℕ → ℕ → ℕ → (List A → B) → Read B → Type 0
+Many part job k i next keep R = Row (λ (s : Unit {0}). part) (λ s a. s) job k i tt next keep R
+
+pub many-begins : {A B : Type 0} (part : Form A) (job : List ℕ) (k next : ℕ) (keep : List A → B) → Many part job k 0 next keep (used keep (many part k) job next)
+unfolding many
+many-begins part job k next keep = row-begins (λ (s : Unit {0}). part) (λ s a. s) job k tt next keep
+
+-- the values in a row, where a group is at hand
+module _ {B : Type 0} {job : List ℕ} {k i next : ℕ} {keep : List ℕ → B} {R : Read B} (p : Many value job k i next keep R) (h : i < k) where
+  pub value-stops : {f : Fault} → refused f ≡ group job next → refused f ≡ R
+  unfolding value
+  value-stops e = stops p h e
+
+  pub value-again : {v after : ℕ} → got v after ≡ group job next → Many value job k (i + 1) after (λ vs. keep (v ∷ vs)) R
+  unfolding value
+  value-again e = again p h e
+
+  pub value-comes : Comes R → Comes (group job next)
+  unfolding value
+  value-comes r = comes-here p h r
+
+-- values that fill a room are all that is left in it
+pub filled-all : (job room : List ℕ) (i : ℕ) {room′ : List ℕ} {j : ℕ} → got room′ j ≡ used (sets room 0) (many value (length room)) job i → got room′ j ≡ many value (length room) .read job i
+filled-all job room i e = e ∙ use-as-is (many value (length room)) job i (λ l k come. all-filled room l (many-length value-sound job (length room) i come))
+
+-- ---- holds
+
+abbrev pub Holds : {B : Type 0} → ℕ → List ℕ → ℕ → ℕ → ℕ → ℕ → (List (ℕ × ℕ) → B) → Read B → Type 0
+Holds count job k i next place keep R = Row (hold count) (λ next h. suc (h .0)) job k i next place keep R
+
+pub holds-begin : {B : Type 0} (count : ℕ) (job : List ℕ) (k from place : ℕ) (keep : List (ℕ × ℕ) → B)
+    → Holds count job k 0 from place keep (used keep (holds-from count from k) job place)
+holds-begin count job k from place keep = row-begins (hold count) (λ next h. suc (h .0)) job k from place keep
+
+-- what is left of them is holds from the next second on
+pub holds-left : {B : Type 0} (count : ℕ) {job : List ℕ} {k i next place : ℕ} {keep : List (ℕ × ℕ) → B} {R : Read B}
+    → Holds count job k i next place keep R → used keep (holds-from count next (k - i)) job place ≡ R
+unfolding used row
+holds-left count p = p .left
+
+-- a hold that comes: its second and its gear do, one after the other, and are in their bounds
+module _ (job : List ℕ) (count next i : ℕ) where
+  hold-steps : hold count next .read job i ≡ (do
+    s ← group job
+    demand (leb next s and ltb s count) 15 i
+    g ← group job
+    demand (within 1 255 g) 15 i
+    give (s, g)) i
+  unfolding hold checked _then_ value hand-on
+  hold-steps = simp joined
+
+  module _ (c : Comes (hold count next .read job i)) where
+    pub second-comes : Comes (group job i)
+    second-comes = went (group job i) _ (sym hold-steps ∙ c .comes) (λ s j e _. record { what = s; end = j; comes = e })
+
+    module _ {s j : ℕ} (e : got s j ≡ group job i) where
+      after-second : {P : Type 0} → (hand-on (group job j) (λ g j. hand-on (demand (within 1 255 g) 15 i j) (λ _. give (s, g))) ≡ got (c .what) (c .end) → leb next s and ltb s count ≡ true → P) → P
+      unfolding hand-on
+      after-second f = passed (leb next s and ltb s count) _ _ _ _ (rw (← e) at (sym hold-steps ∙ c .comes)) (λ t x. f x t)
+
+      pub gear-comes : Comes (group job j)
+      gear-comes = after-second (λ x _. went (group job j) _ x (λ g l f _. record { what = g; end = l; comes = f }))
+
+      pub hold-comes : {g l : ℕ} → got g l ≡ group job j → got (s, g) l ≡ hold count next .read job i
+      unfolding hand-on demand
+      hold-comes {g} f =
+          after-second (λ x t.
+          passed (within 1 255 g) _ _ _ _ (rw (← f) at x) (λ u _. rw (hold-steps, ← e, t, ← f, u)))
+
+pub hold-fits : (job : List ℕ) (count next i : ℕ) {s g j : ℕ} → got (s, g) j ≡ hold count next .read job i → HoldFits count next (s, g)
+hold-fits job count next i e = takes-hold count next _ (says-now (sym e) (hold-sound count next .one-form job i) .taken)
+
+-- ---- holds put into a room; what the next second must rise from is not kept
+
+pub record Putting (count : ℕ) (job : List ℕ) (k i place : ℕ) (room : List ℕ) (R : Read (List ℕ)) : Type 0 where
+  pub next : ℕ
+  pub left : Holds count job k i next place (λ hs. put hs room) R
+
+pub put-begins : (count : ℕ) (job : List ℕ) (k place : ℕ) (room : List ℕ) → Putting count job k 0 place room (used (λ hs. put hs room) (hold-row count k) job place)
+put-begins count job k place room = record { next = 0; left = holds-begin count job k 0 place (λ hs. put hs room) }
+
+module _ {count : ℕ} {job : List ℕ} {k i place : ℕ} {room : List ℕ} {R : Read (List ℕ)} (p : Putting count job k i place room R) where
+  pub put-ends : k ≤ i → got room place ≡ R
+  unfolding put
+  put-ends h = ends (p .left) h
+
+  module _ (h : i < k) (r : Comes R) where
+    here : Comes (hold count (p .next) .read job place)
+    here = comes-here (p .left) h r
+
+    pub put-second : Comes (group job place)
+    put-second = second-comes job count (p .next) place here
+
+    module _ {s j : ℕ} (e : got s j ≡ group job place) where
+      pub put-gear : Comes (group job j)
+      put-gear = gear-comes job count (p .next) place here e
+
+      module _ {g l : ℕ} (f : got g l ≡ group job j) where
+        the-hold : got (s, g) l ≡ hold count (p .next) .read job place
+        the-hold = hold-comes job count (p .next) place here e f
+
+        pub put-fits : HoldFits count (p .next) (s, g)
+        put-fits = hold-fits job count (p .next) place the-hold
+
+        pub put-again : Putting count job k (i + 1) l (set room s g) R
+        unfolding put
+        put-again = record { next = suc s; left = again (p .left) h the-hold }
+
+    -- its second has one byte or two, and its gear is its group's first byte
+    pub put-short : count ≤ 16384 → Short (group job place)
+    put-short top =
+        let a = put-second in
+        let b = put-gear (sym (a .comes)) in
+        record { there = a; small = omega (arith, top, put-fits (sym (a .comes)) (sym (b .comes)) .below) }
+
+    pub put-geared : {s j : ℕ} (e : got s j ≡ group job place) → at job j < 256 → got (at job j) (j + 1 + at job j / 128) ≡ group job j
+    put-geared {s} {j} e b = let g = put-gear e in gear-first job j g b (omega (arith, put-fits e (sym (g .comes)) .byte))

@@ -1,0 +1,17 @@
+-- `reading::calm::odd` meets its contract: the smaller of two is from 128 on where both are.
+-- Assumes nothing.
+use Rattle.rules.proofs.Base.{arith, needs}
+use Rattle.reading.proofs.calm.odd.Statement.{statement}
+use Rattle.reading.proofs.calm.odd.Tie as tie
+
+returns : tie.Need-returns
+returns c =
+    let h = c .before .higher .ensures in (
+      λ a z. c .lower2 .ensures a (omega (arith, h .0, c .before .before .before .before .none .ensures z)),
+      λ a b t. c .lower2 .ensures a (omega (arith, h .1, c .before .before .lower .ensures b (c .before .before .before .over .ensures t))),
+    )
+
+pub odd-spec : {M : Type 1} → statement M
+odd-spec =
+    tie.close
+    (tie.spec (λ c κs. search needs) (λ c κs. search needs) (λ c κs. search needs) (λ c κs. search needs) (λ c κs. search needs) returns)

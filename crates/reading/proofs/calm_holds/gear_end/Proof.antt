@@ -1,0 +1,29 @@
+-- `reading::calm_holds::gear_end` meets its contract: one law of a group for each way through it.
+-- Assumes nothing.
+use Rattle.rules.proofs.Base.{arith, _≡_, sym, needs}
+use Rattle.rules.specs.Words.{at}
+use Rattle.rules.proofs.Laws.Reading.{two-of, one, two}
+use Rattle.reading.proofs.GroupAnswers.{bounded-gives}
+use Rattle.reading.proofs.calm_holds.gear_end.Statement.{statement}
+use Rattle.reading.proofs.calm_holds.gear_end.Tie as tie
+
+returns-2 : tie.Need-returns-2
+returns-2 c = λ e spot.
+    let s = c .before .before .before in
+    let job = s .args .job .now in
+    let i = s .args .place in
+    bounded-gives job 1 255 15 spot i (sym (one job i (omega arith) (omega arith))) (omega arith) (omega arith)
+
+returns-4 : tie.Need-returns-4
+returns-4 c = λ e spot.
+    let s = c .before .before .before .before .before in
+    let job = s .args .job .now in
+    let i = s .args .place in
+    let a = c .before .before .before .before .shared-slice-known .given i in
+    let v : two-of job i ≡ at job i = omega (arith, a) in
+    bounded-gives job 1 255 15 spot i (rw v at (sym (two job i (omega arith) (omega arith) (omega arith) (omega arith) (omega arith)))) (omega arith) (omega (arith, a))
+
+pub gear-end-spec : {M : Type 1} → statement M
+gear-end-spec =
+    tie.close
+    (tie.spec (λ c. search needs) (λ c. λ e. absurd (omega (arith, e))) (λ c. search needs) returns-2 (λ c. search needs) (λ c. search needs) (λ c. λ e. absurd (omega (arith, e))) (λ c. search needs) returns-4)

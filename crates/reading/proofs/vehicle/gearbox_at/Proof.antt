@@ -1,0 +1,34 @@
+-- `reading::vehicle::gearbox_at` meets its contract: one law for each `return`.
+-- Assumes nothing.
+use Rattle.rules.proofs.Base.{_+_, arith, needs}
+use Rattle.reading.proofs.GroupAnswers.{bounded-in}
+use Rattle.reading.proofs.StageAnswers.{gearbox-stops, gearbox-on}
+use Rattle.reading.proofs.vehicle.gearbox_at.Statement.{statement}
+use Rattle.reading.proofs.vehicle.gearbox_at.Tie as tie
+
+returns : tie.Need-returns
+returns c =
+    let c₁ = c .before .before .before in
+    let s = c₁ .before .before in
+    let g = c .before .enum-told .given .1 in
+    rw (c .came .ensures, g) (gearbox-stops (s .args .job .now) (s .args .at) (s .args .profile) (rw g at (c₁ .bounded .ensures)))
+
+fill-requires : tie.Need-fill-requires
+fill-requires c κs =
+    let c₁ = c .before .before in
+    let c₂ = c₁ .before .before in
+    let s = c₂ .before .before in
+    let b = bounded-in (s .args .job .now) (2 + s .args .profile) 10 3 1 (s .args .at) (rw (c₁ .count .given .1) at (c₂ .bounded .ensures)) in omega arith
+
+returns-2 : tie.Need-returns-2
+returns-2 c =
+    let c₁ = c .before .before .before .before in
+    let c₂ = c₁ .before .before in
+    let s = c₂ .before .before in
+    gearbox-on (s .args .job .now) (s .args .at) (s .args .profile) (rw (c₁ .count .given .1) at (c₂ .bounded .ensures)) (c .before .fill .result) (c .before .fill .last .1 .1 .1 .0) (c .before .fill .ensures)
+
+pub gearbox-at-spec : {M : Type 1} → statement M
+gearbox-at-spec =
+    tie.close
+    (tie.spec (λ c. search needs) (λ c κs. search needs) (λ c. search needs) (λ c. search needs) (λ c κs. search needs)
+    returns (λ c. search needs) (λ c. search needs) fill-requires returns-2)

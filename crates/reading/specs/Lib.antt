@@ -1,0 +1,5 @@
+-- What the reader promises, and what the functions inside it answer.
+pub mod Reader
+pub mod Progress
+pub mod Calm
+pub mod Lent

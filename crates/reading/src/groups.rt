@@ -1,0 +1,185 @@
+// Groups: read with every test while the job is judged, and with none where they were judged before.
+ghost use mathlib.Core.Path.{_≡_};
+ghost use mathlib.Core.Bool.{true};
+ghost use Prim.Native.Nat.{_≤_};
+ghost use lib.ListN.{length};
+ghost use Rattle.rules.specs.Refusals.{fault};
+ghost use Rattle.rules.specs.Groups.{got, group};
+ghost use Rattle.rules.specs.Forms.{value, bounded, many};
+ghost use Rattle.reading.specs.Reader.{group-as};
+ghost use lib.Seq.{sets};
+ghost use Rattle.reading.specs.Progress.{reached, Comes, Short, used};
+use crate::Brief;
+use crate::Came;
+use crate::Group;
+use crate::Judged;
+use crate::calm::calm_end;
+use rules::Refusal;
+
+// A group: seven bits a byte, least significant first, the top bit set when more follow; one to three bytes, shortest form only.
+pub fn group_at(job: &[u8], at: usize) -> Group
+    ensures { λ r. ⌜ group-as r ≡ group (now (job .entry)) at ⌝ }
+{
+    let end = job.len();
+    if end <= at {
+        return Group::Fault(Refusal::JobEndsEarly(end));
+    }
+    let a = job[at] as u32;
+    if a < 128 {
+        return Group::Value(a as u16, at + 1);
+    }
+    if end <= at + 1 {
+        return Group::Fault(Refusal::JobEndsEarly(end));
+    }
+    let b = job[at + 1] as u32;
+    let two = a % 128 + 128 * (b % 128);
+    if b < 128 {
+        // A last byte of 0 adds nothing: there is a shorter form.
+        if b == 0 {
+            return Group::Fault(Refusal::BadGroup(at));
+        }
+        return Group::Value(two as u16, at + 2);
+    }
+    if end <= at + 2 {
+        return Group::Fault(Refusal::JobEndsEarly(end));
+    }
+    let c = job[at + 2] as u32;
+    let three = two + 16384 * c;
+    if c == 0 {
+        return Group::Fault(Refusal::BadGroup(at));
+    }
+    // A third byte that says more follow takes the value over 65,535 too.
+    if 65535 < three {
+        return Group::Fault(Refusal::BadGroup(at));
+    }
+    Group::Value(three as u16, at + 3)
+}
+
+// A group from lo to hi; another is refused as the caller says.
+pub fn bounded(job: &[u8], at: usize, lo: u16, hi: u16, refusal: Refusal) -> Group
+    ensures { λ r. ⌜ group-as r ≡ bounded lo hi (fault refusal .no) (fault refusal .spot) .read (now (job .entry)) at ⌝ }
+{
+    let g = group_at(job, at);
+    let Group::Value(v, next) = g else {
+        return g;
+    };
+    if v < lo {
+        return Group::Fault(refusal);
+    }
+    if hi < v {
+        return Group::Fault(refusal);
+    }
+    Group::Value(v, next)
+}
+
+// So many groups, into the start of a room of the reader's own.
+pub fn fill(job: &[u8], at: usize, count: usize, values: &mut [u16]) -> Came
+    requires { ⌜ count ≤ length (now values) ⌝ }
+    ensures { λ r. ⌜ reached r (now (values .exit)) ≡ used (sets (now (values .entry)) 0) (many value count) (now (job .entry)) at ⌝ }
+{
+    let mut next = at;
+    let mut i = 0;
+    while i < count {
+        let g = group_at(job, next);
+        let Group::Value(v, after) = g else {
+            return g.came();
+        };
+        values[i] = v;
+        next = after;
+        i += 1;
+    }
+    Came::To(next)
+}
+
+// So many groups, judged and not kept.
+fn skip(job: &[u8], at: usize, count: usize) -> Came
+    ensures { λ r. ⌜ reached r true ≡ used (λ vs. true) (many value count) (now (job .entry)) at ⌝ }
+{
+    let mut next = at;
+    let mut i = 0;
+    while i < count {
+        let g = group_at(job, next);
+        let Group::Value(_, after) = g else {
+            return g.came();
+        };
+        next = after;
+        i += 1;
+    }
+    Came::To(next)
+}
+
+// So many speeds, judged and not kept: by their bytes, and one after the other where that does not do.
+pub fn judge_speeds(job: &[u8], at: usize, count: usize) -> Came
+    requires { ⌜ (1 ≤ count) × (count ≤ 65535) ⌝ }
+    ensures { λ r. ⌜ reached r true ≡ used (λ vs. true) (many value count) (now (job .entry)) at ⌝ }
+{
+    let end = calm_end(job, at, count);
+    if end == 0 {
+        return skip(job, at, count);
+    }
+    Came::To(end)
+}
+
+// A group that was judged, so nothing is left to test but how long it is.
+pub fn value_at(job: &[u8], at: usize) -> Judged
+    requires { ⌜ Comes (group (now job) at) ⌝ }
+    ensures { λ r. ⌜ got (r .value) (r .next) ≡ group (now (job .entry)) at ⌝ }
+{
+    let a = job[at] as u32;
+    if a < 128 {
+        return Judged {
+            value: a as u16,
+            next: at + 1,
+        };
+    }
+    let b = job[at + 1] as u32;
+    // The top bits, 128 of the first byte and 128 times 128 of the second, are no part of the value.
+    if b < 128 {
+        let two = a + 128 * b - 128;
+        return Judged {
+            value: two as u16,
+            next: at + 2,
+        };
+    }
+    let c = job[at + 2] as u32;
+    let three = a + 128 * b + 16384 * c - 16512;
+    Judged {
+        value: three as u16,
+        next: at + 3,
+    }
+}
+
+// The same of a value below 16,384, which has one byte or two.
+pub fn short_at(job: &[u8], at: usize) -> Brief
+    requires { ⌜ Short (group (now job) at) ⌝ }
+    ensures { λ r. ⌜ got (r .value) (r .next) ≡ group (now (job .entry)) at ⌝ }
+{
+    let a = job[at] as usize;
+    if a < 128 {
+        return Brief {
+            value: a,
+            next: at + 1,
+        };
+    }
+    let b = job[at + 1] as usize;
+    Brief {
+        value: a + 128 * b - 128,
+        next: at + 2,
+    }
+}
+
+// A room is filled with speeds that were judged; answers the place after them.
+pub fn put_speeds(job: &[u8], at: usize, room: &mut [u16]) -> usize
+    requires { ⌜ Comes (many value (length (now room)) .read (now job) at) ⌝ }
+    ensures { λ r. ⌜ got (now (room .exit)) r ≡ many value (length (now (room .entry))) .read (now (job .entry)) at ⌝ }
+{
+    let mut next = at;
+    let mut i = 0;
+    while i < room.len() {
+        let speed = value_at(job, next);
+        room[i] = speed.value;
+        next = speed.next;
+        i += 1;
+    }
+    next
+}

@@ -1,0 +1,160 @@
+// The job reader of document 01: the first fault from left to right, and nothing written where there is one.
+ghost use mathlib.Core.Path.{_≡_};
+ghost use Rattle.reading.specs.Reader.{ReadAs};
+ghost use Rattle.reading.specs.Progress.{group-came, came-answer, nothing};
+
+mod calm;
+mod calm_holds;
+mod groups;
+mod holds;
+mod vehicle;
+
+use groups::bounded;
+pub use groups::group_at;
+use groups::judge_speeds;
+use groups::put_speeds;
+use holds::judge_holds;
+use holds::put_holds;
+use rules::Answer;
+use rules::LONGEST;
+use rules::Refusal;
+use rules::Vehicle;
+use vehicle::blank;
+use vehicle::car_at;
+
+// What reading a group answers: its value and the place after it, or why not.
+pub enum Group {
+    Value(u16, usize),
+    Fault(Refusal),
+}
+
+// How far reading came: the place after what was read, or why not.
+enum Came {
+    To(usize),
+    Fault(Refusal),
+}
+
+// A group that was judged: its value and the place after it.
+struct Judged {
+    value: u16,
+    next: usize,
+}
+
+// The same of a group in one or two bytes, or of a hold.
+struct Brief {
+    value: usize,
+    next: usize,
+}
+
+// The gears, the curve, and the version with the whole vehicle, each with how far reading came.
+struct Gearbox {
+    at: Came,
+    ng: u16,
+    ratio: [u16; 10],
+}
+
+struct Curve {
+    at: Came,
+    points: u16,
+    n: [u16; 64],
+    p: [u16; 64],
+    m: [u16; 64],
+}
+
+struct Car {
+    at: Came,
+    version: u16,
+    vehicle: Vehicle,
+}
+
+// What the reader answers; where it refuses, the version is 0, the vehicle of zeros and the count 0.
+pub struct Reading {
+    pub answer: Answer,
+    pub version: u16,
+    pub vehicle: Vehicle,
+    pub count: usize,
+}
+
+impl Group {
+    // Hands a fault up to where only the place is asked.
+    fn came(self) -> Came
+        ensures { λ r. ⌜ r ≡ group-came self ⌝ }
+    {
+        match self {
+            Group::Value(_, at) => Came::To(at),
+            Group::Fault(refusal) => Came::Fault(refusal),
+        }
+    }
+}
+
+impl Came {
+    // Hands a fault up to the reader's own answer.
+    fn answer(self) -> Answer
+        ensures { λ r. ⌜ r ≡ came-answer self ⌝ }
+    {
+        match self {
+            Came::To(_) => Answer::Done,
+            Came::Fault(refusal) => Answer::Refused(refusal),
+        }
+    }
+}
+
+// Nothing is read: how far reading came says why.
+fn nothing(at: Came) -> Reading
+    ensures { λ r. ⌜ r ≡ nothing (came-answer at) ⌝ }
+{
+    Reading {
+        answer: at.answer(),
+        version: 0,
+        vehicle: blank(),
+        count: 0,
+    }
+}
+
+// Reads a job: the vehicle, and the start of the rooms as many places as the sample count. A refusal writes nothing at all, so the whole job is
+// judged before the first place of a room is written.
+pub fn read(job: &[u8], speeds: &mut [u16], holds: &mut [u8]) -> Reading
+    ensures { λ r. ⌜ ReadAs (now (job .entry)) (now (speeds .entry)) (now (holds .entry)) r (now (speeds .exit)) (now (holds .exit)) ⌝ }
+{
+    let car = car_at(job);
+    let came = car.at;
+    let Came::To(at) = came else {
+        return nothing(came);
+    };
+    let seconds = bounded(job, at, 1, LONGEST as u16, Refusal::TraceLength);
+    let Group::Value(samples, trace) = seconds else {
+        return nothing(seconds.came());
+    };
+    let count = samples as usize;
+    if speeds.len() < count {
+        return nothing(Came::Fault(Refusal::RoomLength));
+    }
+    if holds.len() < count {
+        return nothing(Came::Fault(Refusal::RoomLength));
+    }
+    let passed = judge_speeds(job, trace, count);
+    let Came::To(at) = passed else {
+        return nothing(passed);
+    };
+    let number = group_at(job, at);
+    let Group::Value(n, first) = number else {
+        return nothing(number.came());
+    };
+    let held = n as usize;
+    let judged = judge_holds(job, first, held, samples);
+    let Came::To(end) = judged else {
+        return nothing(judged);
+    };
+    if end != job.len() {
+        return nothing(Came::Fault(Refusal::BytesAfter(end)));
+    }
+    put_speeds(job, trace, &mut speeds[..count]);
+    put_holds(job, first, held, &mut holds[..count]);
+    let vehicle = car.vehicle;
+    Reading {
+        answer: Answer::Done,
+        version: car.version,
+        vehicle,
+        count,
+    }
+}

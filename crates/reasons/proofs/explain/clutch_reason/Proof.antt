@@ -1,0 +1,37 @@
+-- `reasons::explain::clutch_reason` meets its contract: one law of the clutch for each return.
+-- Assumes nothing.
+use Rattle.reasons.proofs.Saying.{falls, rises, pedal-before, pedal-rising, pedal-slow, pedal-turns}
+use Rattle.gears.proofs.Parts.{idle-of, engine-of}
+use Rattle.rules.specs.Words.{at}
+use Rattle.rules.proofs.Base.{not-true, not-false, _≡_, sym, _∙_, arith, needs}
+use Rattle.reasons.proofs.explain.clutch_reason.Statement.{statement}
+use Rattle.reasons.proofs.explain.clutch_reason.Tie as tie
+
+returns : tie.Need-returns
+returns c = λ car H. pedal-before car _ _ _ (sym (c .before .moving .ensures) ∙ not-true (c .before .moving .result) (c .if1 .taken))
+
+returns-2 : tie.Need-returns-2
+returns-2 c = λ car H.
+    let s = c .before .before .before .before .before .before in
+    pedal-rising car _ _ _ (sym (c .before .before .before .moving .ensures) ∙ not-false (c .before .before .before .moving .result) (c .before .before .if1 .left)) (rises (s .args .speeds .now) (s .args .second) (s .pre) (c .if2 .taken))
+
+returns-3 : tie.Need-returns-3
+returns-3 c = λ car H.
+    let s = c .before .before .before .before .before .before .before .before .before .before in
+    let x = engine-of H (s .args .g) (at (s .args .speeds .now) (s .args .second)) in
+    let y = idle-of (H .counts) in
+    pedal-slow car _ _ _ (sym (c .before .before .before .before .before .before .before .moving .ensures) ∙ not-false (c .before .before .before .before .before .before .before .moving .result) (c .before .before .before .before .before .before .if1 .left)) (falls (s .args .speeds .now) (s .args .second) (s .pre) (c .before .before .before .before .if2 .left)) (omega (arith, c .if3 .taken, c .before .before .turning .ensures, x, y))
+
+returns-4 : tie.Need-returns-4
+returns-4 c = λ car H.
+    let s = c .before .before .before .before .before .before .before .before .before .before in
+    let x = engine-of H (s .args .g) (at (s .args .speeds .now) (s .args .second)) in
+    let y = idle-of (H .counts) in
+    pedal-turns car _ _ _ (sym (c .before .before .before .before .before .before .before .moving .ensures) ∙ not-false (c .before .before .before .before .before .before .before .moving .result) (c .before .before .before .before .before .before .if1 .left)) (falls (s .args .speeds .now) (s .args .second) (s .pre) (c .before .before .before .before .if2 .left)) (omega (arith, c .if3 .left, c .before .before .turning .ensures, x, y))
+
+pub clutch-reason-spec : {M : Type 1} → statement M
+clutch-reason-spec =
+    tie.close
+    (tie.spec (λ c. search needs) (λ c. search needs) (λ c κs. search needs) returns (λ c. search needs)
+    (λ c. search needs) (λ c. search needs) returns-2 (λ c κs. search needs) (λ c. search needs) (λ c. search needs)
+    returns-3 returns-4)

@@ -1,0 +1,29 @@
+-- `reasons::facts::gear_facts` meets its contract: a gear below the lowest, one above ng, and one that is driven.
+-- Assumes nothing.
+use Rattle.rules.proofs.Base.{arith, _≡_, _∙_, toZ-ofZ, needs}
+use Rattle.reasons.proofs.Gears.{facts-below, facts-above, facts-driven, driven-gear, engine-small}
+use Rattle.reasons.proofs.facts.gear_facts.Statement.{statement}
+use Rattle.reasons.proofs.facts.gear_facts.Tie as tie
+
+returns : tie.Need-returns
+returns c = λ car d L e. c .no-facts .ensures ∙ facts-below (L .has .counts) _ _ d _ (omega (arith, c .before .if1 .taken, c .before .before .lowest .ensures))
+
+returns-2 : tie.Need-returns-2
+returns-2 c = λ car d L e. c .no-facts2 .ensures ∙ facts-above (L .has .counts) _ _ d _ (omega (arith, c .before .before .before .if1 .left, c .before .before .before .before .lowest .ensures)) (omega (arith, c .before .if2 .taken))
+
+listed-power-requires : tie.Need-listed-power-requires
+listed-power-requires c κs = (c .before .before .before .before .pre .0, driven-gear (c .before .before .before .before .pre .0) (omega (arith, c .before .before .if1 .left, c .before .before .before .lowest .ensures)) (omega (arith, c .if2 .left)))
+
+driven-facts-requires : tie.Need-driven-facts-requires
+driven-facts-requires c κs =
+    let s = c .before .before .before .before .before in
+    (driven-gear (s .pre .0) (omega (arith, c .before .before .before .if1 .left, c .before .before .before .before .lowest .ensures)) (omega (arith, c .before .if2 .left)), record { sized = c .listed-power .ensures .1; e-in = rw (toZ-ofZ (s .fits .e)) (s .pre .1) }, engine-small (s .pre .0) _ (omega (arith, c .before .before .before .if1 .left, c .before .before .before .before .lowest .ensures)) (omega (arith, c .before .if2 .left)) (omega arith))
+
+returns-3 : tie.Need-returns-3
+returns-3 c = λ car d L e. c .driven-facts .ensures car d (L .has) (toZ-ofZ (c .before .before .before .before .before .before .fits .e) ∙ e) (c .before .listed-power .ensures .0 car L) ∙ facts-driven (L .has .counts) _ _ d _ (omega (arith, c .before .before .before .before .if1 .left, c .before .before .before .before .before .lowest .ensures)) (omega (arith, c .before .before .if2 .left))
+
+pub gear-facts-spec : {M : Type 1} → statement M
+gear-facts-spec =
+    tie.close
+    (tie.spec (λ c κs. search needs) (λ c κs. search needs) returns (λ c. search needs) (λ c κs. search needs) returns-2
+    listed-power-requires driven-facts-requires returns-3)

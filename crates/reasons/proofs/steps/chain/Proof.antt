@@ -1,0 +1,50 @@
+-- `reasons::steps::chain` meets its contract: what each stage leaves is what the next one finds.
+-- Assumes nothing.
+use Rattle.rules.proofs.Base.{needs, length, _≡_, refl, sym, ap, _∙_, suc, arith}
+use Rattle.reasons.proofs.Stages.{chain-is, B-long, B-low}
+use Rattle.trips.proofs.Trip.{moves-on, gears-few}
+use Rattle.rules.proofs.Laws.Held.{length-firsts}
+use Rattle.reasons.proofs.steps.chain.Statement.{statement}
+use Rattle.reasons.proofs.steps.chain.Tie as tie
+
+closing-from-requires : tie.Need-closing-from-requires
+closing-from-requires c κs = let s = c .before .before .before in (moves-on (s .pre .1), omega (arith, s .pre .1 .lists .speeds))
+
+choose-at-requires : tie.Need-choose-at-requires
+choose-at-requires c κs = let s = c .before .before .before .before .before in (s .pre .0, s .pre .1, s .pre .2, c .before .closing-from .ensures)
+
+peak-at-requires : tie.Need-peak-at-requires
+peak-at-requires c κs = let s = c .before .before .before .before .before .before .before .before .before .before .before in (gears-few (s .pre .0), record { speeds = s .pre .1 .lists .speeds; gears = search needs }, s .pre .2)
+
+rising-at-requires : tie.Need-rising-at-requires
+rising-at-requires c κs = let s = c .before .before .before .before .before .before .before .before .before .before .before .before .before .before .before in (gears-few (s .pre .0), record { speeds = s .pre .1 .lists .speeds; gears = search needs }, s .pre .2)
+
+ceiling-in-requires : tie.Need-ceiling-in-requires
+ceiling-in-requires c κs =
+    let s = c .before .before .before .before .before .before .before .before .before .before .before .before .before .before .before .before .before .before .before in
+    let L = s .pre .0 .lent in
+    B-low (s .pre .0 .car) (s .args .us .now) (s .args .hs .now) (s .args .j) (c .before .before .before .before .before .before .before .before .before .before .before .before .before .choose-at .ensures .1 _ L) (c .before .before .before .before .before .before .before .peak-at .ensures .1 _ (L .has)) (c .before .before .before .rising-at .ensures .1 _ (L .has)) refl L (s .pre .1) (s .pre .2)
+
+slowing-at-requires : tie.Need-slowing-at-requires
+slowing-at-requires c κs =
+    let s = c .before .before .before .before .before .before .before .before .before .before .before .before .before .before .before .before .before .before .before .before .before in
+    let L = s .pre .0 .lent in
+    let long = B-long (s .pre .0 .car) (s .args .us .now) (s .args .hs .now) (s .args .j) (c .before .before .before .before .before .before .before .before .before .before .before .before .before .before .before .choose-at .ensures .1 _ L) (c .before .before .before .before .before .before .before .before .before .peak-at .ensures .1 _ (L .has)) (c .before .before .before .before .before .rising-at .ensures .1 _ (L .has)) refl in
+    (gears-few (s .pre .0), record { us = s .args .us .now; speeds = s .pre .1 .lists .speeds; gears = long; run = c .before .before .before .before .before .before .before .before .before .before .before .before .before .before .before .before .before .closing-from .ensures }, s .pre .2)
+
+returns : tie.Need-returns
+returns c = λ car L.
+    let s = c .before .before .before .before .before .before .before .before .before .before .before .before .before .before .before .before .before .before .before .before .before .before .before .before in
+    let us = s .args .us .now in
+    let hs = s .args .hs .now in
+    let run = c .before .before .before .before .before .before .before .before .before .before .before .before .before .before .before .before .before .before .before .before .closing-from .ensures in
+    let f = c .before .before .before .before .before .before .before .before .before .before .before .before .before .before .before .before .before .before .choose-at .ensures .1 car L in
+    chain-is car us hs (s .args .j) f (c .before .before .before .before .before .before .before .before .before .before .before .before .peak-at .ensures .1 car (L .has)) (c .before .before .before .before .before .before .before .before .rising-at .ensures .1 car (L .has)) (c .before .before .slowing-at .ensures .1 car us (L .has .counts) (s .pre .1 .lists .speeds) run)
+    (c .before .before .before .before .before .before .before .before .before .before .before .before .before .before .role-in .ensures car us hs (L .has .counts) (s .pre .1 .lists .speeds ∙ ap suc (sym (ap length f ∙ length-firsts car us hs))) run)
+    (c .before .before .before .before .before .before .before .before .before .before .before .before .before .before .before .before .before .before .choose-at .ensures .0) (c .before .before .before .before .before .before .before .before .before .before .before .before .peak-at .ensures .0) (c .before .before .before .before .before .before .before .before .rising-at .ensures .0) (c .before .before .slowing-at .ensures .0) (c .before .before .before .before .ceiling-in .ensures car)
+
+pub chain-spec : {M : Type 1} → statement M
+chain-spec =
+    tie.close
+    (tie.spec closing-from-requires choose-at-requires (λ c κs. search needs) peak-at-requires rising-at-requires
+    ceiling-in-requires slowing-at-requires (λ c. search needs) returns)

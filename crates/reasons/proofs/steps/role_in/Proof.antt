@@ -1,0 +1,24 @@
+-- `reasons::steps::role_in` meets its contract: one law of the role for each return.
+-- Assumes nothing.
+use Rattle.rules.proofs.Base.{_-_, _≡_, sym, _∙_, arith, needs}
+use Rattle.reasons.proofs.Stages.{role-first, role-closing, role-after, role-inner}
+use Rattle.reasons.proofs.steps.role_in.Statement.{statement}
+use Rattle.reasons.proofs.steps.role_in.Tie as tie
+
+returns-2 : tie.Need-returns-2
+returns-2 c = λ car us hs C l R. role-closing car us hs _ _ R (omega (arith, l, c .before .before .before .pre)) (c .before .if1 .left) (omega (arith, c .if2 .taken))
+
+returns-3 : tie.Need-returns-3
+returns-3 c = λ car us hs C l R. role-after car us hs _ _ R (omega (arith, l, c .before .before .before .before .before .before .pre)) (c .before .before .before .before .if1 .left) C (omega (arith, c .before .before .before .if2 .left)) (c .if3 .taken ∙ c .before .lowest .ensures)
+
+returns-4 : tie.Need-returns-4
+returns-4 c = λ car us hs C l R. role-inner car us hs _ _ R (omega (arith, l, c .before .before .before .before .before .before .pre)) (c .before .before .before .before .if1 .left) C (omega (arith, c .before .before .before .if2 .left)) (λ z. c .if3 .left (z ∙ sym (c .before .lowest .ensures)))
+
+pub role-in-spec : {M : Type 1} → statement M
+role-in-spec =
+    tie.close
+    (tie.spec
+    (λ c. λ car us hs C l R. role-first car us hs _ _ (c .if1 .taken))
+    returns-2 (λ c. search needs) (λ c. search needs)
+    (λ c. omega (arith, c .shared-slice-known2 .given (c .before .before .before .before .args .j - 1)))
+    (λ c κs. search needs) returns-3 returns-4)

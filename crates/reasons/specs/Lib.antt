@@ -1,0 +1,3 @@
+-- What the functions that explain a second ask of their arguments, and the words of the theorems on what they say.
+pub mod Asks
+pub mod Says

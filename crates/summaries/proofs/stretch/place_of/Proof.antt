@@ -1,0 +1,23 @@
+-- `summaries::stretch::place_of` meets its contract. One line for each return.
+-- Assumes nothing.
+use Rattle.rules.proofs.Base.{ℕ, _≤_, _≡_, sym, _∙_, needs}
+use Rattle.rules.specs.Units.{moving}
+use Rattle.summaries.specs.Tallies.{placed}
+use Rattle.summaries.proofs.Counting.{placed-to}
+use Rattle.summaries.proofs.stretch.place_of.Statement.{statement}
+use Rattle.summaries.proofs.stretch.place_of.Tie as tie
+
+-- a place is one of the 17
+both : {r : ℕ} (v byte : ℕ) → r ≡ placed v byte → (r ≡ placed v byte) × (r ≤ 16)
+both v byte e = (e, rw e (placed-to v byte))
+
+returns : tie.Need-returns
+unfolding placed
+returns c = both _ _ (rw (sym (c .before .moving .ensures) ∙ c .if1 .taken))
+
+returns-2 : tie.Need-returns-2
+unfolding placed
+returns-2 c = both _ _ (rw (sym (c .before .moving .ensures) ∙ c .if1 .left))
+
+pub place-of-spec : {M : Type 1} → statement M
+place-of-spec = tie.close (tie.spec (λ c κs. search needs) (λ c. search needs) returns returns-2)

@@ -1,0 +1,28 @@
+-- The contract of `write` as the check reads it: it asks nothing, and what it says of the room past what it writes.
+-- Assumes nothing.
+use Rattle.rules.proofs.Base.{ℕ, _≤_, _≡_, sym, ap, _∙_, List, now, Lasts, atExit, Lfts, Dens, endedOf, resT}
+use Rattle.rules.specs.declared.Vehicle.{Vehicle}
+use Rattle.rules.specs.Words.{at}
+use Rattle.rules.specs.Write.{job-bytes, write-fault, write-room}
+use Rattle.rules.proofs.Laws.Rooms.{left-beyond}
+use Rattle.writing.specs.declared.Written.{Written}
+use Rattle.writing.specs.Writing.{WriteAs}
+use Rattle.writing.proofs.writer.write.Kinds as write-kinds
+use Rattle.writing.proofs.writer.write.Reads as write-reads
+
+-- demand 1: every version, vehicle, trace, holds and room get an answer, for `write` asks nothing of its caller
+pub write-asks-nothing : (κs : Lfts 2) (a : Dens κs write-kinds.ps) → write-reads.Asked κs a
+write-asks-nothing κs a = tt
+
+-- what its contract says
+pub write-says : (κs : Lfts 2) (a : Dens κs write-kinds.ps) → write-reads.Asked κs a → (z : resT write-kinds.r κs .Denot) (ws : Lasts (endedOf 2 write-kinds.ps write-kinds.r) κs a)
+    → write-reads.Learnt κs a z (atExit (endedOf 2 write-kinds.ps write-kinds.r) κs a ws)
+    → WriteAs (a .0) (a .1 .0) (now (a .1 .1 .0)) (now (a .1 .1 .1 .0)) (now (a .1 .1 .1 .1 .0)) z (ws .1 .1 .1 .1 .0)
+write-says κs a asked z ws p = p
+
+-- request One: "room beyond is untouched": past as many places as bytes were written, none in a refusal
+pub write-beyond : {v : ℕ} {car : Vehicle} {vs hs room : List ℕ} {w : Written} {room′ : List ℕ} → WriteAs v car vs hs room w room′
+    → (i : ℕ) → w .length ≤ i → at room′ i ≡ at room i
+unfolding write-room
+write-beyond {v} {car} {vs} {hs} {room} W i l =
+    ap (λ (m : List ℕ). at m i) (W .room-left) ∙ left-beyond (write-fault v car vs hs room) room (job-bytes v car vs hs) i (rw (← W .the-length) l)

@@ -1,0 +1,16 @@
+-- Each public function's contract allows one outcome. `Reads` is the contract's own reading, which the check makes of the clauses.
+-- Assumes nothing.
+use mathlib.Core.Path.{sym, _∙_}
+use Rattle.once.specs.Determined.{Determined}
+use Rattle.rules.proofs.Laws.Refusals.{said-once}
+use Rattle.writing.proofs.writer.write.Kinds as write-kinds
+use Rattle.writing.proofs.writer.write.Reads as write-reads
+
+pub write : Determined write-kinds.ps write-kinds.r write-reads.Asked write-reads.Learnt
+write κs a asked z z′ ws ws′ p q = (
+  λ i. record {
+    answer = said-once (z .answer) (z′ .answer) (p .answered ∙ sym (q .answered)) i;
+    length = (p .the-length ∙ sym (q .the-length)) i;
+  },
+  λ i. (tt, (tt, (tt, (tt, ((p .room-left ∙ sym (q .room-left)) i, tt))))),
+)

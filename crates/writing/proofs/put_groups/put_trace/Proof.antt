@@ -1,0 +1,26 @@
+-- `writing::put_groups::put_trace` meets its contract: the count, and the speeds after it.
+-- Assumes nothing.
+use Rattle.rules.proofs.Base.{arith, length, length-append, needs}
+use Rattle.rules.specs.Groups.{form}
+use Rattle.writing.specs.Writing.{values-bytes}
+use Rattle.reading.proofs.PutInTurn.{put-both}
+use Rattle.writing.proofs.put_groups.put_trace.Statement.{statement}
+use Rattle.writing.proofs.put_groups.put_trace.Tie as tie
+
+put-group-requires : tie.Need-put-group-requires
+put-group-requires c κs =
+    let s = c .before .before .before in
+    let vs = s .args .speeds .now in
+    omega (arith, s .pre .2, length-append (form (length vs)) (values-bytes vs (length vs)))
+
+put-speeds-requires : tie.Need-put-speeds-requires
+put-speeds-requires c κs =
+    let s = c .before .before .before .before .before .before .before in
+    let vs = s .args .speeds .now in
+    (s .pre .0, omega (arith, s .pre .2, c .before .before .before .put-group .ensures, length-append (form (length vs)) (values-bytes vs (length vs))))
+
+returns : tie.Need-returns
+returns c = put-both (c .before .before .before .before .before .before .put-group .ensures) (c .before .before .put-speeds .ensures)
+
+pub put-trace-spec : {M : Type 1} → statement M
+put-trace-spec = tie.close (tie.spec (λ c. search needs) put-group-requires put-speeds-requires (λ c. search needs) returns)

@@ -1,0 +1,33 @@
+-- `writing::writer::check_job` meets its contract: one law of `Checked` for each `return`.
+-- Assumes nothing.
+use Rattle.rules.proofs.Base.{refl, sym, arith, needs}
+use Rattle.gears.specs.Parts.{Counts, Has}
+use Rattle.checks.proofs.Rows.{Opened, spanned}
+use Rattle.writing.proofs.Checked.{job-told, told-opened, job-seconds}
+use Rattle.writing.proofs.writer.check_job.Statement.{statement}
+use Rattle.writing.proofs.writer.check_job.Tie as tie
+
+-- 14, 1, 2 and 3 have passed
+opened-at : (p : tie.After-enum-told) → let s = p .before .before .before .before .before in Opened (s .args .t2) (s .args .speeds .now) (s .args .holds .now) (s .args .holds .now)
+opened-at p = let s = p .before .before .before .before .before in told-opened (s .args .version) (s .args .t2) (s .args .speeds .now) (s .args .holds .now) (p .before .before .check-told .ensures _ _ refl refl) (p .enum-told .given .1)
+
+-- the numbers are the vehicle's
+counts-at : (c : tie.After-numbers-of) → Counts (c .before .before .before .before .before .before .args .t2) (c .numbers-of .result)
+counts-at c = record { numbers = sym (c .numbers-of .ensures) }
+
+returns : tie.Need-returns
+returns c = let s = c .before .before .before .before .before in job-told (s .args .version) (s .args .t2) (s .args .speeds .now) (s .args .holds .now) (c .before .before .check-told .ensures _ _ refl refl) (c .enum-told2 .given .1)
+
+check-seconds-requires : tie.Need-check-seconds-requires
+check-seconds-requires c κs = (spanned (counts-at (c .before .before)) (opened-at (c .before .before .before)) (omega arith) (omega arith), omega arith)
+
+returns-2 : tie.Need-returns-2
+returns-2 c =
+    let p = c .before .before .before .before in
+    let s = p .before .before .before .before .before in
+    job-seconds (s .args .version) (s .args .t2) (s .args .speeds .now) (s .args .holds .now) (p .before .before .check-told .ensures _ _ refl refl) (p .enum-told .given .1) 0 0 _
+    (c .check-seconds .ensures _ (record { counts = counts-at (c .before .before .before); ratios = refl }))
+
+pub check-job-spec : {M : Type 1} → statement M
+check-job-spec =
+    tie.close (tie.spec (λ c κs. search needs) (λ c. search needs) (λ c. search needs) returns (λ c κs. search needs) check-seconds-requires returns-2)
