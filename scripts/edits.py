@@ -1,4 +1,5 @@
-"""Edits of a crate, as the files of its must-fail/ and trials/ have them: what an edit says, which function's body it changes, and how it is applied.
+"""Edits of a crate, as the files of its must-fail/ and trials/ have them: what an edit says, which function's body or contract it changes, and how it is
+applied.
 
 A file's lines: `file: PATH`, then pairs `old: TEXT` and `new: TEXT` that hold for that file; any other line is a comment. The old text must stand
 exactly once in its file. PATH lies in src/ or specs/: an edit of a proof shows nothing.
@@ -64,20 +65,25 @@ def _source(crate: Path, file: str) -> str:
         raise BadEdit(f"{file} cannot be read") from error
 
 
-@dataclass(frozen=True)
-class Body:
-    """Where the body of a function stands in its file, from behind its `{` to before its `}`. Its path is that of its proof below proofs/."""
+BODY, CONTRACT = "body", "contract"
 
-    path: str
+
+@dataclass(frozen=True)
+class Part:
+    """Where a function's body stands in its file, from behind its `{` to before its `}`, or its contract, from its first clause to that `{`. The path is
+    that of the function's proof below proofs/."""
+
+    function: str
+    kind: str
     begin: int
     end: int
 
 
-def bodies(file: str, text: str) -> list[Body]:
+def parts(file: str, text: str) -> list[Part]:
     """The functions of a source file that is laid out as rt fmt has it."""
     module = "/".join(Path(file).with_suffix("").parts[1:])
     inside = [] if module in ("lib", "main") else [module]
-    found, at, owner, head, begin = [], 0, [], None, 0
+    found, at, owner, head, clauses, begin = [], 0, [], None, None, 0
     for line in text.split("\n"):
         if impl := re.match(r"impl (\w+)", line):
             owner = [impl[1]]
@@ -85,30 +91,48 @@ def bodies(file: str, text: str) -> list[Body]:
             owner = []
         if head is None:
             head = re.match(r"(\s*)(?:pub )?(?:extern \"C\" )?fn (\w+)", line)
-            begin = 0
-        if head and not begin and line.endswith("{") and not re.match(r"\s*(requires|ensures|ghost)\b", line):
+            clauses, begin = None, 0
+        clause = re.match(r"\s*(requires|ensures|ghost)\b", line)
+        if head and not begin and clause and clauses is None:
+            clauses = at
+        if head and not begin and line.endswith("{") and not clause:
             begin = at + len(line)
+            path = "/".join(inside + (owner if head[1] else []) + [head[2]])
+            if clauses is not None:
+                found.append(Part(path, CONTRACT, clauses, begin - 1))
         elif head and begin and line == head[1] + "}":
-            found.append(Body("/".join(inside + (owner if head[1] else []) + [head[2]]), begin, at))
+            found.append(Part(path, BODY, begin, at))
             head = None
         at += len(line) + 1
     return found
 
 
-def function_of(edit: Edit, crate: Path) -> str | None:
-    """The path of the one function whose body holds all that the edit changes; None where it changes anything else."""
-    functions = set()
+def functions(crate: Path) -> set[str]:
+    """The paths of all functions of a crate."""
+    files = [path.relative_to(crate).as_posix() for path in crate.glob("src/**/*.rt")]
+    return {part.function for file in files for part in parts(file, _source(crate, file))}
+
+
+def part_of(edit: Edit, crate: Path) -> tuple[str, str] | None:
+    """The one function whose body, or whose contract, holds all that the edit changes, and which of the two; None where it changes anything else."""
+    found = set()
     for file, new in edited(edit, crate).items():
         old = _source(crate, file)
         changed = _changed(old, new)
         grown = len(new) - len(old)
-        for body in bodies(file, old):
-            if body.begin <= changed[0] and changed[1] <= body.end and Body(body.path, body.begin, body.end + grown) in bodies(file, new):
-                functions.add((file, body.path))
+        for part in parts(file, old):
+            if part.begin <= changed[0] and changed[1] <= part.end and Part(part.function, part.kind, part.begin, part.end + grown) in parts(file, new):
+                found.add((file, part.function, part.kind))
                 break
         else:
             return None
-    return functions.pop()[1] if len(functions) == 1 else None
+    return found.pop()[1:] if len(found) == 1 else None
+
+
+def function_of(edit: Edit, crate: Path) -> str | None:
+    """The path of the one function whose body holds all that the edit changes; None where it changes anything else."""
+    part = part_of(edit, crate)
+    return part[0] if part and part[1] == BODY else None
 
 
 def _changed(old: str, new: str) -> tuple[int, int]:
@@ -122,7 +146,7 @@ def _changed(old: str, new: str) -> tuple[int, int]:
 
 
 def apply(batch: list[Edit], crate: Path) -> dict[str, str]:
-    """The new text of each file that the edits change. Several edits are of the bodies of different functions, which so do not meet."""
+    """The new text of each file that the edits change. Several edits are of different functions, and so do not meet."""
     if len(batch) == 1:
         return edited(batch[0], crate)
     spans: dict[str, list[tuple[int, int, str]]] = {}

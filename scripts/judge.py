@@ -1,6 +1,6 @@
 """The judge of the edits that must be refused: what a check's log shows of an edit.
 
-An edit passes only where rt ended with status 1, the prover was reached, and the first error of what was edited is a fact: a statement that no longer
+An edit passes only where rt, or its prover, ended with status 1, the prover was reached, and the first error of what was edited is a fact: a statement that no longer
 follows.
 What is no fact:
   - an error in src/ or specs/, where no proof stands: the edit itself does not parse, resolve or fit its types;
@@ -10,6 +10,7 @@ A function that has no proof file is refused for a fact where the search for its
 """
 
 import re
+from collections.abc import Callable
 from dataclasses import dataclass
 
 REFUSED = re.compile(r"^logic=not-proved", re.M)
@@ -26,9 +27,13 @@ UNFIT = re.compile(
 )
 
 
+# Of a file of proofs/ and a declaration there: the functions whose contracts it reads, None where it has no such declaration.
+Reads = Callable[[str, str], set[str] | None]
+
+
 @dataclass(frozen=True)
 class Run:
-    """A check of a crate: rt's status, what it printed, and the folder of the crate that it read."""
+    """A check of a crate: the prover's status, what it printed, and the folder of the crate that it read."""
 
     status: int
     log: str
@@ -100,7 +105,7 @@ def refused(run: Run, function: str | None = None) -> Verdict:
     if run.status == 0:
         return Verdict(False, f"not refused{first}")
     if run.status != 1:
-        return Verdict(False, f"rt ended with status {run.status}: {_last_line(run.log)}")
+        return Verdict(False, f"the prover ended with status {run.status}: {_last_line(run.log)}")
     if not REFUSED.search(run.log):
         return Verdict(False, f"it did not reach the prover{first}")
     if function is not None:
@@ -115,16 +120,30 @@ def _by_first(found: list[Error]) -> Verdict:
     return Verdict(wrong is None, f"{wrong or 'refused'}: {_short(found[0], 160 if wrong is None else 600)}")
 
 
-def in_batch(run: Run, functions: list[str], crate: str) -> dict[str, Verdict]:
-    """On edits of the bodies of several functions that were tried in one check: the functions whose edit it shows refused. A function is judged by
-    its own body and the contracts of others, so an error in its own proof is its own edit's. Where an error stands anywhere else, the check shows
-    nothing."""
+def in_batch(run: Run, functions: list[str], crate: str, contracts: frozenset[str] = frozenset(), reads: Reads = lambda file, name: None) -> dict[str, Verdict]:
+    """On edits of several functions that were tried in one check, of their bodies or, of those in `contracts`, of their contracts: the functions whose edit
+    it shows refused. A function is judged by its own body and the contracts of those that it calls, of which none is edited here; so an error in its own
+    proof is its own edit's. An error of any other theorem is the edit's of the one contract here that it reads. Where an error stands anywhere else, the
+    check shows nothing."""
     found = errors(run)
-    mine = {function: own(found, function) for function in functions}
-    if run.status != 1 or not REFUSED.search(run.log) or sum(map(len, mine.values())) != len(found):
+    owners = [_owner(error, functions, contracts, reads) for error in found]
+    if run.status != 1 or not REFUSED.search(run.log) or None in owners:
         return {}
+    mine = {function: [error for error, owner in zip(found, owners) if owner == function] for function in functions}
     verdicts = {function: _by_first(own_errors) for function, own_errors in mine.items() if not _names(own_errors, set(functions) - {function}, crate)}
     return {function: verdict for function, verdict in verdicts.items() if verdict.passed}
+
+
+def _owner(error: Error, functions: list[str], contracts: frozenset[str], reads: Reads) -> str | None:
+    """The function whose edit an error shows refused, where it is told."""
+    file = error.place.split(":")[0]
+    for function in functions:
+        if file == _proof(function):
+            return function
+    name = re.match(r"error(?:\[[\w-]+\])?: `([^`]+)`:", error.message)
+    read = reads(file, name[1]) if name and contracts else None
+    owners = (read or set()) & contracts
+    return owners.pop() if len(owners) == 1 else None
 
 
 def _names(found: list[Error], functions: set[str], crate: str) -> bool:
@@ -137,7 +156,7 @@ def harmless(run: Run) -> Verdict:
     if run.status == 0 and PROVED.search(run.log):
         return Verdict(True, "stays proved")
     found = errors(run)
-    return Verdict(False, f"refused: {_short(found[0])}" if found else f"rt ended with status {run.status}: {_last_line(run.log)}")
+    return Verdict(False, f"refused: {_short(found[0])}" if found else f"the prover ended with status {run.status}: {_last_line(run.log)}")
 
 
 def _short(error: Error, most: int = 600) -> str:

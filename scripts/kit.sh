@@ -30,9 +30,30 @@ unknown() { # WORD..
   fail "it does not know what to do with '$*' (--help says what it takes)"
 }
 
-# progress CRATE LOG: how far rt is with CRATE and the crates below it, by what it has printed. A crate is being proved when all below it are.
+# memory CRATE: the file that has how many seconds its first run took last on this machine, for this user: it outlives a clone.
+memory() {
+  printf '%s/gearcard/first-run-%s' "${XDG_CACHE_HOME:-${HOME:-/nonexistent}/.cache}" "$1"
+}
+
+# expected CRATE: how long its first run will take, from what it took last, or 3 minutes.
+expected() {
+  local seconds=
+  { read -r seconds <"$(memory "$1")"; } 2>/dev/null
+  [[ $seconds =~ ^[1-9][0-9]{0,4}$ ]] || seconds=180
+  if [ "$seconds" -lt 60 ]; then printf '%d s' "$seconds"; else printf '%d min' $(((seconds + 30) / 60)); fi
+}
+
+# remember CRATE SECONDS: where it cannot be kept, it is not.
+remember() {
+  local file
+  file=$(memory "$1")
+  [ "$2" -eq 0 ] || { mkdir -p "${file%/*}" && printf '%d\n' "$2" >"$file"; } 2>/dev/null || true
+}
+
+# progress CRATE LOG [EXPECTED]: how far rt is with CRATE and the crates below it, by what it has printed, and of a first run how long it will take. A crate
+# is being proved when all below it are.
 progress() {
-  awk -v crate="$1" -v seconds="$SECONDS" '
+  awk -v crate="$1" -v seconds="$SECONDS" -v expected="${3-}" '
     function visit(name,   below, n, k, waits) {
       if (name in seen) return
       seen[name]
@@ -53,10 +74,11 @@ progress() {
       printf "%s: %d of %d proved, ", now == "" ? "building " crate : now, done, all
       if (seconds >= 60) printf "%d min ", seconds / 60
       printf "%d s", seconds % 60
+      if (expected != "") printf " of about %s", expected
     }' "$top/crates.txt" "$2"
 }
 
-# show_progress CRATE LOG: rewrites one line on the terminal each second, until standard input ends, and leaves nothing of it.
+# show_progress CRATE LOG [EXPECTED]: rewrites one line on the terminal each second, until standard input ends, and leaves nothing of it.
 show_progress() {
   local columns line
   trap '' INT
@@ -75,8 +97,10 @@ show_progress() {
 # prove CRATE [WORD..]: rt check CRATE, then rt's words, which find it proved; rt check proves crates beside each other, its other words do not. What rt
 # prints is shown only where it fails. In a subshell, so that the trap is its own.
 prove() (
-  crate=$1
+  crate=$1 will_take=() begun=$SECONDS
   shift
+  # A first run: rt has proved nothing here yet.
+  [ -d "$top/target/stamp" ] || will_take=("$(expected "$crate")")
   log=$(mktemp) || exit 2
   take_back() {
     exec {line}>&-
@@ -85,13 +109,14 @@ prove() (
   trap 'take_back; rm -f "$log"' EXIT
   # An interrupt by itself would not wait until the line is gone.
   trap 'take_back; rm -f "$log"; trap - EXIT INT; kill -s INT "$BASHPID"' INT
-  if [ -t 2 ]; then exec {line}> >(show_progress "$crate" "$log"); else exec {line}>/dev/null; fi
+  if [ -t 2 ]; then exec {line}> >(show_progress "$crate" "$log" "${will_take[@]}"); else exec {line}>/dev/null; fi
   if ! (cd "$top" && rt check "$crate" && { [ $# -eq 0 ] || rt "$@"; }) </dev/null >"$log" 2>&1 {line}>&-; then
     take_back
     printf '%s: %s is not proved and built; rt says:\n' "${0##*/}" "$crate" >&2
     cat "$log" >&2
     exit 2
   fi
+  [ "${#will_take[@]}" -eq 0 ] || remember "$crate" $((SECONDS - begun))
 )
 
 # up_to_date FILE PART..: FILE is there, and no part, nor a file below one, is newer.
@@ -111,12 +136,12 @@ proved() {
   touch -cd "@$begun" "$file" || exit 2
 }
 
-# needs COMMAND PACKAGE..: from Debian's packages, where the command is missing.
+# needs COMMAND PACKAGE..: from Debian's packages, where the command is missing. Where several ask, they are installed one after the other.
 needs() {
   local command=$1
   shift
   if command -v "$command" >/dev/null; then return 0; fi
-  if ! { apt-get update && apt-get install -y --no-install-recommends "$@"; } >/dev/null 2>&1; then
+  if ! (flock 9 && { command -v "$command" || { apt-get update && apt-get install -y --no-install-recommends "$@"; }; }) 9>"${TMPDIR:-/tmp}/gearcard-needs" >/dev/null 2>&1; then
     printf '%s is missing, and its packages (%s) could not be installed\n' "$command" "$*" >&2
     return 1
   fi

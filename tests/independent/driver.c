@@ -4,7 +4,7 @@
    A request: kind (u32), gear (u32), second (u64), the vehicle's fields in order, the summary's counts in order (u16 each); for the speeds, the holds and the third slice (the job where kind
    is READ, the export where it is EXPORT, the room where it is WRITE, else the card) the number of elements of the guard before it, of the slice and of the guard after it (u32 each);
    then the elements of the three, guards included. An answer: number (u32), place (u64); where kind is READ the version (u16), the vehicle's fields and the count (u64), where
-   it is EXPORT F0, F1, F2 and TM, where it is WRITE the length (u64), where it is HOLD, RELEASE, MEND or SUMMARY the summary; then the elements again. Where kind is CYCLE or CYCLE_PART the second is the part's number and the speeds are the room;
+   it is EXPORT F0, F1, F2 and TM, where it is WRITE the length (u64), where it is HOLD, RELEASE, MEND or SUMMARY the summary, where it is WHY the fields of the reasons in order; then the elements again. Where kind is CYCLE or CYCLE_PART the second is the part's number and the speeds are the room;
    CYCLE_PART answers the count as number and the first second as place. Where kind is DOWNSCALE the second is the factor, where it is MEND the gear is the
    speed, where it is WRITE the version. All little-endian, as the processors are.
    Exit 0 at the end of the requests, 2 where one is cut or past the limits here. */
@@ -13,7 +13,7 @@
 #include <stdio.h>
 #include <stdlib.h>
 
-enum { READ, WORK, HOLD, RELEASE, EXPORT, CYCLE, CYCLE_PART, DOWNSCALE, WRITE, MEND, SUMMARY };
+enum { READ, WORK, HOLD, RELEASE, EXPORT, CYCLE, CYCLE_PART, DOWNSCALE, WRITE, MEND, SUMMARY, WHY };
 enum { SECONDS = 1 << 20, BYTES = 1 << 20 };
 
 struct span {
@@ -51,6 +51,40 @@ static void vehicle_fields(struct gearcard_vehicle *v, void (*pass)(void *, size
   pass(&v->profile, sizeof v->profile);
 }
 
+static void gear_facts(struct gearcard_gear *g) {
+  put(&g->q, sizeof g->q);
+  put(&g->w, sizeof g->w);
+  put(&g->engine, sizeof g->engine);
+  put(&g->minimum, sizeof g->minimum);
+  put(&g->rule, sizeof g->rule);
+  put(&g->allowed, sizeof g->allowed);
+  put(&g->over_minimum, sizeof g->over_minimum);
+  put(&g->under_nmax, sizeof g->under_nmax);
+  put(&g->fits, sizeof g->fits);
+  put(&g->enough, sizeof g->enough);
+}
+
+static void reason_fields(struct gearcard_reasons *r) {
+  put(&r->about, sizeof r->about);
+  put(&r->first, sizeof r->first);
+  put(&r->last, sizeof r->last);
+  put(&r->required, sizeof r->required);
+  for (size_t k = 0; k < sizeof r->gears / sizeof *r->gears; k++) gear_facts(&r->gears[k]);
+  put(&r->kind, sizeof r->kind);
+  put(&r->role, sizeof r->role);
+  put(&r->held, sizeof r->held);
+  put(&r->choice, sizeof r->choice);
+  put(&r->sentence, sizeof r->sentence);
+  put(&r->after_a, sizeof r->after_a);
+  put(&r->after_b, sizeof r->after_b);
+  put(&r->after_c, sizeof r->after_c);
+  put(&r->floor, sizeof r->floor);
+  put(&r->ceiling, sizeof r->ceiling);
+  put(&r->clutch, sizeof r->clutch);
+  put(&r->clutch_reason, sizeof r->clutch_reason);
+  put(&r->byte, sizeof r->byte);
+}
+
 static void summary_counts(struct gearcard_summary *s, void (*pass)(void *, size_t)) {
   pass(&s->standing, sizeof s->standing);
   pass(s->gears, sizeof s->gears);
@@ -79,6 +113,7 @@ static void answer(uint32_t kind, uint32_t gear, uint64_t second, struct gearcar
   struct gearcard_coefficients coefficients;
   struct gearcard_written written;
   struct gearcard_counted counted;
+  struct gearcard_why why;
   struct gearcard_verdict verdict;
   int counts = kind == HOLD || kind == RELEASE || kind == MEND || kind == SUMMARY;
   if (kind == EXPORT) {
@@ -99,6 +134,9 @@ static void answer(uint32_t kind, uint32_t gear, uint64_t second, struct gearcar
     counted = gearcard_mend(vehicle, v, s.length, held, h.length, last, t.length, second, (uint16_t)gear, summary);
   } else if (kind == SUMMARY) {
     counted = gearcard_summary_of(v, s.length, last, t.length);
+  } else if (kind == WHY) {
+    why = gearcard_why(vehicle, v, s.length, held, h.length, second);
+    verdict = why.verdict;
   } else if (kind == DOWNSCALE) {
     verdict = gearcard_downscale((uint32_t)second, v, s.length);
   } else if (kind == WRITE) {
@@ -125,6 +163,7 @@ static void answer(uint32_t kind, uint32_t gear, uint64_t second, struct gearcar
   }
   if (kind == WRITE) put(&written.length, sizeof written.length);
   if (counts) summary_counts(&counted.summary, put);
+  if (kind == WHY) reason_fields(&why.reasons);
   put(speeds, all_speeds * sizeof *speeds);
   put(holds, all_holds);
   put(third, all_third);
@@ -150,7 +189,7 @@ int main(void) {
     vehicle_fields(&vehicle, get);
     summary_counts(&summary, get);
     get(spans, sizeof spans);
-    if (kind > SUMMARY || gear > (kind == MEND ? 65535u : 255u)) refuse("no such request");
+    if (kind > WHY || gear > (kind == MEND ? 65535u : 255u)) refuse("no such request");
     answer(kind, gear, second, vehicle, summary, spans[0], spans[1], spans[2]);
   }
 }

@@ -77,7 +77,14 @@ const KINDS = [
   { name: "write", args: (r) => [Number(r.second), vehicle, ...three(r.speeds, r.holds, r.third)], extra: () => [bytes(answer + 16, 8)] },
   { name: "mend", args: (r) => [vehicle, ...three(r.speeds, r.holds, r.third), r.second, r.gear, summary], ...counted },
   { name: "summary_of", args: (r) => [...r.speeds, ...r.third], ...counted },
+  { name: "why", args: (r) => [vehicle, ...r.speeds, ...r.holds, r.second], extra: reasons },
 ];
+
+// The fields of the reasons: after each gear's two bytes are no field, and at the end.
+function reasons() {
+  const gears = Array.from({ length: 10 }, (_, gear) => bytes(answer + 48 + 32 * gear, 30));
+  return [bytes(answer + 16, 32), ...gears, bytes(answer + 368, 13)];
+}
 
 function unpacked(at) {
   return packed.map(([, offset, n]) => bytes(at + offset, n));

@@ -1,15 +1,24 @@
 #!/usr/bin/env python3
 """Puts one slip at a time into a copy of the reference and expects the comparison with the library to notice it.
 
-    tests/independent/run --cases 500     first: it proves and builds the library
-    mutants.py [NUMBER..]                 all slips, or those of these numbers; seed 7, 5,000 cases of each kind. Exit 1 where one is not noticed
-"""
-import os, shutil, subprocess, sys
+    tests/independent/run --cases 500         first: it proves and builds the library
+    mutants.py [--every N] [NUMBER..]         all slips, every Nth, or those of these numbers; seed 7, at most 5,000 cases of each kind
 
-HERE = os.path.dirname(os.path.abspath(__file__))
-TOP = os.path.dirname(os.path.dirname(HERE))
-OUT = os.path.join(TOP, "target", "independent")
-DRIVER = [os.path.join(OUT, "driver")]
+The copy is built over an incremental folder, so that a slip costs its own function and the link, and leaves out the paper's own sums, which would notice
+many a slip before any case does. A line a slip; the last is 'mutants: N passed, M failed'. Exit status: 0 where all were noticed, 1 where one was not.
+"""
+import argparse
+import shutil
+import subprocess
+import sys
+from pathlib import Path
+
+HERE = Path(__file__).resolve().parent
+OUT = HERE.parents[1] / "target/independent"
+DRIVER = OUT / "driver"
+ROOM = OUT / "mutants"
+SUMS = "    sums::check();\n    exports::check();\n"
+RUSTC = ["rustc", "-C", "opt-level=0", "-C", "debug-assertions=off", "-C", f"incremental={ROOM}/inc", "-A", "warnings", "--edition", "2021"]
 SLIPS = [
     ("rounding minimum down", "(2 * top + bottom).div_euclid(2 * bottom)", "top / bottom"),
     ("halves down", "(2 * top + bottom).div_euclid", "(2 * top + bottom - 1).div_euclid"),
@@ -71,7 +80,7 @@ SLIPS = [
     ("gear 2: 1.15 rounded down", "nearest(115 * idle, 100)", "115 * idle / 100"),
     ("gear 2: a held 1 does not count", "let before = chosen.last().copied();", "let before = chosen.last().copied().map(|gear| if holds[s - 1] != 0 { 0 } else { gear });"),
     ("gear 2: after any low gear", "before == Some(lowest(v))", "before < Some(lowest(v) + 2) && before.is_some()"),
-    ("gear 2: level speed closes too", "(s..s + rest).all(|k| speeds[k] > speeds[k + 1])", "(s..s + rest).all(|k| speeds[k] >= speeds[k + 1])"),
+    ("gear 2: level speed closes too", "if speeds[k] <= speeds[k + 1] {", "if speeds[k] < speeds[k + 1] {"),
     ("10 at the second of the edit", "    good?;\n", "    if let Err((10, _)) = good {\n        return Err((10, second));\n    }\n    good?;\n"),
     ("reader: not shortest taken", "k == 0 || byte != 0", "true"),
     ("reader: 2 before 1", "if count == 0 || count > LONGEST {\n        return Err((1, 0));\n    }\n    if speeds_room < count || holds_room < count {\n        return Err((2, 0));\n    }", "if speeds_room < count || holds_room < count {\n        return Err((2, 0));\n    }\n    if count == 0 || count > LONGEST {\n        return Err((1, 0));\n    }"),
@@ -203,39 +212,68 @@ SLIPS = [(*slip, "paper.rs") for slip in SLIPS] + [(*slip, "exports.rs") for sli
 SLIPS += [(*slip, "summary.rs")[:4] for slip in SUMMARY_SLIPS]
 
 
-def run(k, name, old, new, file):
-    here = os.path.join(OUT, "mutants", str(k))
-    shutil.rmtree(here, ignore_errors=True)
-    shutil.copytree(os.path.join(HERE, "src"), here)
-    if not replace(os.path.join(here, file), old, new):
-        return f"{k} NOT APPLIED: {name}"
-    # The paper's own sums would notice many a slip before any case does.
-    if not replace(os.path.join(here, "main.rs"), "    sums::check();\n    exports::check();\n", ""):
-        return f"{k} NOT APPLIED: the checks of the sums are not where they were"
-    made = subprocess.run(["rustc", "-C", "opt-level=0", "-C", "debug-assertions=off", "-A", "warnings", "--edition", "2021", "--crate-name", "independent", "main.rs", "-o", "out"], cwd=here, capture_output=True, text=True)
+class Wrong(Exception):
+    """A slip that cannot be tried, and why."""
+
+
+def put(file, old, new):
+    """Into the copy; what the file was before."""
+    path = ROOM / "src" / file
+    text = path.read_text()
+    if text.count(old) == 0:
+        raise Wrong(f"not applied: {file} has no {old!r}")
+    path.write_text(text.replace(old, new, 1))
+    return text
+
+
+def build():
+    made = subprocess.run([*RUSTC, "--crate-name", "independent", "src/main.rs", "-o", "out"], cwd=ROOM, capture_output=True, text=True)
     if made.returncode:
-        return f"{k} DOES NOT COMPILE: {name}: {made.stderr[:300]}"
-    ran = subprocess.run([os.path.join(here, "out"), "--seed", "7", "--cases", "5000", "--"] + DRIVER, capture_output=True, text=True)
-    shutil.rmtree(here)
-    first = next((line for line in ran.stdout.splitlines() if line.startswith("FAILED: gearcard_")), "")
-    noticed = "noticed" if first else ("noticed (the reference stopped)" if ran.returncode > 1 else "NOT NOTICED")
-    return f"{k} {noticed}: {name} -> {new[:40]!r} {first}"
+        raise Wrong(f"it does not compile: {made.stderr[:300]}")
 
 
-def replace(path, old, new):
-    with open(path) as file:
-        text = file.read()
-    with open(path, "w") as file:
-        file.write(text.replace(old, new, 1))
-    return old in text
+def furnish():
+    shutil.rmtree(ROOM, ignore_errors=True)
+    shutil.copytree(HERE / "src", ROOM / "src")
+    put("main.rs", SUMS, "")
+    build()
 
 
-ONLY = [int(word) for word in sys.argv[1:]]
-missed = 0
-for k, (name, old, new, file) in enumerate(SLIPS):
-    if not ONLY or k in ONLY:
-        said = run(k, name, old, new, file)
-        missed += " noticed" not in said
-        print(said, flush=True)
-print(f"{missed} not noticed of {len(ONLY or SLIPS)}")
-sys.exit(missed != 0)
+def noticed(name, old, new, file):
+    """How the slip was noticed; None where it was not."""
+    was = put(file, old, new)
+    try:
+        build()
+        ran = subprocess.run([ROOM / "out", "--seed", "7", "--cases", "5000", "--", DRIVER], capture_output=True, text=True)
+    finally:
+        (ROOM / "src" / file).write_text(was)
+    first = next((line for line in ran.stdout.splitlines() if line.startswith("FAILED: gearcard_")), None)
+    return first or ("the reference, which stopped" if ran.returncode > 1 else None)
+
+
+def tried(number, slip):
+    """Whether the slip was noticed, and a line that says so."""
+    try:
+        how = noticed(*slip)
+    except Wrong as error:
+        return False, f"mutants: FAILED: {number} {slip[0]}: {error}"
+    return bool(how), f"mutants: {number} {slip[0]}: noticed by {how.removeprefix('FAILED: ')}" if how else f"mutants: FAILED: {number} {slip[0]} -> {slip[2][:40]!r}: not noticed"
+
+
+def main():
+    parser = argparse.ArgumentParser(usage=__doc__.strip())
+    parser.add_argument("--every", type=int, default=1)
+    parser.add_argument("numbers", nargs="*", type=int)
+    asked = parser.parse_args()
+    furnish()
+    passed = failed = 0
+    for number in asked.numbers or range(1 % asked.every, len(SLIPS), asked.every):
+        good, line = tried(number, SLIPS[number])
+        passed, failed = passed + good, failed + (not good)
+        print(line, flush=True)
+    shutil.rmtree(ROOM)
+    print(f"mutants: {passed} passed, {failed} failed")
+    return 1 if failed or not passed else 0
+
+
+sys.exit(main())

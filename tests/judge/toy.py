@@ -1,4 +1,4 @@
-"""A crate of three functions, on which the judge of the trials is tried. It stands here as text: rt takes every .rt file below the root for one that it
+"""A crate of four functions, on which the judge of the trials is tried. It stands here as text: rt takes every .rt file below the root for one that it
 is to prove."""
 
 from pathlib import Path
@@ -6,7 +6,7 @@ from pathlib import Path
 FILES = {
     "crates.txt": "toy:\n",
     "crates/toy/src/lib.rt": """\
-// Two numbers, three numbers, and a number that needs no proof file.
+// Two numbers, three numbers, and numbers that need no proof file.
 ghost use mathlib.Core.Path.{_≡_};
 ghost use Rattle.toy.specs.Toy.{most};
 
@@ -32,6 +32,12 @@ pub fn seven() -> u16
 {
     7
 }
+
+pub fn nine() -> u16
+    ensures { λ r. ⌜ r ≡ 9 ⌝ }
+{
+    9
+}
 """,
     "crates/toy/specs/Lib.antt": "pub mod Toy\n",
     "crates/toy/specs/Toy.antt": """\
@@ -46,7 +52,25 @@ pick false a b = b
 unfoldable pub most : ℕ → ℕ → ℕ
 most a b = pick (ltb a b) b a
 """,
-    "crates/toy/proofs/Lib.antt": "pub mod Laws\n",
+    "crates/toy/proofs/Lib.antt": "pub mod Laws\npub mod Says\n",
+    "crates/toy/proofs/Says.antt": """\
+use mathlib.Core.Path.{_≡_, _∙_, sym}
+use contract.Lifetimes.{Lfts}
+use borrow.Fn.Kinds.{Dens, resT, endedOf}
+use denote.Triple.Clauses.{Lasts, atExit}
+use Rattle.toy.proofs.seven.Kinds as seven-kinds
+use Rattle.toy.proofs.seven.Reads as seven-reads
+use Rattle.toy.proofs.nine.Kinds as nine-kinds
+use Rattle.toy.proofs.nine.Reads as nine-reads
+
+pub seven-says : (κs : Lfts 0) (a : Dens κs seven-kinds.ps) (z : resT seven-kinds.r κs .Denot) (ws : Lasts (endedOf 0 seven-kinds.ps seven-kinds.r) κs a)
+    → seven-reads.Learnt κs a z (atExit (endedOf 0 seven-kinds.ps seven-kinds.r) κs a ws) → z ≡ 7
+seven-says κs a z ws p = p
+
+pub nine-says : (κs : Lfts 0) (a : Dens κs nine-kinds.ps) (z : resT nine-kinds.r κs .Denot) (ws : Lasts (endedOf 0 nine-kinds.ps nine-kinds.r) κs a)
+    → nine-reads.Learnt κs a z (atExit (endedOf 0 nine-kinds.ps nine-kinds.r) κs a ws) → z ≡ 9
+nine-says κs a z ws p = p
+""",
     "crates/toy/proofs/Laws.antt": """\
 use Prim.Native.Nat.{ℕ, _<_, _≤_}
 use mathlib.Core.Path.{_≡_}
@@ -95,7 +119,16 @@ largest-spec = tie.close (tie.spec larger-requires larger-requires-2 returns)
 """,
 }
 
-CODE, DEFINITION = "src/lib.rt", "specs/Toy.antt"
+# A theorem that reads two contracts, for Says.antt.
+BOTH = """
+pub both-say : (κs : Lfts 0) (a : Dens κs seven-kinds.ps) (z : resT seven-kinds.r κs .Denot) (ws : Lasts (endedOf 0 seven-kinds.ps seven-kinds.r) κs a)
+    (b : Dens κs nine-kinds.ps) (y : resT nine-kinds.r κs .Denot) (us : Lasts (endedOf 0 nine-kinds.ps nine-kinds.r) κs b)
+    → seven-reads.Learnt κs a z (atExit (endedOf 0 seven-kinds.ps seven-kinds.r) κs a ws)
+    → nine-reads.Learnt κs b y (atExit (endedOf 0 nine-kinds.ps nine-kinds.r) κs b us) → (z ≡ 7) × (y ≡ 9)
+both-say κs a z ws b y us p q = (p, q)
+"""
+
+CODE, DEFINITION, SAYS = "src/lib.rt", "specs/Toy.antt", "proofs/Says.antt"
 HARMLESS = (CODE, "if a < b {", "if b > a {")
 
 

@@ -1,6 +1,6 @@
 //! One case of each kind: generation, the reference's answer, the library's, and their comparison.
 
-use crate::events::{note, Event};
+use crate::events::{asked, count, Event};
 use crate::exports;
 use crate::jobs;
 use crate::library::{Library, Loan};
@@ -11,8 +11,9 @@ use crate::summary::{self, Shown, Summary};
 use crate::traces;
 use crate::vehicle::{without_crawler, Vehicle, ZERO};
 use crate::vehicles;
+use crate::why;
 
-pub const KINDS: [&str; 8] = ["read", "work", "hold", "release", "export", "write", "mend", "summary"];
+pub const KINDS: [&str; 9] = ["read", "work", "hold", "release", "export", "write", "mend", "summary", "why"];
 
 /// The number of the answer (0: accepted), and the profile of the vehicle, of a refused job and of an export 0.
 pub struct Met {
@@ -33,7 +34,8 @@ pub fn run(library: &mut Library, seed: u64, kind: usize, index: u64) -> Outcome
         4 => export_case(library, &mut r),
         5 => write_case(library, &mut r),
         6 => mend_case(library, &mut r),
-        _ => summary_case(library, &mut r),
+        7 => summary_case(library, &mut r),
+        _ => why_case(library, &mut r),
     };
     outcome.map_err(|why| format!("FAILED: gearcard_{}, seed {seed}, case {index}\n{why}", KINDS[kind]))
 }
@@ -140,7 +142,7 @@ fn work_case(library: &mut Library, r: &mut Rng) -> Outcome {
     if r.chance(35) {
         spoil(r, &mut c);
     }
-    let expected = paper::work(&c.vehicle, &c.speeds, &c.holds, c.card.len());
+    let expected = asked(|| paper::work(&c.vehicle, &c.speeds, &c.holds, c.card.len()));
     let loan = Loan::new(r, &c.speeds, &c.holds, &c.card);
     let told = |why: String| format!("{why}\n{}\nreference: {expected:?}", describe(&c));
     library.work(&c.vehicle, &loan, &expected).map_err(told)?;
@@ -156,7 +158,7 @@ fn van_as_car(c: &Setting, expected: &Result<Vec<u8>, Refusal>) -> Result<(), St
     let holds: Vec<u8> = c.holds.iter().map(|gear| gear.saturating_sub(1)).collect();
     let car = paper::work(&without_crawler(&c.vehicle), &c.speeds, &holds, c.card.len());
     let higher = car.map(|card| card.into_iter().map(|byte| if byte == 0 { 0 } else { byte + 1 }).collect());
-    note(Event::VanAsCar);
+    count(Event::VanAsCar);
     if higher == *expected {
         return Ok(());
     }
@@ -169,13 +171,14 @@ fn hold_case(library: &mut Library, r: &mut Rng) -> Outcome {
     let (c, right) = on_screen(r);
     let second = ask_second(r, &c);
     let gear = ask_gear(r, &c, second);
-    let expected = paper::hold(&c.vehicle, &c.speeds, &c.holds, &c.card, second, gear);
+    let expected = asked(|| paper::hold(&c.vehicle, &c.speeds, &c.holds, &c.card, second, gear));
     let loan = Loan::new(r, &c.speeds, &c.holds, &c.card);
     let summary = summary::lent(r, c.shown());
     let told = |why: String| format!("{why}\nsecond {second} gear {gear} {summary:?}\n{}\nreference (holds, card): {expected:?}", describe(&c));
     library.hold(&c.vehicle, &loan, second, gear, summary, &expected).map_err(told)?;
-    if right {
-        agrees_with_whole(&c, &expected).map_err(told)?;
+    // Gear 0 is no hold of the whole working.
+    if right && gear != 0 {
+        edited_as_whole(&c, second, gear, &expected).map_err(told)?;
     }
     met(&expected, c.vehicle.profile)
 }
@@ -184,13 +187,13 @@ fn release_case(library: &mut Library, r: &mut Rng) -> Outcome {
     let (c, right) = on_screen(r);
     let held = traces::any_place(r, c.holds.len(), |s| c.holds[s] != 0);
     let second = held.filter(|_| r.chance(50)).unwrap_or_else(|| ask_second(r, &c));
-    let expected = paper::release(&c.vehicle, &c.speeds, &c.holds, &c.card, second);
+    let expected = asked(|| paper::release(&c.vehicle, &c.speeds, &c.holds, &c.card, second));
     let loan = Loan::new(r, &c.speeds, &c.holds, &c.card);
     let summary = summary::lent(r, c.shown());
     let told = |why: String| format!("{why}\nsecond {second} released {summary:?}\n{}\nreference (holds, card): {expected:?}", describe(&c));
     library.release(&c.vehicle, &loan, second, summary, &expected).map_err(told)?;
     if right {
-        agrees_with_whole(&c, &expected).map_err(told)?;
+        edited_as_whole(&c, second, 0, &expected).map_err(told)?;
         free_changes_nothing(&c, second, &expected).map_err(told)?;
     }
     met(&expected, c.vehicle.profile)
@@ -201,7 +204,7 @@ fn free_changes_nothing(c: &Setting, second: usize, expected: &Edited) -> Result
     if c.holds.get(second) != Some(&0) {
         return Ok(());
     }
-    note(Event::FreeReleased);
+    count(Event::FreeReleased);
     if expected.as_ref() == Ok(&(c.holds.clone(), c.card.clone())) {
         return Ok(());
     }
@@ -225,14 +228,26 @@ fn on_screen(r: &mut Rng) -> (Setting, bool) {
     (c, right)
 }
 
-/// The paper against itself: a right card stays the one the whole working gives, and spares the engine.
-fn agrees_with_whole(c: &Setting, expected: &Edited) -> Result<(), String> {
-    let Ok((holds, card)) = expected else { return Ok(()) };
-    Finished { vehicle: &c.vehicle, speeds: &c.speeds, holds, card }.check()?;
-    if paper::work(&c.vehicle, &c.speeds, holds, holds.len()).as_ref() == Ok(card) {
+/// The paper against itself: from a right card the very card, or the very refusal, of the whole working on the new holds, and it spares the engine.
+fn edited_as_whole(c: &Setting, second: usize, gear: u8, expected: &Edited) -> Result<(), String> {
+    if second >= c.speeds.len() {
         return Ok(());
     }
-    Err(String::from("the reference's quick way and its whole working disagree"))
+    let mut holds = c.holds.clone();
+    holds[second] = gear;
+    same_as_whole(c, &c.speeds, &holds, &expected.as_ref().map(|(_, card)| card.clone()).map_err(|refusal| *refusal))
+}
+
+fn same_as_whole(c: &Setting, speeds: &[u16], holds: &[u8], expected: &Result<Vec<u8>, Refusal>) -> Result<(), String> {
+    count(if expected.is_ok() { Event::EditAsWhole } else { Event::RefusalAsWhole });
+    if let Ok(card) = expected {
+        Finished { vehicle: &c.vehicle, speeds, holds, card }.check()?;
+    }
+    let whole = paper::work(&c.vehicle, speeds, holds, c.card.len());
+    if whole == *expected {
+        return Ok(());
+    }
+    Err(format!("the reference's quick way and its whole working disagree: {whole:?}"))
 }
 
 /// Mostly a moving second, or one near a fault; sometimes outside.
@@ -270,7 +285,7 @@ fn ask_gear(r: &mut Rng, c: &Setting, second: usize) -> u8 {
 fn read_case(library: &mut Library, r: &mut Rng) -> Outcome {
     let (bytes, count) = job(r);
     let rooms = rooms(r, count);
-    let expected = paper::read(&bytes, rooms.0, rooms.1);
+    let expected = asked(|| paper::read(&bytes, rooms.0, rooms.1));
     let speeds: Vec<u16> = (0..rooms.0).map(|_| r.next() as u16).collect();
     let holds: Vec<u8> = (0..rooms.1).map(|_| r.next() as u8).collect();
     library.read(&Loan::new(r, &speeds, &holds, &bytes), &expected).map_err(|why| {
@@ -346,13 +361,13 @@ fn write_case(library: &mut Library, r: &mut Rng) -> Outcome {
     let (version, c, was) = to_write(r);
     let needed = paper::write(version, &c.vehicle, &c.speeds, &c.holds, usize::MAX).map_or(300, |bytes| bytes.len());
     let room: Vec<u8> = (0..write_room(r, needed)).map(|_| r.next() as u8).collect();
-    let expected = paper::write(version, &c.vehicle, &c.speeds, &c.holds, room.len());
+    let expected = asked(|| paper::write(version, &c.vehicle, &c.speeds, &c.holds, room.len()));
     let loan = Loan::new(r, &c.speeds, &c.holds, &room);
     let told = |why: String| format!("{why}\nversion {version}, room {}\n{}\nreference: {expected:?}", room.len(), describe(&c));
     library.write(version, &c.vehicle, &loan, &expected).map_err(told)?;
     if let Ok(bytes) = &expected {
         if room.len() == bytes.len() {
-            note(Event::RoomExact);
+            count(Event::RoomExact);
         }
         reads_back(library, r, version, &c, bytes).map_err(told)?;
         written_as_read(bytes, was.as_deref()).map_err(told)?;
@@ -404,7 +419,7 @@ fn write_room(r: &mut Rng, needed: usize) -> usize {
 /// What is written reads back, by the reference and by the library, as the same job; places that are no part of it as 0.
 fn reads_back(library: &mut Library, r: &mut Rng, version: u16, c: &Setting, bytes: &[u8]) -> Result<(), String> {
     let rooms = (c.speeds.len() + r.below(9), c.speeds.len() + r.below(9));
-    let expected = paper::read(bytes, rooms.0, rooms.1);
+    let expected = asked(|| paper::read(bytes, rooms.0, rooms.1));
     if !expected.as_ref().is_ok_and(|job| job.version == version && job.vehicle == cleared(&c.vehicle) && job.speeds == c.speeds && job.holds == c.holds) {
         return Err(String::from("the reference does not read back what it wrote"));
     }
@@ -425,7 +440,7 @@ fn cleared(v: &Vehicle) -> Vehicle {
 /// A job that was read and passes the checks is written as the bytes that it had.
 fn written_as_read(bytes: &[u8], was: Option<&[u8]>) -> Result<(), String> {
     let Some(was) = was else { return Ok(()) };
-    note(Event::WrittenAsRead);
+    count(Event::WrittenAsRead);
     if was == bytes {
         return Ok(());
     }
@@ -453,7 +468,7 @@ fn mend_case(library: &mut Library, r: &mut Rng) -> Outcome {
 
 /// With the summary afterwards.
 fn mend_once(library: &mut Library, r: &mut Rng, c: &Setting, right: bool, second: usize, speed: u16, summary: Summary) -> Result<(Mended, Summary), String> {
-    let expected = paper::mend(&c.vehicle, &c.speeds, &c.holds, &c.card, second, speed);
+    let expected = asked(|| paper::mend(&c.vehicle, &c.speeds, &c.holds, &c.card, second, speed));
     let loan = Loan::new(r, &c.speeds, &c.holds, &c.card);
     let told = |why: String| format!("{why}\nsecond {second} mended to {speed} {summary:?}\n{}\nreference (speeds, card): {expected:?}", describe(c));
     let kept = library.mend(&c.vehicle, &loan, second, speed, summary, &expected).map_err(told)?;
@@ -461,7 +476,7 @@ fn mend_once(library: &mut Library, r: &mut Rng, c: &Setting, right: bool, secon
         mended_as_whole(c, second, speed, &expected).map_err(told)?;
     }
     if expected == Err((8, second)) && paper::gears(&c.vehicle).contains(&c.holds[second]) && !paper::moving(speed) {
-        note(Event::HoldWon);
+        count(Event::HoldWon);
     }
     Ok((expected, kept))
 }
@@ -473,14 +488,7 @@ fn mended_as_whole(c: &Setting, second: usize, speed: u16, expected: &Mended) ->
     }
     let mut speeds = c.speeds.clone();
     speeds[second] = speed;
-    if let Ok((_, card)) = expected {
-        Finished { vehicle: &c.vehicle, speeds: &speeds, holds: &c.holds, card }.check()?;
-    }
-    let whole = paper::work(&c.vehicle, &speeds, &c.holds, c.card.len());
-    if expected.as_ref().map(|(_, card)| card).map_err(|refusal| *refusal) == whole.as_ref().map_err(|refusal| *refusal) {
-        return Ok(());
-    }
-    Err(format!("the reference's mending and its whole working disagree: {whole:?}"))
+    same_as_whole(c, &speeds, &c.holds, &expected.as_ref().map(|(_, card)| card.clone()).map_err(|refusal| *refusal))
 }
 
 /// Any second: near a fault, held, between two trips, or moving or standing; sometimes outside.
@@ -531,7 +539,7 @@ fn summary_case(library: &mut Library, r: &mut Rng) -> Outcome {
         12..=30 => c.card.iter_mut().for_each(|byte| *byte = *byte % 16 + r.pick(&[0, 0, 16, 240])),
         _ => {}
     }
-    let expected = summary::of(c.shown());
+    let expected = asked(|| summary::of(c.shown()));
     let loan = Loan::new(r, &c.speeds, &c.holds, &c.card);
     let told = |why: String| format!("{why}\n{}\nreference: {expected:?}", describe(&c));
     library.summary(&loan, &expected).map_err(told)?;
@@ -547,6 +555,38 @@ fn summary_case(library: &mut Library, r: &mut Rng) -> Outcome {
 fn clutch_alone(c: &Setting) {
     let both_moving = |s: usize| paper::moving(c.speeds[s]) && paper::moving(c.speeds[s + 1]);
     if (0..c.speeds.len() - 1).any(|s| both_moving(s) && c.card[s] != c.card[s + 1] && c.card[s] % 16 == c.card[s + 1] % 16) {
-        note(Event::ClutchAlone);
+        count(Event::ClutchAlone);
     }
+}
+
+// ---------------------------------------------------------------- why
+
+fn why_case(library: &mut Library, r: &mut Rng) -> Outcome {
+    let mut c = sound(r);
+    if r.chance(25) {
+        spoil(r, &mut c);
+    }
+    let second = why_second(r, &c);
+    let expected = why::of(&c.vehicle, &c.speeds, &c.holds, second);
+    let loan = Loan::new(r, &c.speeds, &c.holds, &c.card);
+    let told = |why: String| format!("{why}\n{}\nsecond {second}\nreference: {expected:?}", describe(&c));
+    library.why(&c.vehicle, &loan, second, &expected).map_err(told)?;
+    // The paper against itself: the last step is the card's byte.
+    if r.chance(10) {
+        if let (Ok(card), (refusal, reasons)) = (paper::work(&c.vehicle, &c.speeds, &c.holds, c.speeds.len()), &expected) {
+            if second < card.len() && (refusal.is_some() || reasons.byte != card[second]) {
+                return Err(told(String::from("the reference's steps do not come to the byte of its card")));
+            }
+        }
+    }
+    Ok(Met { number: expected.0.map_or(0, |(number, _)| number), profile: c.vehicle.profile })
+}
+
+/// A moving second most of the time, one at a fault if there is one, or any, past the end too.
+fn why_second(r: &mut Rng, c: &Setting) -> usize {
+    if !c.faults.is_empty() && r.chance(50) {
+        return r.pick(&c.faults);
+    }
+    let moving = if r.chance(80) { traces::any_place(r, c.speeds.len(), |s| paper::moving(c.speeds[s])) } else { None };
+    moving.unwrap_or_else(|| r.below(c.speeds.len() + 2))
 }

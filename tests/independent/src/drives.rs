@@ -2,6 +2,7 @@
 //! samples mended and mended back, with a summary that is counted once and kept by each edit.
 
 use crate::cycles;
+use crate::events::asked;
 use crate::jobs;
 use crate::library::{Library, Loan};
 use crate::paper;
@@ -99,7 +100,7 @@ impl Drive<'_> {
 
     /// The summary counted whole.
     fn count(&mut self, card: &[u8]) -> Result<(), String> {
-        let expected = summary::of(Shown { speeds: self.speeds, card });
+        let expected = asked(|| summary::of(Shown { speeds: self.speeds, card }));
         let loan = Loan::new(self.r, self.speeds, &[], card);
         self.library.summary(&loan, &expected).map_err(|why| format!("{why}\ncard {card:?}"))?;
         self.summary = expected.map_err(|refusal| format!("the reference refuses its own card: {refusal:?}"))?;
@@ -124,7 +125,7 @@ impl Drive<'_> {
     }
 
     fn mend(&mut self, speeds: &[u16], holds: &[u8], card: &[u8], second: usize, speed: u16) -> Result<paper::Mended, String> {
-        let expected = paper::mend(self.vehicle, speeds, holds, card, second, speed);
+        let expected = asked(|| paper::mend(self.vehicle, speeds, holds, card, second, speed));
         let loan = Loan::new(self.r, speeds, holds, card);
         let told = |why| format!("{why}\nsecond {second} mended to {speed}\nspeeds {speeds:?}\ncard {card:?}\nreference (speeds, card): {expected:?}");
         self.summary = self.library.mend(self.vehicle, &loan, second, speed, self.summary, &expected).map_err(told)?;
@@ -136,7 +137,7 @@ impl Drive<'_> {
 
     /// The reference's card, where it is no refusal.
     fn work(&mut self, holds: &[u8]) -> Result<Option<Vec<u8>>, String> {
-        let expected = paper::work(self.vehicle, self.speeds, holds, self.speeds.len());
+        let expected = asked(|| paper::work(self.vehicle, self.speeds, holds, self.speeds.len()));
         let noise: Vec<u8> = self.speeds.iter().map(|_| self.r.next() as u8).collect();
         let loan = Loan::new(self.r, self.speeds, holds, &noise);
         self.library.work(self.vehicle, &loan, &expected).map_err(|why| format!("{why}\nholds {holds:?}\nreference: {expected:?}"))?;
@@ -145,7 +146,7 @@ impl Drive<'_> {
 
     /// 1 where the hold is accepted, which moves holds and card on.
     fn hold(&mut self, holds: &mut Vec<u8>, card: &mut Vec<u8>, second: usize, gear: u8) -> Result<usize, String> {
-        let expected = paper::hold(self.vehicle, self.speeds, holds, card, second, gear);
+        let expected = asked(|| paper::hold(self.vehicle, self.speeds, holds, card, second, gear));
         let loan = Loan::new(self.r, self.speeds, holds, card);
         let asked = || format!("second {second} gear {gear}\nholds {holds:?}\ncard {card:?}\nreference (holds, card): {expected:?}");
         self.summary = self.library.hold(self.vehicle, &loan, second, gear, self.summary, &expected).map_err(|why| format!("{why}\n{}", asked()))?;
@@ -156,7 +157,7 @@ impl Drive<'_> {
     }
 
     fn release(&mut self, holds: &mut Vec<u8>, card: &mut Vec<u8>, second: usize) -> Result<usize, String> {
-        let expected = paper::release(self.vehicle, self.speeds, holds, card, second);
+        let expected = asked(|| paper::release(self.vehicle, self.speeds, holds, card, second));
         let loan = Loan::new(self.r, self.speeds, holds, card);
         let asked = || format!("second {second} released\nholds {holds:?}\ncard {card:?}\nreference (holds, card): {expected:?}");
         self.summary = self.library.release(self.vehicle, &loan, second, self.summary, &expected).map_err(|why| format!("{why}\n{}", asked()))?;
@@ -177,7 +178,7 @@ impl Drive<'_> {
     fn job(&mut self, holds: &[u8]) -> Result<(), String> {
         let version = jobs::version_of(self.vehicle);
         let bytes = jobs::groups(version, self.vehicle, self.speeds, holds).all.concat();
-        let expected = paper::read(&bytes, self.speeds.len(), paper::LONGEST);
+        let expected = asked(|| paper::read(&bytes, self.speeds.len(), paper::LONGEST));
         let same = expected.as_ref().is_ok_and(|job| job.vehicle == *self.vehicle && job.speeds == self.speeds && job.holds == holds);
         if !same {
             return Err(String::from("the reference does not read its own job back"));
@@ -186,6 +187,7 @@ impl Drive<'_> {
         self.library.read(&loan, &expected).map_err(|why| format!("{why}\njob {bytes:?}"))?;
         let room: Vec<u8> = (0..bytes.len() + 5).map(|_| self.r.next() as u8).collect();
         let loan = Loan::new(self.r, self.speeds, holds, &room);
-        self.library.write(version, self.vehicle, &loan, &paper::write(version, self.vehicle, self.speeds, holds, room.len())).map_err(|why| format!("{why}\njob {bytes:?}"))
+        let expected = asked(|| paper::write(version, self.vehicle, self.speeds, holds, room.len()));
+        self.library.write(version, self.vehicle, &loan, &expected).map_err(|why| format!("{why}\njob {bytes:?}"))
     }
 }

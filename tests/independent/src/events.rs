@@ -1,4 +1,5 @@
-//! How often the reference met the rarer turns of the rules: a turn that is never met is not tested.
+//! How often the rarer turns of the rules were met in what the library was asked: a turn that it was never asked about is not tested. What the reference works
+//! for itself, the paper's sums, a card to lend, its own quick way against its whole working, counts nothing.
 
 use std::cell::Cell;
 use std::sync::atomic::{AtomicU64, Ordering::Relaxed};
@@ -43,9 +44,11 @@ pub enum Event {
     KeptRight,
     KeptRefused,
     ClutchAlone,
+    EditAsWhole,
+    RefusalAsWhole,
 }
 
-const NAMES: [&str; 38] = [
+const NAMES: [&str; 40] = [
     "pass A lowered a gear",
     "pass A stopped by the floor",
     "pass B lowered a gear to the ceiling",
@@ -84,6 +87,8 @@ const NAMES: [&str; 38] = [
     "right summary kept right by an edit",
     "summary kept as it was by a refused edit",
     "neighbouring moving seconds that differ by the clutch alone",
+    "edit of a right card taken, the card that of the whole working",
+    "edit of a right card refused, as the whole working refuses it",
 ];
 
 /// Of all threads that have handed theirs in.
@@ -91,9 +96,27 @@ static COUNTS: [AtomicU64; NAMES.len()] = [const { AtomicU64::new(0) }; NAMES.le
 
 thread_local! {
     static HERE: [Cell<u64>; NAMES.len()] = const { [const { Cell::new(0) }; NAMES.len()] };
+    /// Whether what is being worked is what the library is asked.
+    static ASKED: Cell<bool> = const { Cell::new(false) };
 }
 
+/// The reference's part of a question to the library: what it meets counts.
+pub fn asked<T>(work: impl FnOnce() -> T) -> T {
+    let was = ASKED.replace(true);
+    let answer = work();
+    ASKED.set(was);
+    answer
+}
+
+/// Met by the reference; it counts where the library is asked the same.
 pub fn note(event: Event) {
+    if ASKED.get() {
+        count(event);
+    }
+}
+
+/// Met by what the library was asked or answered.
+pub fn count(event: Event) {
     HERE.with(|here| here[event as usize].set(here[event as usize].get() + 1));
 }
 
@@ -106,18 +129,13 @@ pub fn hand_in() {
     });
 }
 
-/// How often, by what was handed in.
-pub fn met(event: Event) -> u64 {
-    COUNTS[event as usize].load(Relaxed)
-}
-
-/// A turn that has to be met, by name, and was not.
-pub fn missed(event: Event) -> Option<&'static str> {
-    (COUNTS[event as usize].load(Relaxed) == 0).then_some(NAMES[event as usize])
+/// The turns that nobody met, by name.
+pub fn missed() -> Vec<&'static str> {
+    NAMES.iter().zip(&COUNTS).filter(|(_, count)| count.load(Relaxed) == 0).map(|(name, _)| *name).collect()
 }
 
 pub fn print() {
-    println!("met by the reference:");
+    println!("met by what the library was asked:");
     for (name, count) in NAMES.iter().zip(&COUNTS) {
         println!("  {:>10}  {name}", count.load(Relaxed));
     }

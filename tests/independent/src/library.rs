@@ -1,48 +1,58 @@
 //! The library, called through driver.c or driver.mjs: each lent slice lies inside a larger one, whose other places are compared too.
 
-use crate::events::{note, Event};
+use crate::events::{asked, count, Event};
 use crate::exports::Coefficients;
 use crate::paper::{self, Edited, Job, Mended, Refusal};
 use crate::revs::Finished;
 use crate::rng::Rng;
 use crate::summary::{self, Shown, Summary};
 use crate::vehicle::{Vehicle, ZERO};
+use crate::why::{Gear, Reasons, Why};
 use std::fmt::Debug;
 use std::io::{self, BufReader, BufWriter, Read, Write};
 use std::process::{Child, ChildStdin, ChildStdout, Command, Stdio};
 
 /// A number that goes through the pipe, little-endian.
 pub trait Wire: Copy + PartialEq + Debug {
+    const SIZE: usize;
     fn put(self, to: &mut Vec<u8>);
-    fn get(from: &mut impl Read) -> io::Result<Self>;
+    /// Of so many bytes.
+    fn of(bytes: &[u8]) -> Self;
+
+    fn get(from: &mut impl Read) -> io::Result<Self> {
+        let mut bytes = [0; 8];
+        from.read_exact(&mut bytes[..Self::SIZE])?;
+        Ok(Self::of(&bytes[..Self::SIZE]))
+    }
 }
 
 macro_rules! wire {
     ($($number:ty)*) => {$(
         impl Wire for $number {
+            const SIZE: usize = size_of::<$number>();
+
             fn put(self, to: &mut Vec<u8>) {
-                to.extend(self.to_le_bytes());
+                to.extend_from_slice(&self.to_le_bytes());
             }
 
-            fn get(from: &mut impl Read) -> io::Result<$number> {
-                let mut bytes = [0; size_of::<$number>()];
-                from.read_exact(&mut bytes)?;
-                Ok(<$number>::from_le_bytes(bytes))
+            fn of(bytes: &[u8]) -> $number {
+                <$number>::from_le_bytes(bytes.try_into().unwrap())
             }
         }
     )*};
 }
 
-wire!(u8 u16 u32 u64 i32);
+wire!(u8 u16 u32 u64 i32 i64);
 
 fn put_all<T: Wire>(values: &[T], to: &mut Vec<u8>) {
+    to.reserve(values.len() * T::SIZE);
     values.iter().for_each(|value| value.put(to));
 }
 
 fn get_all<T: Wire>(values: &mut [T], from: &mut impl Read) -> io::Result<()> {
-    for value in values {
-        *value = T::get(from)?;
-    }
+    let mut bytes = vec![0; values.len() * T::SIZE];
+    from.read_exact(&mut bytes)?;
+    values.iter_mut().zip(bytes.chunks_exact(T::SIZE)).for_each(|(value, bytes)| *value = T::of(bytes));
     Ok(())
 }
 
@@ -76,6 +86,26 @@ fn get_vehicle(from: &mut impl Read) -> io::Result<Vehicle> {
     Ok(v)
 }
 
+fn get_gear(from: &mut impl Read) -> io::Result<Gear> {
+    let mut gear = Gear { q: i64::get(from)?, w: i64::get(from)?, engine: u32::get(from)?, minimum: u32::get(from)?, ..Gear::default() };
+    for code in [&mut gear.rule, &mut gear.allowed, &mut gear.over_minimum, &mut gear.under_nmax, &mut gear.fits, &mut gear.enough] {
+        *code = u8::get(from)?;
+    }
+    Ok(gear)
+}
+
+fn get_reasons(from: &mut impl Read) -> io::Result<Reasons> {
+    let mut r = Reasons { about: u64::get(from)?, first: u64::get(from)?, last: u64::get(from)?, required: i64::get(from)?, ..Reasons::default() };
+    for gear in &mut r.gears {
+        *gear = get_gear(from)?;
+    }
+    let chain = [&mut r.kind, &mut r.role, &mut r.held, &mut r.choice, &mut r.sentence, &mut r.after_a, &mut r.after_b, &mut r.after_c];
+    for code in chain.into_iter().chain([&mut r.floor, &mut r.ceiling, &mut r.clutch, &mut r.clutch_reason, &mut r.byte]) {
+        *code = u8::get(from)?;
+    }
+    Ok(r)
+}
+
 /// A slice lent to the library, with guards before and after.
 #[derive(Clone)]
 struct Lent<T> {
@@ -105,8 +135,12 @@ impl<T: Wire> Lent<T> {
 
     /// Every element afterwards against what it was, or against `expected` at the start of the slice; places count from there.
     fn compare(&self, name: &str, after: &Lent<T>, expected: &[T]) -> Result<(), String> {
+        let (from, to) = (self.before, self.before + expected.len());
+        if after.all[..from] == self.all[..from] && after.all[from..to] == *expected && after.all[to..] == self.all[to..] {
+            return Ok(());
+        }
         let mut wanted = self.all.clone();
-        wanted[self.before..self.before + expected.len()].copy_from_slice(expected);
+        wanted[from..to].copy_from_slice(expected);
         match (0..wanted.len()).find(|&k| wanted[k] != after.all[k]) {
             None => Ok(()),
             Some(k) => {
@@ -147,14 +181,14 @@ impl Loan {
     fn kept(&self, was: Summary, after: Option<Shown>) -> Result<Summary, String> {
         let before = Shown { speeds: self.speeds.content(), card: self.third.content() };
         let Some(after) = after else {
-            note(Event::KeptRefused);
+            count(Event::KeptRefused);
             return Ok(was);
         };
-        let kept = summary::after(was, before, after);
+        let kept = asked(|| summary::after(was, before, after));
         if summary::of(before) != Ok(was) {
             return Ok(kept);
         }
-        note(Event::KeptRight);
+        count(Event::KeptRight);
         if summary::of(after) == Ok(kept) {
             return Ok(kept);
         }
@@ -179,6 +213,7 @@ enum Call {
     Write,
     Mend,
     Summary,
+    Why,
 }
 
 struct Request<'a> {
@@ -203,6 +238,8 @@ struct Answer {
     length: Option<u64>,
     /// Of an edit, and of a summary.
     summary: Option<Summary>,
+    /// Of a why.
+    reasons: Option<Reasons>,
     loan: Loan,
 }
 
@@ -284,10 +321,14 @@ impl Library {
             }
             _ => None,
         };
+        let reasons = match request.call {
+            Call::Why => Some(get_reasons(from)?),
+            _ => None,
+        };
         get_all(&mut loan.speeds.all, from)?;
         get_all(&mut loan.holds.all, from)?;
         get_all(&mut loan.third.all, from)?;
-        Ok(Answer { number, place, vehicle, coefficients, length, summary, loan })
+        Ok(Answer { number, place, vehicle, coefficients, length, summary, reasons, loan })
     }
 
     /// No more requests: the driver then ends, and well.
@@ -309,7 +350,7 @@ impl Library {
         if answer.number != 0 {
             return Ok(());
         }
-        answer.loan.finished(vehicle).check()
+        asked(|| answer.loan.finished(vehicle).check())
     }
 
     /// The summary afterwards.
@@ -341,7 +382,7 @@ impl Library {
             return Ok(kept);
         }
         // Whether the card was right or not, the seconds that were worked anew.
-        answer.loan.finished(request.vehicle).check_trip(paper::trip_of(speeds, request.second))?;
+        asked(|| answer.loan.finished(request.vehicle).check_trip(paper::trip_of(speeds, request.second)))?;
         Ok(kept)
     }
 
@@ -359,6 +400,16 @@ impl Library {
         let kept = loan.kept(summary, expected.as_ref().ok().map(|_| Shown { speeds, card }))?;
         answer.compare_summary(kept)?;
         Ok(kept)
+    }
+
+    /// `expected`: the refusal, if there is one, and every fact and step.
+    pub fn why(&mut self, vehicle: &Vehicle, loan: &Loan, second: usize, expected: &Why) -> Result<(), String> {
+        let answer = self.call(&Request { call: Call::Why, vehicle, second, gear: 0, summary: summary::NONE, loan })?;
+        answer.compare(expected.0)?;
+        if answer.reasons != Some(expected.1) {
+            return Err(format!("reasons: expected {:?}, library {:?}", expected.1, answer.reasons));
+        }
+        loan.same_but_speeds(&answer.loan, &[])
     }
 
     /// `expected`: the summary of the speeds and the third.

@@ -2,6 +2,7 @@
 //! the new limit, with their neighbours. Each is worked, held and released in, put into a job, and read back.
 
 use crate::cycles;
+use crate::events::asked;
 use crate::jobs;
 use crate::library::{Library, Loan};
 use crate::paper::{self, Refusal};
@@ -87,7 +88,7 @@ impl Long<'_> {
 
     /// The summary counted whole; all 0 where that is refused.
     fn count(&mut self, card: &[u8]) -> Result<(), String> {
-        let expected = summary::of(Shown { speeds: self.speeds, card });
+        let expected = asked(|| summary::of(Shown { speeds: self.speeds, card }));
         let loan = Loan::new(self.r, self.speeds, &[], card);
         self.library.summary(&loan, &expected).map_err(|why| format!("summary: {why}"))?;
         self.summary = expected.unwrap_or(summary::NONE);
@@ -95,7 +96,7 @@ impl Long<'_> {
     }
 
     fn work(&mut self, holds: &[u8]) -> Result<Option<Vec<u8>>, String> {
-        let expected = paper::work(self.vehicle, self.speeds, holds, self.speeds.len());
+        let expected = asked(|| paper::work(self.vehicle, self.speeds, holds, self.speeds.len()));
         let noise: Vec<u8> = self.speeds.iter().map(|_| self.r.next() as u8).collect();
         let loan = Loan::new(self.r, self.speeds, holds, &noise);
         self.library.work(self.vehicle, &loan, &expected).map_err(|why| format!("work: {why}"))?;
@@ -106,10 +107,10 @@ impl Long<'_> {
     fn hold(&mut self, holds: &mut Vec<u8>, card: &mut Vec<u8>, second: usize, gear: u8) -> Result<usize, String> {
         let loan = Loan::new(self.r, self.speeds, holds, card);
         let expected = if gear == 0 {
-            let expected = paper::release(self.vehicle, self.speeds, holds, card, second);
+            let expected = asked(|| paper::release(self.vehicle, self.speeds, holds, card, second));
             self.library.release(self.vehicle, &loan, second, self.summary, &expected).map(|kept| (expected, kept))
         } else {
-            let expected = paper::hold(self.vehicle, self.speeds, holds, card, second, gear);
+            let expected = asked(|| paper::hold(self.vehicle, self.speeds, holds, card, second, gear));
             self.library.hold(self.vehicle, &loan, second, gear, self.summary, &expected).map(|kept| (expected, kept))
         };
         let (expected, kept) = expected.map_err(|why| format!("second {second} gear {gear}: {why}"))?;
@@ -129,7 +130,7 @@ impl Long<'_> {
         let bytes = jobs::groups(jobs::version_of(self.vehicle), self.vehicle, self.speeds, holds).all.concat();
         let mut answers: Vec<Option<Refusal>> = Vec::new();
         for (speeds_room, holds_room) in [(count, count), (count - 1, count), (count, count - 1), (paper::PROGRAM_ROOM, paper::PROGRAM_ROOM)] {
-            let expected = paper::read(&bytes, speeds_room, holds_room);
+            let expected = asked(|| paper::read(&bytes, speeds_room, holds_room));
             let loan = Loan::new(self.r, &vec![7; speeds_room], &vec![7; holds_room], &bytes);
             self.library.read(&loan, &expected).map_err(|why| format!("read into {speeds_room} and {holds_room}: {why}"))?;
             answers.push(expected.err());

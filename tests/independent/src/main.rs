@@ -1,6 +1,6 @@
 //! Compares the gear card library with a working of its own, written from docs/01-scope.md and requests One, Five, Eight and Nine of document 02 alone; margins and versions from request Six.
 //!
-//!   independent [--seed S] [--cases N] [--cycles DIR] -- DRIVER..    the cycles of DIR, the built-in and the scaled cycle, the long traces, then N cases of each kind (read, work, hold, release, export, write, mend, summary)
+//!   independent [--seed S] [--cases N] [--cycles DIR] -- DRIVER..    the cycles of DIR, the built-in and the scaled cycle, the long traces, then N cases of each kind (read, work, hold, release, export, write, mend, summary, why)
 //!   with --class-3 FILE: that job must have the speeds of the built-in cycle
 //!   with --threads N: so many, each with a driver of its own, where else there is one for each processor; the cases and the counts are the same
 //!   independent [--seed S] --case KIND I -- DRIVER..                 one case again (KIND as above)
@@ -25,8 +25,8 @@ mod sums;
 mod traces;
 mod vehicle;
 mod vehicles;
+mod why;
 
-use events::Event;
 use library::Library;
 use parts::{Counts, Run, Tally};
 use std::path::Path;
@@ -36,11 +36,20 @@ use std::thread;
 const DEFAULT_CASES: u64 = 600_000;
 const DEFAULT_SEED: u64 = 20_261_115;
 
-/// The numbers of refusal, those of an export and those of a write.
-const NUMBERS: [usize; 21] = [1, 2, 3, 4, 5, 6, 7, 8, 9, 10, 11, 12, 13, 14, 15, 16, 17, 19, 20, 21, 22];
-const OF_EXPORTS: [usize; 6] = [12, 16, 19, 20, 21, 22];
-const OF_SUMMARIES: [usize; 2] = [1, 2];
-const OF_WRITES: [usize; 11] = [1, 2, 3, 4, 5, 6, 7, 8, 9, 14, 17];
+/// The numbers of refusal that a case of each kind can have.
+const REFUSALS: [&[usize]; cases::KINDS.len()] = [
+    &[1, 2, 3, 12, 13, 14, 15, 16],
+    &[1, 2, 3, 4, 5, 6, 7, 8, 9, 10],
+    &[1, 2, 3, 4, 5, 6, 7, 8, 9, 10, 11],
+    &[1, 2, 3, 4, 5, 6, 7, 8, 9, 10, 11],
+    &[12, 16, 19, 20, 21, 22],
+    &[1, 2, 3, 4, 5, 6, 7, 8, 9, 14, 17],
+    &[1, 2, 3, 4, 5, 6, 7, 8, 9, 10, 11],
+    &[1, 2],
+    &[1, 2, 3, 4, 5, 6, 7, 8, 9, 10, 11],
+];
+/// The kinds that know of no vehicle.
+const WITHOUT_VEHICLE: [&str; 2] = ["export", "summary"];
 
 struct Options {
     seed: u64,
@@ -127,7 +136,6 @@ fn run(driver: &[String], options: &Options) -> Result<(), String> {
     sums::check();
     exports::check();
     println!("the paper's own sums: agreed");
-    events::hand_in();
     let opening = |library: &mut Library| opening(library, options);
     let tally = Run { driver, seed: options.seed, cases: options.cases, opening: &opening }.all(options.threads)?;
     for (kind, time) in cases::KINDS.iter().zip(tally.spent) {
@@ -137,10 +145,8 @@ fn run(driver: &[String], options: &Options) -> Result<(), String> {
     events::print();
     print_counts(&tally.met);
     print_profiles(&tally);
-    minima_met()?;
-    vans_met(&tally)?;
-    summaries_met(&tally.met)?;
-    all_met(&tally.met)
+    why::all_met()?;
+    all_met(&tally)
 }
 
 /// What is driven whole, or filled, before the cases.
@@ -152,19 +158,9 @@ fn opening(library: &mut Library, options: &Options) -> Result<(), String> {
     long::run(library, options.seed, dir)
 }
 
-/// A minimum of second gear's part that never decided was not tested, nor was a later second that an edit leaves without a gear.
-fn minima_met() -> Result<(), String> {
-    let wanted = [Event::ElsewhereDecides, Event::ClosingDecides, Event::AfterFirstDecides, Event::LaterWithout];
-    let missed: Vec<&str> = wanted.into_iter().filter_map(events::missed).collect();
-    if missed.is_empty() {
-        return Ok(());
-    }
-    Err(format!("FAILED: never met: {}", missed.join("; ")))
-}
-
 fn print_counts(met: &Counts) {
     println!("{:>9}{}", "answer", cases::KINDS.map(|kind| format!(" {kind:>8}")).concat());
-    for number in std::iter::once(0).chain(NUMBERS) {
+    for number in (0..met[0].len()).filter(|number| *number == 0 || REFUSALS.iter().any(|numbers| numbers.contains(number))) {
         let name = if number == 0 { String::from("accepted") } else { number.to_string() };
         println!("{name:>9}{}", met.map(|counts| format!(" {:>8}", counts[number])).concat());
     }
@@ -178,45 +174,17 @@ fn print_profiles(tally: &Tally) {
     }
 }
 
-/// Vans are tried with every kind that knows of vehicles, and each turn that is theirs alone.
-fn vans_met(tally: &Tally) -> Result<(), String> {
-    if let Some(kind) = (0..cases::KINDS.len()).find(|&kind| !["export", "summary"].contains(&cases::KINDS[kind]) && tally.vans[kind] == 0) {
-        return Err(format!("FAILED: no van was accepted by {}", cases::KINDS[kind]));
-    }
-    let wanted = [Event::CrawlerHeld, Event::CrawlerAtRest, Event::ProfileRead, Event::TwoGearsRead, Event::VanAsCar];
-    let missed: Vec<&str> = wanted.into_iter().filter_map(events::missed).collect();
-    if missed.is_empty() {
-        return Ok(());
-    }
-    Err(format!("FAILED: never met: {}", missed.join("; ")))
-}
-
-/// Counts that never stopped at an end, or never moved, were not tested.
-fn summaries_met(met: &Counts) -> Result<(), String> {
-    if OF_SUMMARIES.into_iter().any(|number| met[7][number] == 0) {
-        return Err(String::from("FAILED: a refusal of a summary was met by none"));
-    }
-    let wanted = [Event::InNoGear, Event::StoppedAtNone, Event::StoppedAtMost, Event::ChangesMoved, Event::StandingMoved, Event::KeptRight, Event::KeptRefused, Event::ClutchAlone];
-    let missed: Vec<&str> = wanted.into_iter().filter_map(events::missed).collect();
-    if missed.is_empty() {
-        return Ok(());
-    }
-    Err(format!("FAILED: never met: {}", missed.join("; ")))
-}
-
-/// A refusal that no case met was not tested.
-fn all_met(met: &Counts) -> Result<(), String> {
-    let by_none = NUMBERS.into_iter().filter(|&number| met.iter().all(|counts| counts[number] == 0));
-    let by_no_export = OF_EXPORTS.into_iter().filter(|&number| met[4][number] == 0);
-    let by_no_write = OF_WRITES.into_iter().filter(|&number| met[5][number] == 0);
-    for (event, name) in [(Event::TripSplit, "trip split"), (Event::TripsJoined, "two trips joined"), (Event::HoldWon, "held second not mended to rest")] {
-        if events::met(event) == 0 {
-            return Err(format!("FAILED: no case met: {name}"));
+/// What no case met was not tried: a turn of the rules, a refusal of a kind that can have it, a van in a kind that knows of vehicles.
+fn all_met(tally: &Tally) -> Result<(), String> {
+    let mut missed: Vec<String> = events::missed().into_iter().map(String::from).collect();
+    for (kind, name) in cases::KINDS.iter().enumerate() {
+        missed.extend(REFUSALS[kind].iter().filter(|number| tally.met[kind][**number] == 0).map(|number| format!("refusal {number} of {name}")));
+        if tally.vans[kind] == 0 && !WITHOUT_VEHICLE.contains(name) {
+            missed.push(format!("a van accepted by {name}"));
         }
     }
-    let missed: Vec<String> = by_none.chain(by_no_export).chain(by_no_write).map(|number| number.to_string()).collect();
     if missed.is_empty() {
         return Ok(());
     }
-    Err(format!("FAILED: no case met refusal {}", missed.join(", ")))
+    Err(format!("FAILED: never met: {}", missed.join("; ")))
 }

@@ -1,4 +1,5 @@
-//! The paper's rules, written out one by one from docs/01-scope.md and the requests of docs/02-change-requests.md that have landed, with i128 throughout.
+//! The paper's rules, written out one by one from docs/01-scope.md and the requests of docs/02-change-requests.md that have landed, powers and speeds of
+//! the engine in i128.
 //! Nothing here is meant to be quick: a rule reads as the paper words it.
 
 use crate::events::{note, Event};
@@ -83,7 +84,7 @@ pub fn engine(v: &Vehicle, gear: u8, speed: u16) -> i128 {
 }
 
 /// The nearest whole of a fraction that is not negative, halves up.
-fn nearest(top: i128, bottom: i128) -> i128 {
+fn nearest(top: i64, bottom: i64) -> i64 {
     (2 * top + bottom).div_euclid(2 * bottom)
 }
 
@@ -100,18 +101,19 @@ pub enum Lies {
 pub const LIES: [Lies; 3] = [Lies::Closing, Lies::AfterFirst, Lies::Elsewhere];
 
 pub fn minimum(v: &Vehicle, gear: u8, lies: Lies) -> i128 {
-    let (idle, rated) = (v.idle as i128, v.rated as i128);
+    let (idle, rated) = (v.idle as i64, v.rated as i64);
     // The gear of document 01 whose part it takes.
-    match (gear + 1 - lowest(v), lies) {
+    let whole = match (gear + 1 - lowest(v), lies) {
         (1, _) => idle,
         (2, Lies::Closing) => idle,
         (2, Lies::AfterFirst) => nearest(115 * idle, 100),
         (2, Lies::Elsewhere) => nearest(9 * idle, 10),
         _ => nearest(8 * idle + (rated - idle), 8),
-    }
+    };
+    whole as i128
 }
 
-fn within_nmax(v: &Vehicle, gear: u8, speed: u16) -> bool {
+pub fn within_nmax(v: &Vehicle, gear: u8, speed: u16) -> bool {
     engine(v, gear, speed) <= 1000 * v.nmax as i128
 }
 
@@ -141,10 +143,10 @@ pub fn power(v: &Vehicle, gear: u8, speed: u16) -> Power {
     let x = engine(v, gear, speed).max(1000 * v.idle as i128);
     // Request Six: derated at the points first, interpolated after that.
     let derated = |k: usize| v.p[k] as i128 * (100 - v.margin as i128 - v.m[k] as i128);
-    let at = |k: usize| (v.n[k] as i128, derated(k));
     for k in 0..v.points as usize - 1 {
-        let ((n1, p1), (n2, p2)) = (at(k), at(k + 1));
+        let (n1, n2) = (v.n[k] as i128, v.n[k + 1] as i128);
         if 1000 * n1 <= x && x <= 1000 * n2 {
+            let (p1, p2) = (derated(k), derated(k + 1));
             let w = n2 - n1;
             return Power { q: 1000 * p1 * w + (p2 - p1) * (x - 1000 * n1), w };
         }
@@ -166,7 +168,7 @@ fn at_least(a: Power, b: Power) -> bool {
 }
 
 /// D: the next speed less this one, 0 where there is no next second.
-fn change(speeds: &[u16], s: usize) -> i128 {
+pub fn change(speeds: &[u16], s: usize) -> i128 {
     match speeds.get(s + 1) {
         Some(next) => *next as i128 - speeds[s] as i128,
         None => 0,
@@ -179,11 +181,19 @@ fn opens_trip(speeds: &[u16], s: usize) -> bool {
 
 /// From this second to the end of its trip every V is above the V that follows.
 fn in_closing_run(speeds: &[u16], s: usize) -> bool {
-    let rest = speeds[s..].iter().take_while(|speed| moving(**speed)).count();
-    s + rest < speeds.len() && (s..s + rest).all(|k| speeds[k] > speeds[k + 1])
+    for k in s..speeds.len() - 1 {
+        if speeds[k] <= speeds[k + 1] {
+            return false;
+        }
+        if !moving(speeds[k + 1]) {
+            return true;
+        }
+    }
+    // The trip ends with the trace, whose last V has none that follows.
+    false
 }
 
-fn lies(v: &Vehicle, speeds: &[u16], s: usize, before: Option<u8>) -> Lies {
+pub fn lies(v: &Vehicle, speeds: &[u16], s: usize, before: Option<u8>) -> Lies {
     if in_closing_run(speeds, s) {
         Lies::Closing
     } else if before == Some(lowest(v)) {
@@ -193,17 +203,13 @@ fn lies(v: &Vehicle, speeds: &[u16], s: usize, before: Option<u8>) -> Lies {
     }
 }
 
-fn fitting_gears(v: &Vehicle, speeds: &[u16], s: usize, lies: Lies) -> Vec<u8> {
-    let opens = opens_trip(speeds, s);
-    gears(v).filter(|&gear| fits(v, gear, speeds[s], opens, lies)).collect()
-}
-
 /// The choice at a moving second without a hold; none where no gear fits.
 fn choice(v: &Vehicle, speeds: &[u16], s: usize, lies: Lies) -> Option<u8> {
     let e = required(v, speeds[s], change(speeds, s));
-    let fitting = fitting_gears(v, speeds, s, lies);
-    let strong = fitting.iter().copied().filter(|&gear| enough(power(v, gear, speeds[s]), e)).max();
-    strong.or_else(|| strongest(v, &fitting, speeds[s]))
+    let opens = opens_trip(speeds, s);
+    let fit = |gear: &u8| fits(v, *gear, speeds[s], opens, lies);
+    let strong = gears(v).rev().filter(fit).find(|&gear| enough(power(v, gear, speeds[s]), e));
+    strong.or_else(|| strongest(v, gears(v).filter(fit), speeds[s]))
 }
 
 /// The first choice at a moving second, given that of the second before where that lies in the trip; none where no gear fits.
@@ -243,10 +249,10 @@ fn first_choices(v: &Vehicle, speeds: &[u16], holds: &[u8], trip: Trip) -> Resul
 }
 
 /// Going up the gears, "at least as strong" leaves the higher gear on a tie.
-fn strongest(v: &Vehicle, fitting: &[u8], speed: u16) -> Option<u8> {
-    let mut best = *fitting.first()?;
+fn strongest(v: &Vehicle, mut fitting: impl Iterator<Item = u8>, speed: u16) -> Option<u8> {
+    let mut best = fitting.next()?;
     note(Event::NoneEnough);
-    for &gear in &fitting[1..] {
+    for gear in fitting {
         let (new, old) = (power(v, gear, speed), power(v, best, speed));
         if at_least(new, old) {
             if at_least(old, new) {
@@ -329,7 +335,7 @@ pub fn pass_b(v: &Vehicle, speeds: &[u16], holds: &[u8], trip: Trip, gears: &mut
     }
 }
 
-fn pass_c(v: &Vehicle, speeds: &[u16], holds: &[u8], trip: Trip, gears: &mut [u8]) {
+pub fn pass_c(v: &Vehicle, speeds: &[u16], holds: &[u8], trip: Trip, gears: &mut [u8]) {
     let in_tail = |s: usize| (s..=trip.last).all(|k| speeds[k] > speeds[k + 1]);
     // The tail is short beside the trip: it is looked for from the end, then walked from the left.
     let mut start = trip.last + 1;
@@ -366,7 +372,7 @@ fn work_trip(v: &Vehicle, speeds: &[u16], holds: &[u8], trip: Trip, card: &mut [
 
 // ---------------------------------------------------------------- checks
 
-fn lengths_good(speeds: usize, holds: usize, card: usize) -> Result<(), Refusal> {
+pub fn lengths_good(speeds: usize, holds: usize, card: usize) -> Result<(), Refusal> {
     if speeds == 0 || speeds > LONGEST {
         return Err((1, 0));
     }
@@ -376,7 +382,7 @@ fn lengths_good(speeds: usize, holds: usize, card: usize) -> Result<(), Refusal>
     Ok(())
 }
 
-fn vehicle_good(v: &Vehicle) -> Result<(), Refusal> {
+pub fn vehicle_good(v: &Vehicle) -> Result<(), Refusal> {
     first_bad_field(v).map_or(Ok(()), |field| Err((3, field)))
 }
 
@@ -391,7 +397,7 @@ fn seconds_good(v: &Vehicle, speeds: &[u16], holds: &[u8], from: usize, to: usiz
 }
 
 /// Refusals 4 to 9.
-fn seconds_sound(v: &Vehicle, speeds: &[u16], holds: &[u8], from: usize, to: usize) -> Result<(), Refusal> {
+pub fn seconds_sound(v: &Vehicle, speeds: &[u16], holds: &[u8], from: usize, to: usize) -> Result<(), Refusal> {
     refuse_first(4, from, to, |s| speeds[s] > 2000)?;
     refuse_first(5, from + 1, to, |s| (speeds[s] as i32 - speeds[s - 1] as i32).abs() > 150)?;
     // A trip that reaches past these seconds can only be one that reaches an end of the trace.

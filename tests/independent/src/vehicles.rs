@@ -268,9 +268,17 @@ fn break_point(r: &mut Rng, v: &mut Vehicle, point: usize) {
         0 => v.p[point] = r.pick(&[5001, 65_535]),
         1 => v.n[0] = 0,
         2 => v.n[last] = r.pick(&[16_001, v.n[last - 1]]),
-        3 => v.n[point.max(1)] = v.n[point.max(1) - 1] + r.pick(&[0, 1001]),
+        3 => put_rise(v, point.max(1), r.pick(&[0, 1001, 1001])),
         _ => v.n[point] = v.n[point].wrapping_sub(r.range(0, 1001) as u16),
     }
+}
+
+/// Later points move along, so that this rise alone is wrong, where the last of them has room for that.
+fn put_rise(v: &mut Vehicle, point: usize, rise: u16) {
+    let up = (v.n[point - 1] + rise).wrapping_sub(v.n[point]);
+    let last = v.points as usize - 1;
+    let to = if v.n[last].wrapping_add(up) <= 16_000 { last } else { point };
+    v.n[point..=to].iter_mut().for_each(|n| *n = n.wrapping_add(up));
 }
 
 /// Only field 13: the whole curve is moved up past idle, or its last points are cut off below nmax.
