@@ -1,8 +1,9 @@
-/* The library against its C twin. bench JOB            checks, then every ratio, library and twin side by side
-                               bench JOB --check      the checks alone
-                               bench JOB --list       the cases
-                               bench JOB --once CASE lib|twin|bare N   N calls of one side, for an instruction count
-   Bare is the twin of a hold or a mended sample that keeps no summary; there the others do. */
+/* The library against its C twins. bench JOB            checks, then every ratio, the sides in turn
+                                bench JOB --check      the checks alone
+                                bench JOB --list       the cases
+                                bench JOB --once CASE lib|twin|hints|bare N   N calls of one side, for an instruction count
+   Hints is the second twin, of the workings and the edits; all else it would have from the first. Bare is the twin of a hold or a mended sample that keeps
+   no summary; there the others do. A program that is linked without the second twin leaves it out. */
 #include "gearcard.h"
 #include "twin.h"
 #include <stdio.h>
@@ -16,6 +17,7 @@ typedef struct gearcard_job job_t;
 typedef struct gearcard_written written_t;
 typedef struct gearcard_summary summary_t;
 typedef struct gearcard_counted counted_t;
+typedef struct gearcard_coefficients coefficients_t;
 enum { ROOM = GEARCARD_LONGEST, MADE = 2048, BYTES = 9 * GEARCARD_LONGEST + 1024, ROUNDS = 41 }; /* MADE: seconds of a made trace */
 
 static uint64_t seed = 88172645463325252ull;
@@ -31,14 +33,15 @@ static void stop(const char *what) {
 }
 
 /* ---- cases ---- */
-enum kind { WORK, HOLD, READ, FILL, WRITE, MEND, COUNT };
-enum side { LIB, TWIN, BARE };
+enum kind { WORK, HOLD, AGAIN, RELEASE, MEND, COUNT, READ, FILL, SCALE, WRITE, EXPORT };
+enum side { LIB, TWIN, HINTS, BARE };
 typedef struct {
   char name[40];
   enum kind kind;
   car_t car;
   size_t count, second, length;
   uint8_t gear;
+  uint32_t factor; /* of a scaled cycle */
   uint16_t speed[2]; /* of a mended sample, in turn */
   summary_t summary; /* of the card, kept by the edits */
   uint16_t v[ROOM];
@@ -148,18 +151,20 @@ static const struct {
   counted_t (*count)(const uint16_t *, size_t, const uint8_t *, size_t);
   job_t (*read)(const uint8_t *, size_t, uint16_t *, size_t, uint8_t *, size_t);
   written_t (*write)(uint16_t, car_t, const uint16_t *, size_t, const uint8_t *, size_t, uint8_t *, size_t);
-} sides[2] = {{gearcard_work, gearcard_hold, gearcard_release, gearcard_mend, gearcard_summary_of, gearcard_read, gearcard_write},
-              {twin_work, twin_hold, twin_release, twin_mend, twin_summary_of, twin_read, twin_write}};
+  verdict_t (*cycle)(uint32_t, uint16_t *, size_t), (*scale)(uint32_t, uint16_t *, size_t);
+  coefficients_t (*export)(const uint8_t *, size_t);
+} sides[3] = {{gearcard_work, gearcard_hold, gearcard_release, gearcard_mend, gearcard_summary_of, gearcard_read, gearcard_write, gearcard_cycle,
+               gearcard_downscale, gearcard_export},
+              {twin_work, twin_hold, twin_release, twin_mend, twin_summary_of, twin_read, twin_write, twin_cycle, twin_downscale, twin_export},
+              {hints_work, hints_hold, hints_release, hints_mend}};
+static enum side last_twin(void) { return hints_work ? HINTS : TWIN; }
+static int is_edit(const case_t *c) { return c->kind == HOLD || c->kind == AGAIN || c->kind == RELEASE || c->kind == MEND; }
+static int has_hints(const case_t *c) { return last_twin() == HINTS && (c->kind == WORK || is_edit(c)); }
+static int has_bare(const case_t *c) { return c->kind == HOLD || c->kind == MEND; }
 
 static uint16_t room_v[ROOM];
 static uint8_t room_h[ROOM], room_w[BYTES];
-static uint16_t cycle[GEARCARD_CYCLE]; /* the twin of filling copies it by memcpy */
-static __attribute__((noinline)) verdict_t twin_cycle(uint32_t part, uint16_t *room, size_t room_length) {
-  if (part > 4) return (verdict_t){18, 0};
-  if (room_length < GEARCARD_CYCLE) return (verdict_t){2, 0};
-  memcpy(room, cycle, sizeof cycle);
-  return (verdict_t){0, 0};
-}
+
 /* The edits that keep no summary. */
 static __attribute__((noinline)) void call_bare(case_t *c, long reps) {
   size_t n = c->count;
@@ -190,6 +195,18 @@ static __attribute__((noinline)) void call(case_t *c, enum side twin, long reps)
       refused |= edited.verdict.number, c->summary = edited.summary;
     }
     break;
+  case AGAIN:
+    for (long r = 0; r < reps; r++) {
+      edited = sides[twin].hold(c->car, c->v, n, c->h, n, c->card, n, c->second, c->gear, c->summary);
+      refused |= edited.verdict.number, c->summary = edited.summary;
+    }
+    break;
+  case RELEASE:
+    for (long r = 0; r < reps; r++) {
+      edited = sides[twin].release(c->car, c->v, n, c->h, n, c->card, n, c->second, c->summary);
+      refused |= edited.verdict.number, c->summary = edited.summary;
+    }
+    break;
   case MEND: /* mended there and back in turn */
     for (long r = 0; r < reps; r++) {
       edited = sides[twin].mend(c->car, c->v, n, c->h, n, c->card, n, c->second, c->speed[r & 1], c->summary);
@@ -204,9 +221,15 @@ static __attribute__((noinline)) void call(case_t *c, enum side twin, long reps)
     break;
   case FILL:
     for (long r = 0; r < reps; r++) {
-      refused |= (twin ? twin_cycle : gearcard_cycle)(0, room_v, ROOM).number;
+      refused |= sides[twin].cycle(0, room_v, ROOM).number;
       __asm__ volatile("" : : "r"(room_v) : "memory"); /* the room counts as read */
     }
+    break;
+  case SCALE:
+    for (long r = 0; r < reps; r++) refused |= sides[twin].scale(c->factor, room_v, GEARCARD_CYCLE).number;
+    break;
+  case EXPORT:
+    for (long r = 0; r < reps; r++) refused |= sides[twin].export(c->job, c->length).verdict.number;
     break;
   case WRITE:
     for (long r = 0; r < reps; r++) refused |= sides[twin].write(1, c->car, c->v, n, c->h, n, room_w, BYTES).verdict.number;
@@ -215,7 +238,7 @@ static __attribute__((noinline)) void call(case_t *c, enum side twin, long reps)
 }
 
 /* ---- the same bytes ---- */
-static long numbers[18], stops[2];
+static long numbers[24], stops[2];
 /* Any summary: mostly counts as cards have them, some at or near an end. */
 static summary_t random_summary(void) {
   uint16_t x[12];
@@ -240,6 +263,10 @@ static uint32_t same_verdict(const char *what, verdict_t a, verdict_t b) {
     fprintf(stderr, "%s: library %u at %zu, twin %u at %zu\n", what, a.number, a.place, b.number, b.place);
     exit(1);
   }
+  return a.number;
+}
+/* Counts an answer of the library that each twin has given. */
+static uint32_t told(verdict_t a) {
   numbers[a.number]++;
   return a.number;
 }
@@ -247,49 +274,54 @@ static int same_car(const car_t *a, const car_t *b) { /* without the gaps before
   size_t gap = offsetof(car_t, nmax) + 4, f1 = offsetof(car_t, f1), end = offsetof(car_t, profile) + sizeof a->profile;
   return !memcmp(a, b, gap) && !memcmp((const char *)a + f1, (const char *)b + f1, end - f1);
 }
+/* Why at some seconds of an accepted trace: the last step comes to the card's byte. */
+static void same_bytes(const car_t *car, const uint16_t *v, size_t n, const uint8_t *h, const uint8_t *card) {
+  for (size_t s = 0; s < n; s += 1 + n / 7) {
+    struct gearcard_why why = gearcard_why(*car, v, n, h, n, s);
+    if (why.verdict.number || why.reasons.byte != card[s]) stop("why: not the card's byte");
+  }
+}
+
 static uint32_t same_work(const car_t *car, const uint16_t *v, size_t n, const uint8_t *h, size_t nh, size_t nc) {
   uint8_t x[ROOM + 64], y[ROOM + 64];
   memset(x, 0xa5, sizeof x);
-  memset(y, 0xa5, sizeof y);
-  verdict_t a = gearcard_work(*car, v, n, h, nh, x, nc), b = twin_work(*car, v, n, h, nh, y, nc);
-  if (memcmp(x, y, sizeof x)) stop("work: bytes differ");
-  return same_verdict("work", a, b);
+  verdict_t a = gearcard_work(*car, v, n, h, nh, x, nc);
+  for (enum side s = TWIN; s <= last_twin(); s++) {
+    memset(y, 0xa5, sizeof y);
+    same_verdict("work", a, sides[s].work(*car, v, n, h, nh, y, nc));
+    if (memcmp(x, y, sizeof x)) stop("work: bytes differ");
+  }
+  if (!a.number) same_bytes(car, v, n, h, x);
+  return told(a);
 }
-static uint32_t same_hold(const car_t *car, const uint16_t *v, size_t n, uint8_t *h, uint8_t *card, size_t second, uint8_t gear) {
-  static uint8_t h2[ROOM + 64], c2[ROOM + 64];
-  memcpy(h2, h, n);
-  memcpy(c2, card, n);
-  summary_t any = random_summary();
-  counted_t a = gearcard_hold(*car, v, n, h, n, card, n, second, gear, any), b = twin_hold(*car, v, n, h2, n, c2, n, second, gear, any);
-  if (memcmp(h, h2, n) || memcmp(card, c2, n)) stop("hold: bytes differ");
-  same_summary("hold", any, a, b);
-  return same_verdict("hold", a.verdict, b.verdict);
+static counted_t edited_by(enum side s, enum kind kind, const car_t *car, uint16_t *v, size_t n, uint8_t *h, uint8_t *card, size_t second, uint16_t asked,
+                           summary_t any) {
+  if (kind == HOLD) return sides[s].hold(*car, v, n, h, n, card, n, second, (uint8_t)asked, any);
+  if (kind == RELEASE) return sides[s].release(*car, v, n, h, n, card, n, second, any);
+  return sides[s].mend(*car, v, n, h, n, card, n, second, asked, any);
 }
-static uint32_t same_mend(const car_t *car, uint16_t *v, size_t n, const uint8_t *h, uint8_t *card, size_t second, uint16_t speed) {
-  static uint16_t v2[ROOM + 64];
-  static uint8_t c2[ROOM + 64];
-  memcpy(v2, v, n * sizeof *v);
-  memcpy(c2, card, n);
+/* A hold of the gear asked, a release, or a sample mended to the speed asked, with any summary; the twins' on copies. */
+static uint32_t same_edit(enum kind kind, const car_t *car, uint16_t *v, size_t n, uint8_t *h, uint8_t *card, size_t second, uint16_t asked) {
+  static uint16_t v1[ROOM], v2[ROOM];
+  static uint8_t h1[ROOM], h2[ROOM], c1[ROOM], c2[ROOM];
+  const char *what = kind == HOLD ? "hold" : kind == RELEASE ? "release" : "mend";
   summary_t any = random_summary();
-  counted_t a = gearcard_mend(*car, v, n, h, n, card, n, second, speed, any), b = twin_mend(*car, v2, n, h, n, c2, n, second, speed, any);
-  if (memcmp(v2, v, n * sizeof *v) || memcmp(c2, card, n)) stop("mend: bytes differ");
-  same_summary("mend", any, a, b);
-  return same_verdict("mend", a.verdict, b.verdict);
-}
-static uint32_t same_release(const car_t *car, const uint16_t *v, size_t n, uint8_t *h, uint8_t *card, size_t second) {
-  static uint8_t h2[ROOM + 64], c2[ROOM + 64];
-  memcpy(h2, h, n);
-  memcpy(c2, card, n);
-  summary_t any = random_summary();
-  counted_t a = gearcard_release(*car, v, n, h, n, card, n, second, any), b = twin_release(*car, v, n, h2, n, c2, n, second, any);
-  if (memcmp(h, h2, n) || memcmp(card, c2, n)) stop("release: bytes differ");
-  same_summary("release", any, a, b);
-  return same_verdict("release", a.verdict, b.verdict);
+  memcpy(v1, v, n * sizeof *v), memcpy(h1, h, n), memcpy(c1, card, n);
+  counted_t a = edited_by(LIB, kind, car, v, n, h, card, second, asked, any);
+  for (enum side s = TWIN; s <= last_twin(); s++) {
+    memcpy(v2, v1, n * sizeof *v), memcpy(h2, h1, n), memcpy(c2, c1, n);
+    counted_t b = edited_by(s, kind, car, v2, n, h2, c2, second, asked, any);
+    same_verdict(what, a.verdict, b.verdict);
+    if (memcmp(v, v2, n * sizeof *v) || memcmp(h, h2, n) || memcmp(card, c2, n)) fprintf(stderr, "%s: ", what), stop("bytes differ");
+    same_summary(what, any, a, b);
+  }
+  return told(a.verdict);
 }
 static uint32_t same_count(const uint16_t *v, size_t n, const uint8_t *card, size_t nc) {
   counted_t a = gearcard_summary_of(v, n, card, nc), b = twin_summary_of(v, n, card, nc);
   same_summary("summary", a.summary, a, b);
-  return same_verdict("summary", a.verdict, b.verdict);
+  same_verdict("summary", a.verdict, b.verdict);
+  return told(a.verdict);
 }
 static uint32_t same_read(const uint8_t *s, size_t len, size_t rs, size_t rh) {
   static uint16_t v1[ROOM + 64], v2[ROOM + 64];
@@ -297,7 +329,8 @@ static uint32_t same_read(const uint8_t *s, size_t len, size_t rs, size_t rh) {
   memset(v1, 0xa5, sizeof v1), memset(v2, 0xa5, sizeof v2), memset(h1, 0xa5, sizeof h1), memset(h2, 0xa5, sizeof h2);
   job_t a = gearcard_read(s, len, v1, rs, h1, rh), b = twin_read(s, len, v2, rs, h2, rh);
   if (a.version != b.version || !same_car(&a.vehicle, &b.vehicle) || a.count != b.count || memcmp(v1, v2, sizeof v1) || memcmp(h1, h2, sizeof h1)) stop("read: bytes differ");
-  return same_verdict("read", a.verdict, b.verdict);
+  same_verdict("read", a.verdict, b.verdict);
+  return told(a.verdict);
 }
 
 static uint32_t same_write(uint16_t version, const car_t *car, const uint16_t *v, size_t n, const uint8_t *h, size_t nh, size_t nr) {
@@ -306,7 +339,8 @@ static uint32_t same_write(uint16_t version, const car_t *car, const uint16_t *v
   memset(y, 0xa5, sizeof y);
   written_t a = gearcard_write(version, *car, v, n, h, nh, x, nr), b = twin_write(version, *car, v, n, h, nh, y, nr);
   if (a.length != b.length || memcmp(x, y, sizeof x)) stop("write: bytes differ");
-  return same_verdict("write", a.verdict, b.verdict);
+  same_verdict("write", a.verdict, b.verdict);
+  return told(a.verdict);
 }
 
 static car_t random_car(void) {
@@ -393,14 +427,14 @@ static void random_checks(long rounds) {
       size_t second = rnd((uint32_t)n + (rnd(8) == 0));
       uint8_t gear = (uint8_t)rnd(car.ng + 1u + (rnd(6) == 0));
       if (rnd(20) == 0) gear = (uint8_t)rnd(256);
-      same_hold(&car, v, n, h, card, second, gear);
-      if (rnd(3) == 0) same_release(&car, v, n, h, card, rnd(2) ? second : rnd((uint32_t)n + (rnd(8) == 0)));
+      same_edit(HOLD, &car, v, n, h, card, second, gear);
+      if (rnd(3) == 0) same_edit(RELEASE, &car, v, n, h, card, rnd(2) ? second : rnd((uint32_t)n + (rnd(8) == 0)), 0);
     }
     for (int k = 0; k < 6; k++) { /* a little more or less, at rest, as a neighbour, or anything */
       size_t second = rnd((uint32_t)n + (rnd(8) == 0));
       uint16_t now = second < n ? v[second] : 0;
       uint32_t how = rnd(8), speed = how < 3 ? now + rnd(40) : how < 5 ? rnd(16) : how < 6 ? (uint32_t)v[second ? second - 1 : 0] + rnd(20) : how < 7 ? now : rnd(2200);
-      same_mend(&car, v, n, h, card, second, (uint16_t)speed);
+      same_edit(MEND, &car, v, n, h, card, second, (uint16_t)speed);
     }
     if (no == 0) { /* the quick way gave what the whole working gives */
       uint8_t whole[ROOM];
@@ -423,12 +457,58 @@ static void random_checks(long rounds) {
   }
 }
 
-static uint32_t same_cycle(void) {
-  uint16_t a[ROOM], b[ROOM];
+/* Of a room filled with the cycle, as it is or scaled. */
+static uint32_t same_filled(enum kind kind, uint32_t asked, size_t length) {
+  static uint16_t a[ROOM], b[ROOM];
   memset(a, 0xa5, sizeof a), memset(b, 0xa5, sizeof b);
-  verdict_t x = gearcard_cycle(0, a, ROOM), y = twin_cycle(0, b, ROOM);
+  verdict_t x = kind == FILL ? gearcard_cycle(asked, a, length) : gearcard_downscale(asked, a, length);
+  same_verdict("fill", x, kind == FILL ? twin_cycle(asked, b, length) : twin_downscale(asked, b, length));
   if (memcmp(a, b, sizeof a)) stop("fill: bytes differ");
-  return same_verdict("fill", x, y);
+  return told(x);
+}
+static uint32_t same_export(const uint8_t *s, size_t len) {
+  coefficients_t a = gearcard_export(s, len), b = twin_export(s, len);
+  same_verdict("export", a.verdict, b.verdict);
+  if (a.f0 != b.f0 || a.f1 != b.f1 || a.f2 != b.f2 || a.tm != b.tm) stop("export: numbers differ");
+  return told(a.verdict);
+}
+/* An export of the two records, in either order; its length. */
+static size_t export_of(uint8_t *s, const float *load, float mass, int mass_first) {
+  size_t at = 0;
+  for (int k = 0; k < 2; k++)
+    if (k == mass_first) s[at] = 1, memcpy(s + at + 1, load, 12), at += 13;
+    else s[at] = 2, memcpy(s + at + 1, &mass, 4), at += 5;
+  s[at] = 0;
+  return at + 1;
+}
+static void filled_checks(void) {
+  static const struct gearcard_part parts[7] = {{0, 1801}, {0, 590}, {589, 434}, {1022, 456}, {1477, 324}};
+  for (uint32_t part = 0; part < 7; part++)
+    for (size_t length = GEARCARD_CYCLE - 1; length < GEARCARD_CYCLE + 2; length++) {
+      struct gearcard_part a = gearcard_cycle_part(part, length), b = parts[same_filled(FILL, part, length) ? 6 : part];
+      if (a.first != b.first || a.count != b.count) stop("part: not where it stands");
+    }
+  for (uint32_t factor = 0; factor < 503; factor++) same_filled(SCALE, factor, GEARCARD_CYCLE);
+  same_filled(SCALE, 0, ROOM);
+}
+/* Floats at and near a half of a unit, any bits, and exports cut short, lengthened, or with a byte changed. */
+static void export_checks(long rounds) {
+  static const float unit[4] = {0.1f, 0.001f, 0.00001f, 1};
+  for (long r = 0; r < rounds; r++) {
+    uint8_t s[24] = {0};
+    float x[4];
+    for (int k = 0; k < 4; k++) {
+      x[k] = ((float)rnd(k == 3 ? 4100 : k == 2 ? 20100 : 10100) + (float)rnd(3) / 2 - (k == 1 ? 5000 : 0)) * unit[k];
+      uint32_t bits = rnd(65536) << 16 | rnd(65536);
+      if (rnd(24) == 0) memcpy(&x[k], &bits, 4);
+    }
+    size_t len = export_of(s, x, x[3], (int)rnd(2));
+    same_export(s, len);
+    same_export(s, len + rnd(3));
+    same_export(s, rnd((uint32_t)len));
+    s[rnd((uint32_t)len)] = (uint8_t)(rnd(2) ? rnd(4) : rnd(256));
+    same_export(s, len);
+  }
 }
 
 /* ---- the cases ---- */
@@ -441,15 +521,39 @@ static int by_length(const void *x, const void *y) {
   return i < j ? -1 : i > j ? 1 : a->a < b->a ? -1 : 1;
 }
 
+/* Too weak for its gears: no gear has enough power, so each that fits is looked at. */
+static car_t weak_car(unsigned gears, unsigned points) {
+  car_t c = car_of(points);
+  c.ng = (uint16_t)gears;
+  if (gears > 6)
+    for (unsigned g = 1; g < gears; g++) c.ratio[g] = (uint16_t)(c.ratio[g - 1] * 82 / 100);
+  for (unsigned i = 0; i < points; i++) c.p[i] = (uint16_t)(1 + 8 * i / points);
+  return c;
+}
+
+/* The lowest gear up to nmax. */
+static uint8_t lowest_gear(const car_t *c, uint16_t v) {
+  uint8_t g = 1;
+  while (g < c->ng && (uint32_t)c->ratio[g - 1] * v > 1000u * c->nmax) g++;
+  return g;
+}
+
+/* A case of a trace, without holds. */
+static case_t *traced(const char *name, enum kind kind, const car_t *car, const uint16_t *v, size_t n) {
+  case_t *c = fresh(name, kind);
+  c->car = *car, c->count = n;
+  memcpy(c->v, v, n * sizeof *v);
+  return c;
+}
+
 /* A trace worked by the plausible car, with each number of curve points. */
 static void work_cases(const char *trace, const uint16_t *v, size_t n) {
   static const unsigned points[3] = {5, 7, 64};
   for (int k = 0; k < 3; k++) {
     char name[40];
     snprintf(name, sizeof name, "work.%s.%u", trace, points[k]);
-    case_t *c = fresh(name, WORK);
-    c->car = car_of(points[k]), c->count = n;
-    memcpy(c->v, v, n * sizeof *v);
+    car_t car = car_of(points[k]);
+    traced(name, WORK, &car, v, n);
   }
 }
 
@@ -467,9 +571,7 @@ static void joined_cases(const car_t *car, const uint16_t *v, size_t n) {
     for (int w = 0; w < 3; w++) {
       char name[40];
       snprintf(name, sizeof name, "%s.joined.%zu", kinds[w], all);
-      case_t *c = fresh(name, w == 0 ? WORK : w == 1 ? HOLD : READ);
-      c->car = *car, c->count = all;
-      memcpy(c->v, joined, all * sizeof *joined);
+      case_t *c = traced(name, w == 0 ? WORK : w == 1 ? HOLD : READ, car, joined, all);
       if (w == 1) {
         span_t trip = trips[(ntrips - 1) / 2];
         gearcard_work(c->car, c->v, all, c->h, all, c->card, all);
@@ -478,6 +580,34 @@ static void joined_cases(const car_t *car, const uint16_t *v, size_t n) {
       if (w == 2) c->length = encode(c->job, 1, car, joined, all, none);
     }
   }
+}
+
+/* The three trips that most edits are tried in. */
+static const char *trip_name(int t) { return t == 0 ? "short" : t == ntrips - 1 ? "longest" : t == (ntrips - 1) / 2 ? "typical" : NULL; }
+/* An edit at the middle of a trip. */
+static case_t *edit_case(enum kind kind, const char *name, int t, const car_t *car, const uint16_t *v, size_t n, const uint8_t *card) {
+  case_t *c = traced(name, kind, car, v, n);
+  memcpy(c->card, card, n);
+  c->length = trips[t].b - trips[t].a;
+  c->second = trips[t].a + c->length / 2;
+  return c;
+}
+/* The gear below the card's, or the card's where that would be past nmax. */
+static void hold_case(enum kind kind, const char *edit, int t, const char *trip, const car_t *car, const uint16_t *v, size_t n, const uint8_t *card) {
+  char name[40];
+  snprintf(name, sizeof name, "%s.%s", edit, trip);
+  case_t *c = edit_case(kind, name, t, car, v, n, card);
+  uint32_t g = card[c->second] & 15;
+  if (g > 1 && (uint32_t)c->car.ratio[g - 2] * v[c->second] <= 1000u * c->car.nmax) g--;
+  c->gear = (uint8_t)g;
+}
+/* A little more, and back. */
+static case_t *mend_case(int t, const char *trip, const car_t *car, const uint16_t *v, size_t n, const uint8_t *card) {
+  char name[40];
+  snprintf(name, sizeof name, "mend.%s", trip);
+  case_t *c = edit_case(MEND, name, t, car, v, n, card);
+  c->speed[0] = (uint16_t)(v[c->second] + 1), c->speed[1] = v[c->second];
+  return c;
 }
 
 static void build(const char *path) {
@@ -491,15 +621,15 @@ static void build(const char *path) {
   job_t job = gearcard_read(bytes, len, v, ROOM, h, ROOM);
   if (job.verdict.number) stop("the job is refused");
   size_t n = job.count;
-  char name[40];
   case_t *c;
-  c = fresh("work.class3.own", WORK); /* the job's own car */
-  c->car = job.vehicle, c->count = n;
-  memcpy(c->v, v, sizeof v);
-  c = fresh("work.class3.gap", WORK); /* with a gap between gears 1 and 2: V 158 has no gear after gear 1 */
-  c->car = job.vehicle, c->count = n;
-  c->car.ratio[0] = 39400, c->car.ratio[1] = 5450;
-  memcpy(c->v, v, sizeof v);
+  traced("work.class3.own", WORK, &job.vehicle, v, n); /* the job's own car */
+  car_t gap = job.vehicle, weak = weak_car(6, 7), weak10 = weak_car(10, 64);
+  gap.ratio[0] = 39400, gap.ratio[1] = 5450; /* between gears 1 and 2: V 158 has no gear after gear 1 */
+  traced("work.class3.gap", WORK, &gap, v, n);
+  traced("work.weak.6.7", WORK, &weak, v, n);
+  traced("work.weak.10.64", WORK, &weak10, v, n);
+  c = traced("work.held", WORK, &job.vehicle, v, n); /* every moving second */
+  for (size_t i = 0; i < n; i++) c->h[i] = v[i] >= 10 ? lowest_gear(&c->car, v[i]) : 0;
   work_cases("class3", v, n);
   static uint16_t one[MADE], many[MADE];
   one_trip(one, MADE);
@@ -519,40 +649,27 @@ static void build(const char *path) {
   }
   qsort(trips, (size_t)ntrips, sizeof *trips, by_length);
   for (int t = 0; t < ntrips; t++) {
-    const char *what = t == 0 ? "short" : t == ntrips - 1 ? "longest" : t == (ntrips - 1) / 2 ? "typical" : "trip";
-    if (!strcmp(what, "trip")) snprintf(name, sizeof name, "hold.trip%zu", trips[t].b - trips[t].a);
-    else snprintf(name, sizeof name, "hold.%s", what);
-    c = fresh(name, HOLD), c->car = job.vehicle, c->count = n;
-    memcpy(c->v, v, sizeof v);
-    memcpy(c->card, card, sizeof card);
-    c->length = trips[t].b - trips[t].a;
-    c->second = trips[t].a + c->length / 2;
-    uint32_t g = card[c->second] & 15;
-    if (g > 1 && (uint32_t)c->car.ratio[g - 2] * v[c->second] <= 1000u * c->car.nmax) g--;
-    c->gear = (uint8_t)g;
+    char what[20];
+    snprintf(what, sizeof what, "trip%zu", trips[t].b - trips[t].a);
+    hold_case(HOLD, "hold", t, trip_name(t) ? trip_name(t) : what, &job.vehicle, v, n, card);
   }
-  /* samples mended: a little more and back, in the same trips; the longest trip that can be split by one sample, split and joined again */
-  for (int t = 0; t < ntrips; t++) {
-    const char *what = t == 0 ? "short" : t == ntrips - 1 ? "longest" : t == (ntrips - 1) / 2 ? "typical" : NULL;
-    if (!what) continue;
-    snprintf(name, sizeof name, "mend.%s", what);
-    c = fresh(name, MEND), c->car = job.vehicle, c->count = n;
-    memcpy(c->v, v, sizeof v);
-    memcpy(c->card, card, sizeof card);
-    c->length = trips[t].b - trips[t].a;
-    c->second = trips[t].a + c->length / 2;
-    c->speed[0] = (uint16_t)(v[c->second] + 1), c->speed[1] = v[c->second];
-  }
-  c = fresh("mend.split", MEND), c->car = job.vehicle, c->count = n;
-  memcpy(c->v, v, sizeof v);
-  memcpy(c->card, card, sizeof card);
+  /* held again and again, released again and again, and samples mended: a little more and back; of three trips */
+  for (int t = 0; t < ntrips; t++)
+    if (trip_name(t)) hold_case(AGAIN, "again", t, trip_name(t), &job.vehicle, v, n, card);
+  for (int t = 0; t < ntrips; t++)
+    if (trip_name(t)) hold_case(RELEASE, "release", t, trip_name(t), &job.vehicle, v, n, card);
+  for (int t = 0; t < ntrips; t++)
+    if (trip_name(t)) mend_case(t, trip_name(t), &job.vehicle, v, n, card);
+  /* the longest trip that can be split by one sample, split and joined again; and the typical one with the car that has a gap */
+  c = edit_case(MEND, "mend.split", 0, &job.vehicle, v, n, card);
   for (int t = 0; t < ntrips; t++)
     for (size_t i = trips[t].a + 1; i + 1 < trips[t].b; i++)
       if (v[i - 1] <= 150 && v[i + 1] <= 150) c->second = i, c->length = trips[t].b - trips[t].a;
   c->speed[0] = 0, c->speed[1] = v[c->second];
+  c = mend_case((ntrips - 1) / 2, "gap", &gap, v, n, card);
+  gearcard_work(gap, v, n, h, n, c->card, n);
   /* a summary counted whole */
-  c = fresh("count.class3", COUNT), c->count = n;
-  memcpy(c->v, v, sizeof v);
+  c = traced("count.class3", COUNT, &job.vehicle, v, n);
   memcpy(c->card, card, sizeof card);
   /* reading */
   c = fresh("read.class3", READ);
@@ -572,21 +689,19 @@ static void build(const char *path) {
   /* the built-in cycle, which is the job's */
   fresh("fill.class3", FILL);
   if (n != GEARCARD_CYCLE) stop("the job is not the Class 3 cycle");
-  memcpy(cycle, v, sizeof cycle);
+  memcpy(twin_table, v, sizeof twin_table);
+  fresh("scale.class3", SCALE)->factor = 250;
+  /* the road load of the job's car, as the bench exports it */
+  c = fresh("export", EXPORT);
+  float load[3] = {(float)job.vehicle.f0 / 10, (float)job.vehicle.f1 / 1000, (float)job.vehicle.f2 / 100000};
+  c->length = export_of(c->job, load, job.vehicle.tm, 0);
   /* writing */
-  c = fresh("write.class3", WRITE);
-  c->car = job.vehicle, c->count = n;
-  memcpy(c->v, v, sizeof v);
-  c = fresh("write.long", WRITE); /* 2,048 seconds, a hold at every moving one */
-  c->car = car_of(64), c->count = MADE;
-  memcpy(c->v, one, sizeof one);
-  for (size_t i = 0; i < MADE; i++) { /* the lowest gear up to nmax */
-    uint8_t g = 1;
-    while (g < c->car.ng && (uint32_t)c->car.ratio[g - 1] * one[i] > 1000u * c->car.nmax) g++;
-    c->h[i] = one[i] >= 10 ? g : 0;
-  }
+  traced("write.class3", WRITE, &job.vehicle, v, n);
+  car_t fine = car_of(64);
+  c = traced("write.long", WRITE, &fine, one, MADE); /* 2,048 seconds, a hold at every moving one */
+  for (size_t i = 0; i < MADE; i++) c->h[i] = one[i] >= 10 ? lowest_gear(&c->car, one[i]) : 0;
   for (int i = 0; i < ncases; i++)
-    if (cases[i].kind == HOLD || cases[i].kind == MEND) cases[i].summary = gearcard_summary_of(cases[i].v, cases[i].count, cases[i].card, cases[i].count).summary;
+    if (is_edit(&cases[i])) cases[i].summary = gearcard_summary_of(cases[i].v, cases[i].count, cases[i].card, cases[i].count).summary;
 }
 
 /* ---- time ---- */
@@ -615,105 +730,125 @@ static long reps_for(case_t *c, enum side twin, double want) {
     r *= 2;
   }
 }
-static void row(const char *name, const char *what, double *x, int n) {
-  qsort(x, (size_t)n, sizeof *x, up);
-  printf("%-18s %-22s %7.3f   [%.3f .. %.3f]\n", name, what, x[n / 2], x[n / 10], x[n - 1 - n / 10]);
+/* A line of the table: the first ratios, and others beside them where there are some. */
+static void spread(double *x) {
+  qsort(x, ROUNDS, sizeof *x, up);
+  printf(" %7.3f [%.3f .. %.3f]", x[ROUNDS / 2], x[ROUNDS / 10], x[ROUNDS - 1 - ROUNDS / 10]);
+}
+static void row(const char *name, const char *what, double *x, double *beside) {
+  printf("%-18s %-24s", name, what);
+  spread(x);
+  if (beside) spread(beside);
+  printf("\n");
   fflush(stdout);
 }
 
+/* Each side in turn, A B C, then C B A; what the summary of an edit costs, too. */
+static void against_twins(case_t *c) {
+  double x[ROUNDS], y[ROUNDS], took[3];
+  long reps = reps_for(c, TWIN, 0.004);
+  enum side end = has_hints(c) ? HINTS : TWIN;
+  timed(c, LIB, reps);
+  for (int r = 0; r < ROUNDS; r++) {
+    for (int k = 0; k <= (int)end; k++) {
+      int s = r & 1 ? (int)end - k : k;
+      took[s] = timed(c, (enum side)s, reps);
+    }
+    x[r] = took[LIB] / took[TWIN], y[r] = took[LIB] / took[end];
+  }
+  if (end == HINTS) row(c->name, "library / twin, / second", x, y);
+  else row(c->name, "library / twin", x, NULL);
+  if (!has_bare(c)) return;
+  for (int r = 0; r < ROUNDS; r++) {
+    double bare = timed(c, BARE, reps);
+    x[r] = timed(c, LIB, reps) / bare, y[r] = timed(c, TWIN, reps) / bare;
+  }
+  row(c->name, "library, twin / bare", x, y);
+}
+
+/* One case's time by another's, each over so many seconds: the library's, and the twin's beside it. */
+static void by_other(const char *name, const char *what, case_t *a, case_t *b, double seconds_a, double seconds_b) {
+  double x[2][ROUNDS];
+  for (enum side s = LIB; s <= TWIN; s++) {
+    long ra = reps_for(a, s, 0.003), rb = reps_for(b, s, 0.003);
+    for (int r = 0; r < ROUNDS; r++) {
+      double of_a = timed(a, s, ra) / (double)ra / seconds_a;
+      x[s][r] = of_a / (timed(b, s, rb) / (double)rb / seconds_b);
+    }
+  }
+  row(name, what, x[LIB], x[TWIN]);
+}
+static case_t *named(const char *name) {
+  for (int i = 0; i < ncases; i++)
+    if (!strcmp(cases[i].name, name)) return &cases[i];
+  stop("no such case");
+  return NULL;
+}
+
 int main(int argc, char **argv) {
-  if (argc < 2) stop("bench JOB [--check | --list | --once CASE lib|twin|bare N]");
+  if (argc < 2) stop("bench JOB [--check | --list | --once CASE lib|twin|hints|bare N]");
   build(argv[1]);
   if (argc > 2 && !strcmp(argv[2], "--list")) {
     for (int i = 0; i < ncases; i++) printf("%s\n", cases[i].name);
     return 0;
   }
   if (argc > 5 && !strcmp(argv[2], "--once")) {
-    for (int i = 0; i < ncases; i++)
-      if (!strcmp(cases[i].name, argv[3])) {
-        enum side side = !strcmp(argv[4], "lib") ? LIB : !strcmp(argv[4], "twin") ? TWIN : BARE;
-        if (side == BARE && cases[i].kind != HOLD && cases[i].kind != MEND) stop("only a hold or a mended sample is bare");
-        call(&cases[i], side, atol(argv[5]));
-        return 0;
-      }
-    stop("no such case");
+    case_t *c = named(argv[3]);
+    enum side side = !strcmp(argv[4], "lib") ? LIB : !strcmp(argv[4], "twin") ? TWIN : !strcmp(argv[4], "hints") ? HINTS : BARE;
+    if (side == BARE && !has_bare(c)) stop("only a hold or a mended sample is bare");
+    if (side == HINTS && !has_hints(c)) stop("only a working or an edit has a second twin, where that is linked");
+    call(c, side, atol(argv[5]));
+    return 0;
   }
   for (int i = 0; i < ncases; i++) {
     case_t *c = &cases[i];
     uint32_t no = 0;
     if (c->kind == WORK) no = same_work(&c->car, c->v, c->count, c->h, c->count, c->count);
     if (c->kind == READ) no = same_read(c->job, c->length, ROOM, ROOM);
-    if (c->kind == FILL) no = same_cycle();
+    if (c->kind == FILL || c->kind == SCALE) no = same_filled(c->kind, c->factor, GEARCARD_CYCLE);
+    if (c->kind == EXPORT) no = same_export(c->job, c->length);
     if (c->kind == COUNT) no = same_count(c->v, c->count, c->card, c->count);
     if (c->kind == WRITE) no = same_write(1, &c->car, c->v, c->count, c->h, c->count, BYTES);
-    if (c->kind == HOLD) {
-      uint8_t h[ROOM], card[ROOM];
-      memcpy(h, c->h, ROOM), memcpy(card, c->card, ROOM);
-      no = same_hold(&c->car, c->v, c->count, h, card, c->second, c->gear);
-      no |= same_release(&c->car, c->v, c->count, h, card, c->second);
-      if (memcmp(card, c->card, c->count)) stop("hold and release: not the card as it was");
-    }
-    if (c->kind == MEND) {
+    if (is_edit(c)) { /* as it is called: there, and back where there is a way back */
       uint16_t w[ROOM];
-      uint8_t card[ROOM];
-      memcpy(w, c->v, sizeof w), memcpy(card, c->card, ROOM);
-      no = same_mend(&c->car, w, c->count, c->h, card, c->second, c->speed[0]);
-      no |= same_mend(&c->car, w, c->count, c->h, card, c->second, c->speed[1]);
-      if (memcmp(card, c->card, c->count)) stop("mend and back: not the card as it was");
+      uint8_t h[ROOM], card[ROOM];
+      memcpy(w, c->v, sizeof w), memcpy(h, c->h, ROOM), memcpy(card, c->card, ROOM);
+      enum kind there = c->kind == AGAIN ? HOLD : c->kind, back = c->kind == HOLD ? RELEASE : there;
+      no = same_edit(there, &c->car, w, c->count, h, card, c->second, there == MEND ? c->speed[0] : c->gear);
+      no |= same_edit(back, &c->car, w, c->count, h, card, c->second, back == MEND ? c->speed[1] : c->gear);
+      if (c->kind != AGAIN && memcmp(card, c->card, c->count)) stop("an edit and back: not the card as it was");
     }
     if (no) {
       fprintf(stderr, "%s is refused by %u\n", c->name, no);
       return 1;
     }
   }
-  printf("same bytes on every benchmark input (%d cases)\n", ncases);
+  printf("same bytes on every benchmark input (%d cases), of %s\n", ncases, last_twin() == HINTS ? "both twins" : "the twin");
   memset(numbers, 0, sizeof numbers);
   random_checks(6000);
-  printf("same bytes on 6000 random cars and traces (work, writes, summaries, 6 holds, 6 mended samples, reads each); answers by number:");
-  for (int i = 0; i < 18; i++) printf(" %d:%ld", i, numbers[i]);
+  export_checks(6000);
+  filled_checks();
+  printf("same bytes on 6000 random cars and traces (work, writes, summaries, 6 holds, 6 mended samples, reads each), 6000 random exports, every factor and part;");
+  printf(" answers by number:");
+  for (int i = 0; i < 24; i++) printf(" %d:%ld", i, numbers[i]);
   printf("; counts brought to 0: %ld, to 65535: %ld\n", stops[0], stops[1]);
   if (argc > 2 && !strcmp(argv[2], "--check")) return 0;
 
-  double x[ROUNDS], y[ROUNDS];
-  printf("\ncase               ratio                   median   [10th .. 90th percentile], %d rounds\n", ROUNDS);
-  for (int i = 0; i < ncases; i++) {
-    case_t *c = &cases[i];
-    long reps = reps_for(c, 1, 0.004);
-    timed(c, 0, reps);
-    for (int r = 0; r < ROUNDS; r++) { /* A B, then B A */
-      double a, b;
-      if (r & 1) b = timed(c, 1, reps), a = timed(c, 0, reps);
-      else a = timed(c, 0, reps), b = timed(c, 1, reps);
-      x[r] = a / b;
-    }
-    row(c->name, "library / twin", x, ROUNDS);
-    if (c->kind != HOLD && c->kind != MEND) continue;
-    for (int r = 0; r < ROUNDS; r++) { /* what the summary costs */
-      double bare = timed(c, BARE, reps);
-      x[r] = timed(c, LIB, reps) / bare, y[r] = timed(c, TWIN, reps) / bare;
-    }
-    row(c->name, "library / bare twin", x, ROUNDS);
-    row(c->name, "twin / bare twin", y, ROUNDS);
-  }
+  printf("\ncase               ratio                      median [10th .. 90th percentile], %d rounds\n", ROUNDS);
+  for (int i = 0; i < ncases; i++) against_twins(&cases[i]);
   printf("\ntrips of the Class 3 cycle, seconds:");
   for (int t = 0; t < ntrips; t++) printf(" %zu", trips[t].b - trips[t].a);
-  printf("\n");
+  printf("\ncase               library's and twin's       median [10th .. 90th percentile]\n");
   for (int i = 0; i < ncases; i++) {
-    case_t *c = &cases[i], *w = &cases[0];
-    if (c->kind != HOLD && c->kind != MEND) continue;
-    const char *edit = c->kind == HOLD ? "hold" : "mend";
-    long rh0 = reps_for(c, 0, 0.003), rh1 = reps_for(c, 1, 0.003), rw0 = reps_for(w, 0, 0.003), rw1 = reps_for(w, 1, 0.003);
-    for (int r = 0; r < ROUNDS; r++) {
-      double a = timed(w, 0, rw0) / rw0, b = timed(c, 0, rh0) / rh0;
-      x[r] = a / b;
-      a = timed(w, 1, rw1) / rw1, b = timed(c, 1, rh1) / rh1;
-      y[r] = a / b;
-    }
     char what[40];
-    snprintf(what, sizeof what, "whole/%s lib  %4zu s", edit, c->length);
-    row(c->name, what, x, ROUNDS);
-    snprintf(what, sizeof what, "whole/%s twin %4zu s", edit, c->length);
-    row(c->name, what, y, ROUNDS);
+    snprintf(what, sizeof what, "whole / edit, %zu s", cases[i].length);
+    if (has_bare(&cases[i])) by_other(cases[i].name, what, named("work.class3.own"), &cases[i], 1, 1);
+  }
+  for (int i = 0; i < ncases; i++) { /* level from 1,801 seconds on */
+    case_t *c = &cases[i];
+    if (!strstr(c->name, ".joined.")) continue;
+    if (c->kind == HOLD) by_other(c->name, "hold / in the cycle", c, named("hold.typical"), 1, 1);
+    else by_other(c->name, "a second / of the cycle", c, named(c->kind == READ ? "read.class3" : "work.class3.own"), (double)c->count, GEARCARD_CYCLE);
   }
   return 0;
 }

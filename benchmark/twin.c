@@ -14,7 +14,9 @@
 
    To see what each of these is worth, they can be left out one by one at compile time, for the plain way in C: PLAIN_CHECK (each second
    judged in full), PLAIN_CHOOSE (each gear from the top by products; a second loop for most power; no short way when braking), PLAIN_PASSES
-   (first choices, A, B, C and bytes as five loops), PLAIN_READ (the job parsed twice). */
+   (first choices, A, B, C and bytes as five loops), PLAIN_READ (the job parsed twice).
+
+   This twin is the fixed mark. With HINTS it is the second one, whose way to a first choice is in hints.h; all else is this file's. */
 #include "twin.h"
 #include <string.h>
 
@@ -23,6 +25,15 @@ typedef struct gearcard_verdict verdict_t;
 #define LIKELY(x) __builtin_expect(!!(x), 1)
 #define UNLIKELY(x) __builtin_expect(!!(x), 0)
 #define INLINE static inline __attribute__((always_inline))
+typedef struct {
+  int64_t q, w;
+} power_t;
+#ifdef HINTS
+#include "hints.h"
+#define NAMED(function) hints_##function
+#else
+#define NAMED(function) twin_##function
+#endif
 
 INLINE verdict_t say(uint32_t number, size_t place) {
   verdict_t r = {number, place};
@@ -62,6 +73,9 @@ typedef struct {
   int32_t power[64]; /* p x (100 - M - m) of each point */
   uint32_t lo[12], hi[12]; /* the V at which a gear fits; the lowest from 0 on, the one above it where neither of the next two */
   uint32_t lo_closing, lo_after;
+#ifdef HINTS
+  hints_t hints;
+#endif
 } prep_t;
 
 INLINE void prepare(prep_t *k, const car_t *c) {
@@ -96,6 +110,9 @@ INLINE void prepare(prep_t *k, const car_t *c) {
     if (k->hi[g] + 1 < (g == low ? k->lo_after : k->lo[g + 1]) && k->hi[g] < cap) cap = k->hi[g];
   if (k->hi[low] < 159 && k->hi[low] < cap) cap = k->hi[low];
   k->cap = cap;
+#ifdef HINTS
+  prepare_hints(&k->hints, c, k->power, k->lo, low);
+#endif
 }
 
 /* The lowest V of the gear above the lowest at second j, by the first choice before. From *open on nothing is known of the closing run. */
@@ -175,15 +192,23 @@ INLINE unsigned any(const uint8_t *h, size_t lo, size_t hi) {
 /* Whether a hold is wrong at its second. */
 INLINE unsigned hold_odd(const prep_t *k, uint32_t g, uint32_t x) { return not_driven(k->low, k->ng, g) || x < 10 || x > k->hi[g]; }
 
-typedef struct {
-  int64_t q, w;
-} power_t;
+/* Makes t the highest gear above the lowest two whose minimum V = x reaches, or the second lowest. */
+#ifdef HINTS
+#define REACH(x) t = reach_from(&k->hints, x, t)
+#else
+#define REACH(x)                             \
+  while (t < ng && (x) >= k->lo[t + 1]) t++; \
+  while (t > low + 1 && (x) < k->lo[t]) t--
+#endif
 
-/* Q and w at x, at least 1000 idle. */
-INLINE power_t power(const prep_t *k, uint32_t x) {
+/* Q and w of a gear at x, at least 1000 idle. */
+INLINE power_t power(prep_t *k, uint32_t gear, uint32_t x) {
   const car_t *c = k->c;
   const uint16_t *n = c->n;
   if (x < k->idle1000) x = k->idle1000;
+#ifdef HINTS
+  return power_near(&k->hints, gear, x);
+#endif
   uint32_t whole = (x + 999) / 1000, s = 0, len = c->points - 1u;
   while (len > 1) {
     uint32_t half = len / 2;
@@ -199,20 +224,23 @@ INLINE power_t power(const prep_t *k, uint32_t x) {
 
 /* The first choice at second j, which has no hold and is not its trip's first, `last` the first choice before and `above` the highest gear above the lowest
    two whose minimum is reached, or the second lowest; 0 where no gear fits. */
-INLINE uint32_t choose(const prep_t *k, const uint16_t *v, size_t j, uint32_t last, size_t *open, uint32_t above) {
+INLINE uint32_t choose(prep_t *k, const uint16_t *v, size_t j, uint32_t last, size_t *open, uint32_t above) {
   uint32_t x = v[j], t = highest_reached(k, v, j, last, open, above);
+#ifdef HINTS
+  if (t == k->low) return x <= k->hi[t] ? t : 0; /* no gear above fits: neither E nor power is asked for */
+#endif
   int32_t d = (int32_t)v[j + 1] - (int32_t)x;
   int64_t y = x;
   int64_t e = y * (k->a + y * (k->b + y * k->e2) + k->dm * d);
   if (UNLIKELY(x > k->hi[t])) return 0; /* a higher gear turns slower: none below fits either */
   if (e <= 0) return t;
   const uint16_t *ratio = k->c->ratio;
-  power_t m = power(k, ratio[t - 1] * x);
+  power_t m = power(k, t, ratio[t - 1] * x);
   if (3240000 * m.q >= e * m.w) return t;
   uint32_t best = t;
   for (uint32_t g = t - 1; g >= k->low && x <= k->hi[g]; g--) {
     if (UNLIKELY(g == k->low + 1 && x < k->lo_after && !second_fits(k, v, j, last, open))) continue;
-    power_t r = power(k, ratio[g - 1] * x);
+    power_t r = power(k, g, ratio[g - 1] * x);
     if (3240000 * r.q >= e * r.w) return g;
     if (r.q * m.w > m.q * r.w) m = r, best = g;
   }
@@ -263,7 +291,7 @@ INLINE uint32_t plain_choose(const prep_t *k, const uint16_t *v, size_t j, int f
 #endif
 
 /* 10 on [lo, hi), which begins and ends at rest: a dry run of first choices through each trip. */
-static __attribute__((noinline)) verdict_t want(const prep_t *k, const uint16_t *v, const uint8_t *h, size_t second, uint8_t gear, size_t lo, size_t hi) {
+static __attribute__((noinline)) verdict_t want(prep_t *k, const uint16_t *v, const uint8_t *h, size_t second, uint8_t gear, size_t lo, size_t hi) {
   size_t open = 0;
   uint32_t last = 0, low = k->low, t = low + 1, ng = k->ng;
   for (size_t i = lo + 1; i < hi; i++) {
@@ -275,8 +303,7 @@ static __attribute__((noinline)) verdict_t want(const prep_t *k, const uint16_t 
       (void)t, (void)ng, (void)low;
       last = plain_choose(k, v, i, last == 0, last, &open);
 #else
-      while (t < ng && x >= k->lo[t + 1]) t++;
-      while (t > low + 1 && x < k->lo[t]) t--;
+      REACH(x);
       if (last == 0) last = x <= k->hi[low] ? low : 0;
       else last = choose(k, v, i, last, &open, t);
 #endif
@@ -288,7 +315,7 @@ static __attribute__((noinline)) verdict_t want(const prep_t *k, const uint16_t 
 
 /* The first refusal of 4 to 10 on [lo, hi): gone through second by second only where the quick look finds something odd. The hold of one second is taken
    as gear, where that second is in the trace. */
-INLINE verdict_t judge(const prep_t *k, const uint16_t *v, size_t n, const uint8_t *h, size_t second, uint8_t gear, size_t lo, size_t hi) {
+INLINE verdict_t judge(prep_t *k, const uint16_t *v, size_t n, const uint8_t *h, size_t second, uint8_t gear, size_t lo, size_t hi) {
 #ifndef PLAIN_CHECK
   unsigned odd = speeds_odd(v, lo, hi, k->cap) | (v[lo] >= 10) | (v[hi - 1] >= 10) | (gear && hold_odd(k, gear, v[second]));
   if (LIKELY(!odd)) {
@@ -307,7 +334,7 @@ INLINE uint8_t byte_of(const prep_t *k, uint32_t g, uint32_t v, int32_t d) {
 }
 
 #ifdef PLAIN_PASSES
-static __attribute__((noinline)) void passes(const prep_t *k, const uint16_t *v, const uint8_t *h, uint8_t *g, size_t n) {
+static __attribute__((noinline)) void passes(prep_t *k, const uint16_t *v, const uint8_t *h, uint8_t *g, size_t n) {
   uint32_t ng = k->ng, low = k->low, t = low + 1;
   size_t open = 0;
   const uint16_t *ratio = k->c->ratio;
@@ -321,8 +348,7 @@ static __attribute__((noinline)) void passes(const prep_t *k, const uint16_t *v,
     if (h[j]) g[j] = h[j];
     else if (j == 0) g[j] = (uint8_t)low;
     else {
-      while (t < ng && x >= k->lo[t + 1]) t++;
-      while (t > low + 1 && x < k->lo[t]) t--;
+      REACH(x);
       g[j] = (uint8_t)choose(k, v, j, g[j - 1], &open, t);
     }
 #endif
@@ -348,7 +374,7 @@ static __attribute__((noinline)) void passes(const prep_t *k, const uint16_t *v,
     if (!h[j] && g[j] == low) g[j] = (uint8_t)(low + 1);
   for (j = 0; j < n; j++) g[j] = byte_of(k, g[j], v[j], (int32_t)v[j + 1] - (int32_t)v[j]);
 }
-INLINE size_t trip(const prep_t *k, const uint16_t *v, const uint8_t *h, uint8_t *card, size_t a) {
+INLINE size_t trip(prep_t *k, const uint16_t *v, const uint8_t *h, uint8_t *card, size_t a) {
   size_t b = a;
   while (v[b] >= 10) b++;
   passes(k, v + a, h + a, card + a, b - a);
@@ -357,7 +383,7 @@ INLINE size_t trip(const prep_t *k, const uint16_t *v, const uint8_t *h, uint8_t
 }
 #else
 /* A trip from a on, its card and that of the second before; answers the standing second after it. */
-INLINE size_t trip(const prep_t *k, const uint16_t *v, const uint8_t *h, uint8_t *card, size_t a) {
+INLINE size_t trip(prep_t *k, const uint16_t *v, const uint8_t *h, uint8_t *card, size_t a) {
   size_t j = a, run = a, open = a;
   uint32_t low = k->low, t = low + 1, ng = k->ng, x = v[a], next = v[a + 1];
   uint32_t g = h[a] ? h[a] : low; /* the first choice here */
@@ -375,8 +401,7 @@ INLINE size_t trip(const prep_t *k, const uint16_t *v, const uint8_t *h, uint8_t
       if (!q) q = plain_choose(k, v, j + 1, 0, g, &open);
 #else
       if (!q) {
-        while (t < ng && next >= k->lo[t + 1]) t++;
-        while (t > low + 1 && next < k->lo[t]) t--;
+        REACH(next);
         q = choose(k, v, j + 1, g, &open, t);
       }
 #endif
@@ -422,7 +447,7 @@ INLINE verdict_t opening(const car_t *c, size_t n, size_t nh, size_t nc) {
   return say(field ? 3 : 0, field);
 }
 
-verdict_t twin_work(car_t vehicle, const uint16_t *v, size_t n, const uint8_t *h, size_t nh, uint8_t *card, size_t nc) {
+verdict_t NAMED(work)(car_t vehicle, const uint16_t *v, size_t n, const uint8_t *h, size_t nh, uint8_t *card, size_t nc) {
   verdict_t r = opening(&vehicle, n, nh, nc);
   if (UNLIKELY(r.number)) return r;
   prep_t k;
@@ -463,17 +488,6 @@ INLINE void settle_all(struct gearcard_summary *s, const int32_t *counts) {
   s->standing = settle(s->standing, counts[STANDING]);
   for (int g = 0; g < 10; g++) s->gears[g] = settle(s->gears[g], counts[g + 1]);
   s->changes = settle(s->changes, counts[CHANGES]);
-}
-
-struct gearcard_counted twin_summary_of(const uint16_t *v, size_t n, const uint8_t *card, size_t nc) {
-  struct gearcard_counted r;
-  memset(&r, 0, sizeof r);
-  r.verdict = n - 1 >= GEARCARD_LONGEST ? say(1, 0) : say(nc == n ? 0 : 2, 0);
-  if (UNLIKELY(r.verdict.number)) return r;
-  int32_t counts[COUNTS] = {0};
-  count(counts, v, n, n, 0, card, 0, 0, n, 1);
-  settle_all(&r.summary, counts);
-  return r;
 }
 
 /* The bytes of [lo, hi) and the one on either side, kept aside; the first of them. */
@@ -557,22 +571,34 @@ INLINE verdict_t mend(const car_t *vehicle, uint16_t *v, size_t n, const uint8_t
   return say(0, 0);
 }
 
-struct gearcard_counted twin_hold(car_t vehicle, const uint16_t *v, size_t n, uint8_t *h, size_t nh, uint8_t *card, size_t nc, size_t second, uint8_t gear,
+struct gearcard_counted NAMED(hold)(car_t vehicle, const uint16_t *v, size_t n, uint8_t *h, size_t nh, uint8_t *card, size_t nc, size_t second, uint8_t gear,
                                   struct gearcard_summary summary) {
   verdict_t r = edit(&vehicle, v, n, h, nh, card, nc, second, gear ? gear : 255, &summary);
   return (struct gearcard_counted){r, summary};
 }
 
-struct gearcard_counted twin_release(car_t vehicle, const uint16_t *v, size_t n, uint8_t *h, size_t nh, uint8_t *card, size_t nc, size_t second,
+struct gearcard_counted NAMED(release)(car_t vehicle, const uint16_t *v, size_t n, uint8_t *h, size_t nh, uint8_t *card, size_t nc, size_t second,
                                      struct gearcard_summary summary) {
   verdict_t r = edit(&vehicle, v, n, h, nh, card, nc, second, 0, &summary);
   return (struct gearcard_counted){r, summary};
 }
 
-struct gearcard_counted twin_mend(car_t vehicle, uint16_t *v, size_t n, const uint8_t *h, size_t nh, uint8_t *card, size_t nc, size_t second, uint16_t speed,
+struct gearcard_counted NAMED(mend)(car_t vehicle, uint16_t *v, size_t n, const uint8_t *h, size_t nh, uint8_t *card, size_t nc, size_t second, uint16_t speed,
                                   struct gearcard_summary summary) {
   verdict_t r = mend(&vehicle, v, n, h, nh, card, nc, second, speed, &summary);
   return (struct gearcard_counted){r, summary};
+}
+
+#ifndef HINTS /* nothing below is another in the second twin */
+struct gearcard_counted twin_summary_of(const uint16_t *v, size_t n, const uint8_t *card, size_t nc) {
+  struct gearcard_counted r;
+  memset(&r, 0, sizeof r);
+  r.verdict = n - 1 >= GEARCARD_LONGEST ? say(1, 0) : say(nc == n ? 0 : 2, 0);
+  if (UNLIKELY(r.verdict.number)) return r;
+  int32_t counts[COUNTS] = {0};
+  count(counts, v, n, n, 0, card, 0, 0, n, 1);
+  settle_all(&r.summary, counts);
+  return r;
 }
 
 verdict_t bare_hold(car_t vehicle, const uint16_t *v, size_t n, uint8_t *h, size_t nh, uint8_t *card, size_t nc, size_t second, uint8_t gear) {
@@ -847,3 +873,72 @@ struct gearcard_written twin_write(uint16_t version, car_t vehicle, const uint16
   r.length = need;
   return r;
 }
+
+uint16_t twin_table[GEARCARD_CYCLE];
+
+verdict_t twin_cycle(uint32_t part, uint16_t *room, size_t nr) {
+  if (part > 4) return say(18, 0);
+  if (nr < GEARCARD_CYCLE) return say(2, 0);
+  memcpy(room, twin_table, sizeof twin_table);
+  return say(0, 0);
+}
+
+/* From the first second of the rise, and of the fall, to the end of that: both as one fraction a second, halves up. */
+enum { RISE = 1533, FALL = 1725, LEVEL = 1763 };
+verdict_t twin_downscale(uint32_t factor, uint16_t *room, size_t nr) {
+  if (factor > 500) return say(23, 0);
+  if (nr != GEARCARD_CYCLE) return say(2, 0);
+  memcpy(room, twin_table, sizeof twin_table);
+  uint32_t foot = twin_table[RISE], top = twin_table[FALL - 1], level = twin_table[LEVEL], keep = 1000 - factor, add = factor * foot + 500;
+  for (int i = RISE; i < FALL; i++) room[i] = (uint16_t)((keep * room[i] + add) / 1000);
+  uint32_t whole = 1000 * (top - level), less = factor * (top - foot), more = less * level + whole / 2, rest = whole - less;
+  for (int i = FALL; i < LEVEL; i++) room[i] = (uint16_t)((rest * room[i] + more) / whole);
+  return say(0, 0);
+}
+
+/* The float at s, so many times over, to the nearest whole number, halves away from zero; 0, or why not. Its bytes are in the machine's order. */
+INLINE uint32_t rounded(const uint8_t *s, uint32_t scale, int32_t lo, int32_t hi, int32_t *out) {
+  uint32_t bits;
+  memcpy(&bits, s, sizeof bits);
+  uint32_t field = bits >> 23 & 255;
+  if (UNLIKELY(field >= 150)) return field == 255 ? 20 : 21; /* from 2^23 on past every bound */
+  int64_t size = 0;
+  if (field > 108) { /* below, even 100,000 times over it is under a half */
+    uint32_t places = 150 - field;
+    size = (int64_t)(((uint64_t)(1u << 23 | (bits & 0x7fffff)) * scale + (1ull << (places - 1))) >> places);
+  }
+  int64_t x = bits >> 31 ? -size : size;
+  if (UNLIKELY(x < lo || x > hi)) return 21;
+  *out = (int32_t)x;
+  return 0;
+}
+
+struct gearcard_coefficients twin_export(const uint8_t *s, size_t end) {
+  int32_t f0 = 0, f1 = 0, f2 = 0, tm = 0;
+  uint32_t seen = 0, no;
+  size_t at = 0;
+#define REFUSED(number, place) return (struct gearcard_coefficients){say(number, place), 0, 0, 0, 0}
+#define NUMBER(offset, scale, lo, hi, out)                      \
+  if (UNLIKELY(end - at < (offset) + 4)) REFUSED(12, end);      \
+  if (UNLIKELY(no = rounded(s + at + (offset), scale, lo, hi, &out))) REFUSED(no, at)
+  for (;;) {
+    if (UNLIKELY(at >= end)) REFUSED(12, end);
+    uint32_t kind = s[at];
+    if (kind == 0) break;
+    if (UNLIKELY(kind > 2 || seen & kind)) REFUSED(19, at);
+    seen |= kind;
+    if (kind == 1) {
+      NUMBER(1, 10, 0, 10000, f0);
+      NUMBER(5, 1000, -5000, 5000, f1);
+      NUMBER(9, 100000, 0, 20000, f2);
+      at += 13;
+    } else {
+      NUMBER(1, 1, 400, 4000, tm);
+      at += 5;
+    }
+  }
+  if (UNLIKELY(seen != 3)) REFUSED(22, at);
+  if (UNLIKELY(at + 1 != end)) REFUSED(16, at + 1);
+  return (struct gearcard_coefficients){say(0, 0), (uint16_t)f0, f1, (uint16_t)f2, (uint16_t)tm};
+}
+#endif
