@@ -61,6 +61,55 @@ export interface Summary {
   changes: number;
 }
 
+/** One gear at a second. The codes stand in `gearcard/whys`, in document 01's words. */
+export interface Gear {
+  /** available power is q / (100,000 w) tenths of kW, exactly; both 0 past nmax */
+  q: number;
+  w: number;
+  /** engine speed X, thousandths of min^-1 */
+  engine: number;
+  /** its minimum speed there, min^-1, and the rule that gave it */
+  minimum: number;
+  rule: number;
+  allowed: boolean;
+  overMinimum: boolean;
+  underNmax: boolean;
+  fits: boolean;
+  enough: boolean;
+}
+
+/** How the byte of a second came about. At a standing second before a trip it is said of the trip's first second, `about`. */
+export interface Why {
+  second: number;
+  about: number;
+  /** the first and the last second of its trip */
+  first: number;
+  last: number;
+  /** E; E / (3.24 x 10^12) kW, negative while braking */
+  required: number;
+  /** of each gear of the vehicle, gear 1 first */
+  gears: Gear[];
+  kind: number;
+  role: number;
+  /** the held gear, 0 for none */
+  held: number;
+  /** the first choice, and the sentence that gave it */
+  choice: number;
+  sentence: number;
+  /** the gear after each correction */
+  afterA: number;
+  afterB: number;
+  afterC: number;
+  floor: number;
+  /** B's ceiling, 0 where B does not look */
+  ceiling: number;
+  clutch: boolean;
+  clutchReason: number;
+  byte: number;
+  /** refusal 10, where some second of the trip has no gear: then the corrections and the byte are 0 */
+  refused: Refused | null;
+}
+
 /** What a bench export says, in the vehicle's units. */
 export interface Coefficients {
   f0: number;
@@ -93,6 +142,8 @@ export interface Engine {
   work(vehicle: Vehicle, speeds: Uint16Array, holds?: Uint8Array | null): Uint8Array;
   /** How long a card is in each gear, counted over the whole of it. */
   summary(speeds: Uint16Array, card: Uint8Array): Summary;
+  /** Why the card shows at a second what it shows. It looks at the second's trip alone. */
+  why(vehicle: Vehicle, speeds: Uint16Array, holds: Uint8Array | null | undefined, second: number): Why;
   /** Holds one second in a gear from 1. Given the card's summary, it answers the new one, else null. */
   hold(vehicle: Vehicle, speeds: Uint16Array, holds: Uint8Array, card: Uint8Array, second: number, gear: number, summary?: Summary | null): Summary | null;
   /** Releases one second, held or free. */

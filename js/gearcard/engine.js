@@ -4,7 +4,7 @@
  * Speeds are in tenths of km/h. A hold of 0 is no hold. A card has a byte a second: the gear, plus 16 where the clutch is down. A refusal throws
  * `Refused`, a value of a wrong type `TypeError`, and then no array has changed.
  */
-import { MOST, apart, list, summaryAt, summaryBytes, vehicleAt, vehicleBytes, whole } from './records.js';
+import { MOST, apart, list, reasonsAt, summaryAt, summaryBytes, vehicleAt, vehicleBytes, whole } from './records.js';
 import { Refused } from './refusals.js';
 
 export { Refused };
@@ -15,7 +15,7 @@ export const LONGEST = 16384;
 /** Seconds of the built-in cycle. */
 export const CYCLE = 1801;
 
-/** Bytes of the engine's stack, as it is linked; tests/js measures what its calls use, which is less than a quarter. */
+/** Bytes of the engine's stack, as it is linked; tests/js measures what its calls use, which is less than a half. */
 export const STACK = 65536;
 
 /** A count in a job is at most this, so rooms of this length are never too short. */
@@ -119,8 +119,17 @@ class Lent {
    * @param {number} answer
    */
   accepted(answer) {
+    const refused = this.refusal(answer);
+    if (refused !== null) throw refused;
+  }
+
+  /**
+   * The answer's refusal, where it is one.
+   * @param {number} answer
+   */
+  refusal(answer) {
     const number = this.view().getUint32(answer, true);
-    if (number !== 0) throw new Refused(number, this.size(answer + 8));
+    return number === 0 ? null : new Refused(number, this.size(answer + 8));
   }
 }
 
@@ -211,6 +220,22 @@ function functionsOf(raw) {
     raw.gearcard_summary_of(answer, trace, BigInt(speeds.length), worked, BigInt(card.length));
     lent.accepted(answer);
     return summaryAt(lent.view(), answer + 16);
+  }
+
+  /** @type {import('./engine.js').Engine['why']} */
+  function why(vehicle, speeds, holds, second) {
+    const record = vehicleBytes(vehicle);
+    list('speeds', speeds, Uint16Array);
+    const held = holdsOf(speeds, holds);
+    whole('second', second, Number.MAX_SAFE_INTEGER);
+    const answer = lent.begin();
+    const car = lent.copy(record);
+    const trace = lent.copy(speeds);
+    const kept = lent.copy(held);
+    raw.gearcard_why(answer, car, trace, BigInt(speeds.length), kept, BigInt(held.length), BigInt(second));
+    const refused = lent.refusal(answer);
+    if (refused !== null && refused.number !== 10) throw refused;
+    return { second, refused, ...reasonsAt(lent.view(), answer + 16, vehicle.ratios.length) };
   }
 
   /**
@@ -314,6 +339,7 @@ function functionsOf(raw) {
     write,
     work,
     summary,
+    why,
     hold,
     release,
     mend,

@@ -20,5 +20,5 @@ async function bytes() {
   return readFile(place);
 }
 
-export const { read, write, work, summary, hold, release, mend, partOf, cycle, downscale, exportOf } = await load(await bytes());
+export const { read, write, work, summary, why, hold, release, mend, partOf, cycle, downscale, exportOf } = await load(await bytes());
 export { CYCLE, LONGEST, Refused, STACK, clutchDown, gearOf, load } from './engine.js';

@@ -186,3 +186,44 @@ export function summaryAt(view, at) {
   const counts = Array.from({ length: SUMMARY_SIZE / 2 }, (_, k) => view.getUint16(at + 2 * k, true));
   return { standing: counts[0], gears: counts.slice(1, 11), changes: counts[11] };
 }
+
+/** Bytes of one gear's facts, and where the facts and the codes of `why` stand behind the verdict: four numbers of eight bytes, the gears, thirteen bytes. */
+const GEAR_SIZE = 32;
+const WHY_GEARS = 32;
+const WHY_CODES = WHY_GEARS + GEARS * GEAR_SIZE;
+
+/**
+ * The reasons of a second, of a vehicle of so many gears. Every number of eight bytes in it is below 2^53.
+ * @param {DataView} view
+ * @param {number} at
+ * @param {number} count
+ * @returns {Omit<import('./engine.js').Why, 'second' | 'refused'>}
+ */
+export function reasonsAt(view, at, count) {
+  /** @type {(offset: number) => number} */
+  const long = (offset) => Number(view.getBigInt64(at + offset, true));
+  /** @type {(offset: number) => number} */
+  const byte = (offset) => view.getUint8(at + offset);
+  const gears = Array.from({ length: count }, (_, k) => {
+    const here = WHY_GEARS + GEAR_SIZE * k;
+    const [rule, allowed, overMinimum, underNmax, fits, enough] = [24, 25, 26, 27, 28, 29].map((offset) => byte(here + offset));
+    return {
+      q: long(here),
+      w: long(here + 8),
+      engine: view.getUint32(at + here + 16, true),
+      minimum: view.getUint32(at + here + 20, true),
+      rule,
+      allowed: allowed !== 0,
+      overMinimum: overMinimum !== 0,
+      underNmax: underNmax !== 0,
+      fits: fits !== 0,
+      enough: enough !== 0,
+    };
+  });
+  const codes = Array.from({ length: 13 }, (_, k) => byte(WHY_CODES + k));
+  const [kind, role, held, choice, sentence, afterA, afterB, afterC, floor, ceiling, clutch, clutchReason, shown] = codes;
+  return {
+    ...{ about: long(0), first: long(8), last: long(16), required: long(24), gears, kind, role, held, choice, sentence },
+    ...{ afterA, afterB, afterC, floor, ceiling, clutch: clutch !== 0, clutchReason, byte: shown },
+  };
+}

@@ -9,7 +9,27 @@
 Only Python's standard library is used. In a checkout the first call proves and builds the library where that has not been done; an installed package has it.
 """
 
-from .calls import Coefficients, Job, Summary, clutch_down, cycle, downscale, export, gear_of, hold, mend, part_of, read, release, summary, work, write
+from .calls import (
+    Coefficients,
+    Gear,
+    Job,
+    Summary,
+    Why,
+    clutch_down,
+    cycle,
+    downscale,
+    export,
+    gear_of,
+    hold,
+    mend,
+    part_of,
+    read,
+    release,
+    summary,
+    why,
+    work,
+    write,
+)
 from .edits import Hold, Mend, RefusedEdit, Release, edit
 from .engine import VERSION as __version__, Failure
 from .refusals import Refused
@@ -18,6 +38,7 @@ from .vehicle import Point, Vehicle
 __all__ = [
     "Coefficients",
     "Failure",
+    "Gear",
     "Hold",
     "Job",
     "Mend",
@@ -27,6 +48,7 @@ __all__ = [
     "Release",
     "Summary",
     "Vehicle",
+    "Why",
     "__version__",
     "clutch_down",
     "cycle",
@@ -40,6 +62,7 @@ __all__ = [
     "read",
     "release",
     "summary",
+    "why",
     "work",
     "write",
 ]

@@ -52,6 +52,48 @@ class Summary(NamedTuple):
     changes: int
 
 
+class Gear(NamedTuple):
+    """One gear at a second, as document 01 judges it: engine speed X in thousandths of min^-1, its minimum speed there in min^-1 and the rule that gave it
+    (`whys.RULES`), and the available power, q/(100,000 w) tenths of kW, exactly."""
+
+    q: int
+    w: int
+    engine: int
+    minimum: int
+    rule: int
+    allowed: bool
+    over_minimum: bool
+    under_nmax: bool
+    fits: bool
+    enough: bool
+
+
+class Why(NamedTuple):
+    """How the byte of a second came about. At a standing second before a trip it is said of the trip's first second, `about`. `refused` is refusal 10 where
+    some second of the trip has no gear; the corrections and the byte are then 0. The codes stand in `whys`, in document 01's words."""
+
+    second: int
+    about: int
+    first: int
+    last: int
+    required: int
+    gears: tuple[Gear, ...]
+    kind: int
+    role: int
+    held: int
+    choice: int
+    sentence: int
+    after_a: int
+    after_b: int
+    after_c: int
+    floor: int
+    ceiling: int
+    clutch: bool
+    clutch_reason: int
+    byte: int
+    refused: Refused | None
+
+
 def _accepted(answer: Any) -> Any:
     verdict = getattr(answer, "verdict", answer)
     if verdict.number:
@@ -161,6 +203,18 @@ def _summary_of(given: Summary | None) -> structs.Summary:
         raise ValueError(f"summary.gears has {len(gears)} counts, and not {structs.GEARS}")
     counts = [_number("count of a summary", each, 65535) for each in (standing, *gears, changes)]
     return structs.Summary(counts[0], tuple(counts[1:-1]), counts[-1])
+
+
+def why(vehicle: Vehicle, speeds: Numbers, holds: Numbers | None, second: int) -> Why:
+    """Why the card shows at a second what it shows: what each gear of the vehicle is worth there, and the byte step by step. It looks at the second's trip alone."""
+    lent, place = _speeds(speeds), _number("second", second, _LAST)
+    answer = call(functions()["why"], (_record(vehicle),), (lent, _holds(holds, lent)), (place,))
+    refused = Refused(answer.verdict.number, answer.verdict.place) if answer.verdict.number else None
+    if refused is not None and refused.number != 10:
+        raise refused
+    found = {name: getattr(answer.reasons, name) for name, _ in structs.Reasons._fields_}
+    found["gears"] = tuple(Gear(*(getattr(each, name) for name, _ in structs.Gear._fields_)) for each in found["gears"][: len(vehicle.ratios)])
+    return Why(second=place, refused=refused, **found)
 
 
 def hold(

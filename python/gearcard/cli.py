@@ -92,6 +92,10 @@ def parser() -> tuple[argparse.ArgumentParser, Mapping[str, argparse.ArgumentPar
     says = "Prints how long the card of a job or of its text is in each gear, standing, and how often the gear changes."
     _add_forms(words.reading("summary", _later("verbs", "run_summary"), says))
     _add_forms(words.reading("holds", _later("verbs", "run_holds"), "Lists the holds of a job or of its text."))
+    says = "Prints why the card of a job or of its text shows what it shows at a second."
+    each = words.reading("why", _later("whys", "run_why"), says, "Powers are rounded to a watt for the eye; they are compared exactly.")
+    each.add_argument("second", metavar="SECOND", type=typed(given.second))
+    each.add_argument("--json", action="store_true", help="for a program: an object with every number as it is")
     says = "Prints what differs in the cards of two jobs, or of their texts, and in their summaries."
     each = words.reading("compare", _later("compare", "run_compare"), says, "With --csv and --json the cards alone.")
     each.add_argument("other", metavar="OTHER", type=Path, help="the second one")

@@ -38,6 +38,7 @@ _TYPES: dict[str, tuple[type[ctypes.Structure], tuple[type, ...]]] = {
     "hold": (structs.Counted, (structs.Vehicle, *_LISTS, c_size_t, c_uint8, structs.Summary)),
     "release": (structs.Counted, (structs.Vehicle, *_LISTS, c_size_t, structs.Summary)),
     "mend": (structs.Counted, (structs.Vehicle, *_LISTS, c_size_t, c_uint16, structs.Summary)),
+    "why": (structs.Why, (structs.Vehicle, *_LIST, *_LIST, c_size_t)),
     "cycle": (structs.Verdict, (c_uint32, *_LIST)),
     "cycle_part": (structs.Part, (c_uint32, c_size_t)),
     "downscale": (structs.Verdict, (c_uint32, *_LIST)),

@@ -2,7 +2,7 @@
 
 from __future__ import annotations
 
-from ctypes import Structure, c_int32, c_size_t, c_uint16, c_uint32
+from ctypes import Structure, c_bool, c_int32, c_int64, c_size_t, c_uint8, c_uint16, c_uint32
 
 #: Places of the vehicle record.
 GEARS, POINTS = 10, 64
@@ -54,3 +54,45 @@ class Part(Structure):
 
 class Coefficients(Structure):
     _fields_ = [("verdict", Verdict), ("f0", c_uint16), ("f1", c_int32), ("f2", c_uint16), ("tm", c_uint16)]
+
+
+class Gear(Structure):
+    _fields_ = [
+        ("q", c_int64),
+        ("w", c_int64),
+        ("engine", c_uint32),
+        ("minimum", c_uint32),
+        ("rule", c_uint8),
+        ("allowed", c_bool),
+        ("over_minimum", c_bool),
+        ("under_nmax", c_bool),
+        ("fits", c_bool),
+        ("enough", c_bool),
+    ]
+
+
+class Reasons(Structure):
+    _fields_ = [
+        ("about", c_size_t),
+        ("first", c_size_t),
+        ("last", c_size_t),
+        ("required", c_int64),
+        ("gears", Gear * GEARS),
+        ("kind", c_uint8),
+        ("role", c_uint8),
+        ("held", c_uint8),
+        ("choice", c_uint8),
+        ("sentence", c_uint8),
+        ("after_a", c_uint8),
+        ("after_b", c_uint8),
+        ("after_c", c_uint8),
+        ("floor", c_uint8),
+        ("ceiling", c_uint8),
+        ("clutch", c_bool),
+        ("clutch_reason", c_uint8),
+        ("byte", c_uint8),
+    ]
+
+
+class Why(Structure):
+    _fields_ = [("verdict", Verdict), ("reasons", Reasons)]

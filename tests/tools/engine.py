@@ -339,7 +339,8 @@ class Agreement(unittest.TestCase):
     """What Python repeats of the header and of the driver is what they have."""
 
     def test_structs(self) -> None:
-        kinds = {"uint16_t": ctypes.c_uint16, "uint32_t": ctypes.c_uint32, "int32_t": ctypes.c_int32, "size_t": ctypes.c_size_t}
+        kinds = {"uint8_t": ctypes.c_uint8, "uint16_t": ctypes.c_uint16, "uint32_t": ctypes.c_uint32, "int32_t": ctypes.c_int32, "int64_t": ctypes.c_int64}
+        kinds |= {"size_t": ctypes.c_size_t, "bool": ctypes.c_bool}
         found = re.findall(r"^struct gearcard_(\w+) \{(.*?)\n\};", HEADER, re.M | re.S)
         self.assertEqual({name.capitalize() for name, _ in found}, {name for name in vars(structs) if re.fullmatch("[A-Z][a-z]+", name)} - {"Structure"})
         for name, body in found:
@@ -348,7 +349,7 @@ class Agreement(unittest.TestCase):
                 each = getattr(structs, struct.capitalize()) if struct else kinds[kind]
                 fields.append((field, each * int(places) if places else each))
             self.assertEqual(getattr(structs, name.capitalize())._fields_, fields, name)
-        self.assertEqual((ctypes.sizeof(structs.Vehicle), ctypes.sizeof(structs.Summary)), (432, 24))
+        self.assertEqual((ctypes.sizeof(structs.Vehicle), ctypes.sizeof(structs.Summary), ctypes.sizeof(structs.Why)), (432, 24, 384))
 
     def test_functions(self) -> None:
         """Every function of the header, its answer and its arguments."""

@@ -16,12 +16,17 @@ TOP = Path(__file__).resolve().parents[2]
 #: Where the programs of the documents are built and run.
 ROOM = TOP / "target/readme"
 
-DOCUMENTS = ("README.md", "docs/API.md", "docs/FORMATS.md", "docs/PROOF.md", "docs/CONTRIBUTING.md", "examples/README.md")
+#: Every document but the papers, which are not ours; README first, whose commands write what others read.
+DOCUMENTS = ("README.md", *sorted({path.relative_to(TOP).as_posix() for folder in ("docs", "examples", "tests/*") for path in TOP.glob(f"{folder}/*.md")} - {
+    "docs/01-scope.md",
+    "docs/02-change-requests.md",
+}))
 
 #: The commands of the documents write these, and find none at the start.
 WRITTEN = "mine*"
 
-WIDEST, LONGEST = 110, 140
+#: Lines of README; scripts/names holds the width of all documents.
+LONGEST = 140
 
 
 def blocks(document: str, kind: str) -> list[str]:
@@ -113,8 +118,7 @@ class Readme(unittest.TestCase):
     def test_looks(self) -> None:
         for document in DOCUMENTS:
             lines = (TOP / document).read_text().splitlines()
-            with self.subTest(document=document):
-                self.assertEqual([line for line in lines if len(line) > WIDEST], [])
-                for link in re.findall(r"\]\(([^)#:]+)\)", "\n".join(lines)):
+            for link in re.findall(r"\]\(([^)#:]+)\)", "\n".join(lines)):
+                with self.subTest(document=document):
                     self.assertTrue((TOP / document).parent.joinpath(link).exists(), link)
         self.assertLessEqual(len((TOP / "README.md").read_text().splitlines()), LONGEST)

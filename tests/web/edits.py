@@ -2,11 +2,11 @@
 
 from __future__ import annotations
 
-from gearcard import Vehicle, write
+from gearcard import Vehicle, read, why, write
 from selenium.webdriver.common.action_chains import ActionChains
 from selenium.webdriver.common.keys import Keys
 
-from .browser import OUT, RIGHT, PageTest, until
+from .browser import OUT, RIGHT, TOP, PageTest, until
 
 #: A car whose second gear does not fit after first gear at 16.0 km/h: released or held in first, second 2 leaves second 3 without a gear, by document 02's request Two.
 GAP = Vehicle((6600, 5000), 800, 900, 1000, 0, 0, 0, 1000, 10, ((800, 1000), (1000, 1000)))
@@ -44,6 +44,21 @@ class Edits(PageTest):
         self.assertRight()
         self.click("release")
         self.assertEqual(self.present()["holds"][200], 0)
+        self.assertRight()
+
+    def test_why_shows_what_the_proved_call_answers(self) -> None:
+        """A second in which correction B decides; after a hold it is the held gear, and the last gear of the steps is the card's at every second."""
+        self.js("document.getElementById('why').open = true")
+        job = read((TOP / "examples/class-3.job").read_bytes())
+        second = next(k for k in range(1801) if (found := why(*job[:3], k)).after_b < found.after_a)
+        self.choose(second)
+        steps = until("the steps", lambda: self.js("return Array.from(document.querySelectorAll('#why-steps li'), (each) => each.textContent)"))
+        found = why(*job[:3], second)
+        self.assertIn(f"B, rising speed: {found.after_b}, ceiling {found.ceiling}, floor {found.floor}", steps)
+        self.assertEqual(self.js("return document.querySelectorAll('#why-gears tr').length"), len(job.vehicle.ratios))
+        self.assertEqual(self.js("return document.querySelector('#why-gears .chosen th').textContent"), str(found.choice))
+        self.keys(str(found.choice))
+        self.assertIn(f"First choice {found.choice}: the held gear", self.js("return document.getElementById('why-steps').textContent"))
         self.assertRight()
 
     def test_a_field_mends_a_speed(self) -> None:

@@ -1,4 +1,5 @@
-"""Runs the tests of the page; tests/web/run is the command. Words: what passed and failed before, and the modules, all if none is named."""
+"""Runs the tests of the page; tests/web/run is the command. Words: what passed and failed before, and the modules, all if none is named; behind
+--but those that are left out."""
 
 import os
 import sys
@@ -34,6 +35,8 @@ MODULES = ("looks", "edits", "forms", "files", "jobs", "driver", "speed")
 
 def main() -> int:
     passed, failed, *names = sys.argv[1:]
+    if names[:1] == ["--but"]:
+        names = [name for name in MODULES if name not in names[1:]]
     suite = unittest.defaultTestLoader.loadTestsFromNames([f"tests.web.{name}" for name in names or MODULES])
     try:
         result = unittest.TextTestRunner(stream=sys.stdout, verbosity=0, resultclass=Timed).run(suite)

@@ -4,6 +4,7 @@ import { element, make, onSubmit, write } from './dom.js';
 import { Misuse, trying } from './messages.js';
 import { gearText, tripAt } from './trips.js';
 import { NotExact, SPEED, Unit } from './units.js';
+import { showWhy } from './why.js';
 
 const SECOND = new Unit(0, 'seconds', 'seconds', 0, 2 ** 31);
 
@@ -40,6 +41,7 @@ export class Panel {
       });
     });
     onSubmit('mend', () => this.mend(element('speed', HTMLInputElement).value));
+    element('why').addEventListener('toggle', () => this.show());
     this.learn();
   }
 
@@ -94,6 +96,7 @@ export class Panel {
     this.fill('to', String(to));
     this.fill('speed', SPEED.text(speeds[second]));
     for (const each of element('mend').querySelectorAll('input, button')) /** @type {HTMLInputElement} */ (each).disabled = from !== to;
+    showWhy(store, from === to ? second : null);
   }
 
   /**
