@@ -9,6 +9,9 @@ from typing import Iterator, NoReturn
 
 STOPS = (signal.SIGINT, signal.SIGTERM, signal.SIGHUP)
 
+#: Whether something was changed since `heard` began.
+_changed = False
+
 
 class Stopped(KeyboardInterrupt):
     """One of the signals above, by its number."""
@@ -19,6 +22,8 @@ class Stopped(KeyboardInterrupt):
 
 
 def _stop(number: int, frame: object) -> NoReturn:
+    # One is enough: no other comes while what was begun is taken back.
+    signal.pthread_sigmask(signal.SIG_BLOCK, STOPS)
     raise Stopped(number)
 
 
@@ -33,6 +38,8 @@ def prepare() -> None:
 @contextlib.contextmanager
 def heard() -> Iterator[None]:
     """The signals are heard within, one that waits at once; after it, as before it."""
+    global _changed
+    _changed = False
     before = signal.pthread_sigmask(signal.SIG_UNBLOCK, STOPS)
     try:
         yield
@@ -41,12 +48,22 @@ def heard() -> Iterator[None]:
 
 
 @contextlib.contextmanager
-def at_the_end() -> Iterator[None]:
-    """No signal is heard from here on, to the end of `heard`: what follows changes something. Where it raises, nothing was changed, and they are heard."""
+def waiting() -> Iterator[None]:
+    """A signal that comes within is heard after it, unless something was changed by then."""
     # One that came before this call is raised by it.
     before = signal.pthread_sigmask(signal.SIG_BLOCK, STOPS)
     try:
         yield
-    except BaseException:
-        signal.pthread_sigmask(signal.SIG_SETMASK, before)
-        raise
+    finally:
+        if not _changed:
+            signal.pthread_sigmask(signal.SIG_SETMASK, before)
+
+
+@contextlib.contextmanager
+def at_the_end() -> Iterator[None]:
+    """What is done within changes something: no signal is heard from here on, to the end of `heard`. Where it raises, nothing was changed, and they are
+    heard."""
+    global _changed
+    with waiting():
+        yield
+        _changed = True

@@ -18,7 +18,7 @@ from pathlib import Path
 from typing import Callable, Iterator
 
 from .errors import Misuse
-from .interrupts import at_the_end
+from .interrupts import at_the_end, heard, waiting
 
 #: Seconds that one waits for others, where nothing is said.
 WAIT = 10.0
@@ -126,7 +126,8 @@ def _replaced(path: Path, real: Path, file: int, old: bytes, new: bytes, announc
     with _beside(real, new, os.fstat(file)) as beside:
         if not _stands(real, file) or _bytes(file) != old:
             return False
-        announce()
+        with heard():
+            announce()
         with at_the_end():
             if not _stands(real, file) or _bytes(file) != old:
                 raise Misuse(f"{path} was changed by another meanwhile, and not by this")
@@ -138,7 +139,8 @@ def _replaced(path: Path, real: Path, file: int, old: bytes, new: bytes, announc
 def _created(real: Path, new: bytes, announce: Callable[[], None]) -> bool:
     """Makes a file that was not there; False where it is there by now."""
     with _beside(real, new, None) as beside:
-        announce()
+        with heard():
+            announce()
         try:
             with at_the_end():
                 os.link(beside, real)
@@ -156,21 +158,23 @@ def _created(real: Path, new: bytes, announce: Callable[[], None]) -> bool:
 
 @contextlib.contextmanager
 def _beside(real: Path, data: bytes, like: os.stat_result | None) -> Iterator[Path]:
-    """A new file in the same folder, with those bytes on the disk, and owner and mode of the old one. It is gone after the block, under that name."""
+    """A new file in the same folder, with those bytes on the disk, and owner and mode of the old one. It is gone after the block, under that name: signals
+    wait while it is there, but where the block hears them."""
     # By chance, so that one that a killed process left is in nobody's way.
     beside = real.with_name(f".gearcard-{os.urandom(8).hex()}")
-    file = os.open(beside, os.O_CREAT | os.O_EXCL | os.O_WRONLY | os.O_CLOEXEC, 0o666 if like is None else 0o600)
-    try:
-        with os.fdopen(file, "wb") as out:
-            out.write(data)
-            out.flush()
-            if like is not None:
-                _take_after(out.fileno(), like, real)
-            os.fsync(out.fileno())
-        yield beside
-    finally:
-        with contextlib.suppress(FileNotFoundError):
-            beside.unlink()
+    with waiting():
+        file = os.open(beside, os.O_CREAT | os.O_EXCL | os.O_WRONLY | os.O_CLOEXEC, 0o666 if like is None else 0o600)
+        try:
+            with os.fdopen(file, "wb") as out:
+                out.write(data)
+                out.flush()
+                if like is not None:
+                    _take_after(out.fileno(), like, real)
+                os.fsync(out.fileno())
+            yield beside
+        finally:
+            with contextlib.suppress(FileNotFoundError):
+                beside.unlink()
 
 
 def _take_after(file: int, like: os.stat_result, real: Path) -> None:

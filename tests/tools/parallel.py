@@ -155,8 +155,64 @@ class Meanwhile(Words):
         self.assertEqual([each.name for each in self.folder.iterdir() if each.name.startswith(".")], [])
 
 
+#: A process that holds second 60 of class-3.job again and again, and sends itself SIGINT before the first step of Python in the files that change a job or
+#: hear signals, then before the second, until all were tried; an interrupt without a step of its own is never sent. It prints how many ended with each status.
+STEPPED = """
+import collections, contextlib, io, os, signal, sys
+from pathlib import Path
+from gearcard import interrupts
+interrupts.prepare()
+from gearcard import store
+from gearcard.cli import main
+
+job, ended = Path("class-3.job"), collections.Counter()
+before = job.read_bytes()
+watched = {store.__file__, interrupts.__file__, contextlib.__file__}
+
+def run(at):
+    left = at
+    def traced(frame, event, _):
+        nonlocal left
+        if frame.f_code.co_filename not in watched:
+            return None
+        frame.f_trace_opcodes, frame.f_trace_lines = True, False
+        if event == "opcode":
+            left -= 1
+            if left == 0:
+                os.kill(os.getpid(), signal.SIGINT)
+        return traced
+    job.write_bytes(before)
+    with contextlib.redirect_stdout(io.TextIOWrapper(io.BytesIO())), contextlib.redirect_stderr(io.StringIO()):
+        sys.settrace(traced)
+        status = main(["hold", "class-3.job", "60", "3"])
+        sys.settrace(None)
+    # one that came too late waits still
+    signal.sigtimedwait(interrupts.STOPS, 0)
+    return status, left > 0
+
+status, _ = run(0)
+after = job.read_bytes()
+assert status == 0 and after != before
+at, over = 0, False
+while not over:
+    at += 1
+    status, over = run(at)
+    left = [each for each in os.listdir() if each.startswith(".")]
+    assert job.read_bytes() == {130: before, 0: after}[status] and not left, (at, status, left)
+    ended[status] += 1
+print(ended[130], ended[0])
+"""
+
+
 class Interrupted(Words):
     """SIGINT to all processes of the command, as a terminal sends it, at moments from its start to its end."""
+
+    def test_at_every_step(self) -> None:
+        ran = subprocess.run([sys.executable, "-c", STEPPED], cwd=self.folder, env={**os.environ, "PYTHONPATH": str(TOP / "python")}, capture_output=True, text=True)
+        self.assertEqual((ran.returncode, ran.stderr), (0, ""))
+        stopped, late = map(int, ran.stdout.split())
+        print(f"tools: interrupts at every step: {stopped} ended with 130 and changed nothing, {late} came too late")
+        self.assertGreater(min(stopped, late), 100)
 
     def whole_run(self) -> float:
         """How long the command takes where nothing interrupts it."""
