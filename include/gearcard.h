@@ -249,13 +249,13 @@ struct gearcard_coefficients gearcard_export(const uint8_t *bytes, size_t length
    random cars and traces, of up to 16,384 seconds (./bench --stack).
 
      gearcard_read        1,816
-     gearcard_write       1,568
-     gearcard_work        2,136
+     gearcard_write       1,232
+     gearcard_work        1,688
      gearcard_summary_of     56
-     gearcard_hold        3,192
-     gearcard_release     3,192
-     gearcard_mend        3,192
-     gearcard_why        18,952
+     gearcard_hold        2,216
+     gearcard_release     2,216
+     gearcard_mend        2,216
+     gearcard_why        18,968
      gearcard_cycle          32
      gearcard_cycle_part      0
      gearcard_downscale      64

@@ -11,11 +11,7 @@ use Rattle.rules.specs.Refusals.{Fault, said, span-fault, work-fault, work-card
 use Rattle.rules.proofs.Laws.Words.{by-order}
 use Rattle.rules.proofs.Laws.Trips.{standing-past}
 use Rattle.rules.proofs.Laws.Checks.{trace-in}
-use Rattle.gears.specs.declared.Numbers.{Numbers}
-use Rattle.gears.specs.Parts.{Counts, Lent, Has}
 use Rattle.checks.specs.Want.{Resting}
-use Rattle.gears.specs.Choosing.{available}
-use Rattle.gears.proofs.Derating.{derated-powers}
 use Rattle.checks.proofs.Rows.{opening, Opened, after-opening, opening-first, said-none, left-old, left-new}
 use Rattle.cards.specs.Rework.{Range, Passes}
 use Rattle.cards.proofs.Patches.{patch-all}
@@ -27,14 +23,6 @@ module _ (car : Vehicle) (vs hs old : List ℕ) where
   pub work-opening : {x : Answer} {q : Refusal} → said x ≡ opening car vs hs old → x ≡ Refused q → (said x ≡ work-fault car vs hs old) × (old ≡ work-card car vs hs old)
   unfolding work-fault work-card
   work-opening e h = let f = opening-first car vs hs old (span-fault car vs hs 0 (length vs)) e h in (f, left-old old (card car vs hs) f h)
-
--- the parts that are lent of a vehicle whose opening has passed, with its available powers
-pub its-ratios : {k : Numbers} {car : Vehicle} → Counts car k → Has car k (car .ratio)
-its-ratios K = record { counts = K; ratios = refl }
-
-pub its-parts : {k : Numbers} {car : Vehicle} {vs hs old : List ℕ} → Counts car k → Opened car vs hs old → {p : List ℕ} → p ≡ available (car .margin) (car .p) (car .m) (car .points)
-    → Lent car k (car .ratio) (car .n) p
-its-parts {car = car} K O e = record { has = its-ratios K; speeds = refl; powers = rw e (derated-powers car (O .bounds)); bounds = O .bounds }
 
 -- past the opening; nothing is asked for
 module _ {car : Vehicle} {vs hs old : List ℕ} (O : Opened car vs hs old) where

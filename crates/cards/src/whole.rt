@@ -17,12 +17,29 @@ pub fn work<'a>(vehicle: Vehicle, speeds: &'a [u16], holds: &'a [u8], card: &mut
     ensures card { λ r. ⌜ now (card .exit) ≡ work-card vehicle (now (speeds .entry)) (now (holds .entry)) (now (card .entry)) ⌝ }
 {
     let seconds = speeds.len();
-    let opening = check_opening(vehicle, seconds, holds.len(), card.len());
+    let k = numbers_of(vehicle);
+    let opening = check_opening(
+        k,
+        &vehicle.ratio,
+        &vehicle.n,
+        &vehicle.p,
+        &vehicle.m,
+        vehicle.margin,
+        seconds,
+        holds.len(),
+        card.len(),
+    );
     let Answer::Done = opening else {
         return opening;
     };
-    let k = numbers_of(vehicle);
-    let powers = derate(vehicle.margin, &vehicle.p, &vehicle.m, vehicle.points);
+    let mut powers = [0u32; 64];
+    derate(
+        vehicle.margin,
+        &vehicle.p,
+        &vehicle.m,
+        vehicle.points,
+        &mut powers,
+    );
     let all = Span { lo: 0, hi: seconds };
     // nothing is asked for: the second lies past the trace
     let none = Asked {

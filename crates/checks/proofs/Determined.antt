@@ -29,8 +29,9 @@ check-lengths κs a asked z z′ ws ws′ p q =
 
 pub check-opening : Determined check-opening-kinds.ps check-opening-kinds.r check-opening-reads.Asked check-opening-reads.Learnt
 check-opening κs a asked z z′ ws ws′ p q =
-    let e = p (replicate (a .1 .0) 0) (replicate (a .1 .1 .0) 0) (replicate (a .1 .1 .1 .0) 0) (of _) (of _) (of _) in
-    let f = q (replicate (a .1 .0) 0) (replicate (a .1 .1 .0) 0) (replicate (a .1 .1 .1 .0) 0) (of _) (of _) (of _) in
+    let l = a .1 .1 .1 .1 .1 .1 in
+    let e = p (replicate (l .0) 0) (replicate (l .1 .0) 0) (replicate (l .1 .1 .0) 0) (of _) (of _) (of _) in
+    let f = q (replicate (l .0) 0) (replicate (l .1 .0) 0) (replicate (l .1 .1 .0) 0) (of _) (of _) (of _) in
     (said-once z z′ (e ∙ sym f), refl)
 
 pub trip-start : Determined trip-start-kinds.ps trip-start-kinds.r trip-start-reads.Asked trip-start-reads.Learnt

@@ -12,8 +12,8 @@ use Rattle.rules.specs.Refusals.{Fault, said, refuse-at, _orelse_, when, trace-
 use Rattle.rules.specs.Inside.{InBounds}
 use Rattle.rules.proofs.Laws.Checks.{orelse-none, none-orelse, orelse-assoc, rooms-in, vehicle-in}
 use Rattle.gears.specs.declared.Numbers.{Numbers}
-use Rattle.gears.specs.Parts.{Counts}
-use Rattle.gears.proofs.Parts.{ng-of, idle-of, rated-of}
+use Rattle.gears.specs.Parts.{whole, Counts}
+use Rattle.gears.proofs.Parts.{ng-of, idle-of, rated-of, whole-of}
 use Rattle.checks.specs.Checks.{Spanned}
 
 -- ---- an answer and a row of checks
@@ -79,6 +79,11 @@ module _ (vs hs old : List ℕ) where
 
   pub opening-vehicle : (car : Vehicle) {x : Answer} (y : Answer) → said x ≡ (trace-fault vs orelse room-fault vs hs old) → x ≡ Done → said y ≡ vehicle-fault car → said y ≡ opening car vs hs old
   opening-vehicle car y e h f = f ∙ sym (sym (orelse-assoc _ _ _) ∙ none-orelse _ _ (said-none e h))
+
+-- the opening of a vehicle that came in its parts
+pub opening-of : {k : Numbers} (car : Vehicle) (vs hs old : List ℕ) {f : Option Fault} → Counts car k
+    → f ≡ opening (whole k (car .ratio) (car .n) (car .p) (car .m) (car .margin)) vs hs old → f ≡ opening car vs hs old
+opening-of car vs hs old K e = e ∙ ap (λ (one : Vehicle). opening one vs hs old) (whole-of K)
 
 -- what the opening leaves
 pub record Opened (car : Vehicle) (vs hs old : List ℕ) : Type 0 where

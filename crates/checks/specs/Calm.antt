@@ -50,13 +50,9 @@ pub record Stands (vs : List ℕ) (lo hi : ℕ) : Type 0 where
   pub first : moving (at vs lo) ≡ false
   pub last : moving (at vs (hi - 1)) ≡ false
 
--- gear g, of ratio `this`, has reached the highest of its minima wherever the gear below it turns past nmax, by the ratios alone
-abbrev pub HandsOn : Numbers → ℕ → ℕ → ℕ → Type 0
-HandsOn k g below this = (car : Vehicle) → Counts car k → minimum car AfterLow g * below ≤ k .nmax * this
-
--- so gear j + 1, whose ratio stands at place j
+-- gear j + 1, whose ratio stands at place j, has reached the highest of its minima wherever the gear below it turns past nmax
 abbrev pub Follows : Numbers → List ℕ → ℕ → Type 0
-Follows k ratio j = HandsOn k (j + 1) (at ratio (j - 1)) (at ratio j)
+Follows k ratio j = (car : Vehicle) → Counts car k → minimum car AfterLow (j + 1) * at ratio (j - 1) ≤ k .nmax * at ratio j
 
 -- up to the speed `most` some gear fits; at the first second of a trip, up to 159, the lowest does
 pub record NoGap (k : Numbers) (ratio : List ℕ) (most : ℕ) : Type 0 where

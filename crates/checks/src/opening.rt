@@ -4,12 +4,13 @@ ghost use mathlib.Core.List.{List};
 ghost use Prim.Native.Nat.{ℕ};
 ghost use lib.ListN.{length};
 ghost use Rattle.rules.specs.Refusals.{said, _orelse_, trace-fault, room-fault, vehicle-fault};
+ghost use Rattle.gears.specs.Parts.{whole};
 use gears::NEWEST;
+use gears::Numbers;
 use gears::check_vehicle;
 use rules::Answer;
 use rules::LONGEST;
 use rules::Refusal;
-use rules::Vehicle;
 
 // 1 and 2, by the lengths alone.
 pub fn check_lengths(speeds: usize, holds: usize, card: usize) -> Answer
@@ -30,13 +31,23 @@ pub fn check_lengths(speeds: usize, holds: usize, card: usize) -> Answer
     Answer::Done
 }
 
-// 1, 2 and 3.
-pub fn check_opening(vehicle: Vehicle, speeds: usize, holds: usize, card: usize) -> Answer
-    ensures { λ r. ⌜ ((vs hs old : List ℕ) → length vs ≡ speeds → length hs ≡ holds → length old ≡ card → said r ≡ (trace-fault vs orelse room-fault vs hs old orelse vehicle-fault vehicle)) ⌝ }
+// 1, 2 and 3, of a vehicle in its parts.
+pub fn check_opening<'a>(
+    k: Numbers,
+    ratio: &'a [u16; 10],
+    n: &'a [u16; 64],
+    p: &'a [u16; 64],
+    m: &'a [u16; 64],
+    margin: u16,
+    speeds: usize,
+    holds: usize,
+    card: usize,
+) -> Answer
+    ensures { λ r. ⌜ ((vs hs old : List ℕ) → length vs ≡ speeds → length hs ≡ holds → length old ≡ card → said r ≡ (trace-fault vs orelse room-fault vs hs old orelse vehicle-fault (whole k (now (ratio .entry)) (now (n .entry)) (now (p .entry)) (now (m .entry)) margin))) ⌝ }
 {
     let lengths = check_lengths(speeds, holds, card);
     let Answer::Done = lengths else {
         return lengths;
     };
-    check_vehicle(vehicle, NEWEST)
+    check_vehicle(k, ratio, n, p, m, margin, NEWEST)
 }

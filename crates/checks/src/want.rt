@@ -3,7 +3,7 @@
 ghost use mathlib.Core.Path.{_≡_};
 ghost use mathlib.Core.Bool.{true};
 ghost use mathlib.Core.Option.{none};
-ghost use Prim.Native.Nat.{ℕ, _+_, _-_, _≤_, _<_};
+ghost use Prim.Native.Nat.{ℕ, _+_, _-_, _*_, _≤_, _<_};
 ghost use lib.Dec.{eqb};
 ghost use lib.ListN.{length};
 ghost use Rattle.rules.specs.declared.Vehicle.{Vehicle};
@@ -12,10 +12,10 @@ ghost use Rattle.rules.specs.Corrections.{first-at};
 ghost use Rattle.rules.specs.Refusals.{no-gear, bad, said, seconds-fault};
 ghost use Rattle.rules.specs.Inside.{gear-fault};
 ghost use Rattle.gears.specs.Parts.{low-in, Has, Lent, Parts};
-ghost use Rattle.gears.specs.Second.{Lowest, Geared};
+ghost use Rattle.gears.specs.Second.{Geared};
 ghost use Rattle.checks.specs.Asked.{speeds-with, holds-with};
 ghost use Rattle.checks.specs.Checks.{Spanned};
-ghost use Rattle.checks.specs.Calm.{Each, AtMost, HandsOn, Follows, NoGap};
+ghost use Rattle.checks.specs.Calm.{Each, AtMost, Follows, NoGap};
 ghost use Rattle.checks.specs.Want.{Resting, Level, Ahead, OnWay, PartEnd, Firsts, Through, LowestAt};
 use crate::Asked;
 use crate::Span;
@@ -38,26 +38,30 @@ use trips::first_choices;
 // A trip's first second is one step above a standing one, so its speed is at most this.
 const FIRST_FASTEST: u16 = MOVING + STEEPEST - 1;
 
-// Whether gear g, of ratio `this`, has reached the highest of its minima, the one after the lowest gear, wherever the gear below it, of ratio `below`,
-// turns past nmax.
-fn hands_on(k: Numbers, g: usize, below: u16, this: u16) -> bool
-    requires { ⌜ Lowest k g ⌝ }
-    ensures { λ r. ⌜ (r ≡ true → HandsOn k g below this) ⌝ }
+// Whether a gear of ratio `this` has reached its minimum `least` wherever the gear below it, of ratio `below`, turns past nmax.
+fn hands_on(nmax: u16, least: u64, below: u16, this: u16) -> bool
+    requires { ⌜ least ≤ 131070 ⌝ }
+    ensures { λ r. ⌜ (r ≡ true → least * below ≤ nmax * this) ⌝ }
 {
-    minimum(k, Role::AfterLow, g) * (below as u64) <= (k.nmax as u64) * (this as u64)
+    least * (below as u64) <= (nmax as u64) * (this as u64)
 }
 
-// So every gear above the lowest: then no speed lies between two gears.
+// Whether every gear above the lowest has so reached the highest of its minima, the one after the lowest gear: then no speed lies between two gears. From two
+// above the lowest on the gears share theirs.
 fn covered(k: Numbers, ratio: &[u16; 10]) -> bool
     requires { ⌜ Geared k ⌝ }
     ensures { λ r. ⌜ (r ≡ true → Each (Follows k (now (ratio .entry))) (low-in k) (k .ng)) ⌝ }
 {
     let ng = k.ng as usize;
-    let mut j = lowest(k);
+    let low = lowest(k);
+    let shared = minimum(k, Role::AfterLow, low + 2);
+    let mut least = minimum(k, Role::AfterLow, low + 1);
+    let mut j = low;
     while j < ng {
-        if !hands_on(k, j + 1, ratio[j - 1], ratio[j]) {
+        if !hands_on(k.nmax, least, ratio[j - 1], ratio[j]) {
             return false;
         }
+        least = shared;
         j += 1;
     }
     true

@@ -1,6 +1,6 @@
 -- An edit that no check refuses, carried out: what the sweep asks of the screen with its byte written, and that what is left is the screen of the definitions.
 -- Assumes nothing.
-use Rattle.rules.proofs.Base.{ℕ, suc, _+_, _-_, _≤_, _<_, min, add-one, arith, _≡_, refl, sym, ap, _∙_, inl, none, List, length}
+use Rattle.rules.proofs.Base.{ℕ, suc, _+_, _-_, _<_, min, add-one, arith, _≡_, sym, ap, _∙_, inl, none, List, length}
 use Rattle.rules.specs.declared.Vehicle.{Vehicle}
 use Rattle.rules.specs.declared.Summary.{Summary}
 use Rattle.rules.specs.declared.Edit.{Edit}
@@ -22,8 +22,7 @@ use Rattle.gears.specs.Parts.{Lent, Parts, numbers-of}
 use Rattle.checks.proofs.Rows.{Opened, said-none, longest-is}
 use Rattle.cards.specs.Rework.{Range, Passes}
 use Rattle.cards.proofs.Reworking.{ends-stand}
-use Rattle.cards.proofs.Working.{its-parts}
-use Rattle.summaries.specs.Tallies.{tallied, in-ten}
+use Rattle.summaries.specs.Tallies.{tallied, in-ten, Countable}
 use Rattle.summaries.proofs.Counting.{ten-of}
 use Rattle.edits.specs.declared.Judged.{Judged}
 use Rattle.edits.specs.Asks.{Ready}
@@ -37,19 +36,23 @@ passes-at one e vs hs l ok =
     let z : min (suc (span e vs .hi)) (length (asked-speeds e vs)) ≡ span e vs .end = sym (L .end-is ∙ rw (add-one (span e vs .hi))) in
     rw z (ap (λ (r : Span). span-fault one (asked-speeds e vs) (asked-holds e hs) (r .lo) (r .end)) (sym (span-kept e vs)) ∙ span-passes one e vs hs l ok)
 
+-- what judging says of an edit
+abbrev pub Judges : Vehicle → Edit → List ℕ → List ℕ → List ℕ → Judged → List ℕ → Type 0
+Judges car e vs hs old j powers = ((n : Summary) → said (j .answer) ≡ edit-fault car e (showing vs hs old n)) × (j .answer ≡ Done → Ready car e vs hs old j powers)
+
 -- a refusal leaves the screen as it was
 pub refused-left : (car : Vehicle) (e : Edit) (x : Screen) {a : Answer} {q : Refusal} → said a ≡ edit-fault car e x → a ≡ Refused q → edited car e x ≡ x
 unfolding said
 refused-left car e x {a} {q} says r = refused-alone car e x (fault q) (sym says ∙ ap said r)
 
 -- an edit of a screen that was judged, and not refused
-pub record Accepted (car : Vehicle) (e : Edit) (vs hs old : List ℕ) (n : Summary) (j : Judged) : Type 0 where
+pub record Accepted (car : Vehicle) (e : Edit) (vs hs old : List ℕ) (n : Summary) (j : Judged) (powers : List ℕ) : Type 0 where
   pub says : said (j .answer) ≡ edit-fault car e (showing vs hs old n)
   pub done : j .answer ≡ Done
-  pub ready : Ready car e vs hs old j
+  pub ready : Ready car e vs hs old j powers
 
-module _ {car : Vehicle} {e : Edit} {vs hs old : List ℕ} {n : Summary} {j : Judged} (A : Accepted car e vs hs old n j) where
-  R : Ready car e vs hs old j
+module _ {car : Vehicle} {e : Edit} {vs hs old : List ℕ} {n : Summary} {j : Judged} {powers : List ℕ} (A : Accepted car e vs hs old n j powers) where
+  R : Ready car e vs hs old j powers
   R = A .ready
 
   accepted-at : edit-fault car e (showing vs hs old n) ≡ none
@@ -69,15 +72,8 @@ module _ {car : Vehicle} {e : Edit} {vs hs old : List ℕ} {n : Summary} {j : Ju
   pub in-holds-at : second e < length hs
   in-holds-at = omega (arith, in-trace-at, opened-at .holds-long)
 
-  -- the parts that are lent
-  lent-at : Lent car (numbers-of car) (car .ratio) (car .n) (j .powers)
-  lent-at = its-parts (record { numbers = refl }) opened-at (R .powers-are)
-
-  pub parts-at : Parts (numbers-of car) (car .ratio) (car .n) (j .powers)
-  parts-at = record { car = car; lent = lent-at }
-
-  pub few-at : length (asked-speeds e vs) ≤ 65535
-  few-at = let t = trace-in vs (its .trace) .1 in let k = length-asked e vs in omega (arith, longest-is)
+  pub parts-at : Parts (numbers-of car) (car .ratio) (car .n) powers
+  parts-at = record { car = car; lent = R .lent }
 
   pub range-at : Range (asked-speeds e vs) (asked-holds e hs) old (j .range .lo) (j .range .hi)
   range-at =
@@ -92,12 +88,26 @@ module _ {car : Vehicle} {e : Edit} {vs hs old : List ℕ} {n : Summary} {j : Ju
         inside = L .within;
         begins = by-order 0 (span e vs .lo)
             (λ w. L .begins (λ y. omega arith))
-            (λ w. ends-stand car (asked-speeds e vs) (asked-holds e hs) (span e vs .lo) (min (suc (span e vs .hi)) (length (asked-speeds e vs))) (R .passes car lent-at) (span e vs .lo) (omega arith) (omega (arith, L .inside, L .since, L .order)) (inl (omega arith)));
+            (λ w. ends-stand car (asked-speeds e vs) (asked-holds e hs) (span e vs .lo) (min (suc (span e vs .hi)) (length (asked-speeds e vs))) (R .passes car (R .lent)) (span e vs .lo) (omega arith) (omega (arith, L .inside, L .since, L .order)) (inl (omega arith)));
         ends = L .ends;
       })
 
-  pub passes-there : (one : Vehicle) → Lent one (numbers-of car) (car .ratio) (car .n) (j .powers) → Passes one (asked-speeds e vs) (asked-holds e hs) (j .range .lo) (j .range .hi)
+  pub passes-there : (one : Vehicle) → Lent one (numbers-of car) (car .ratio) (car .n) powers → Passes one (asked-speeds e vs) (asked-holds e hs) (j .range .lo) (j .range .hi)
   passes-there one L = rw (R .from, R .to) (R .passes one L)
+
+  -- the seconds can be counted again
+  pub countable-again : {new : List ℕ} → length new ≡ length old → Countable (asked-speeds e vs) new (j .range .lo) (j .range .hi)
+  countable-again n =
+      let L = lies-asked e vs in-trace-at in
+      let k = length-asked e vs in
+      let t = trace-in vs (its .trace) .1 in
+      rw (R .from, R .to) (record {
+        order = L .order;
+        in-trace = L .within;
+        in-card = omega (arith, n, opened-at .card-long, k, L .within);
+        few = omega (arith, longest-is, t, k, L .within);
+        ends = λ z. L .ends;
+      })
 
   -- ---- what is left
 
@@ -112,12 +122,12 @@ module _ {car : Vehicle} {e : Edit} {vs hs old : List ℕ} {n : Summary} {j : Ju
   unfolding asked-screen
   holds-at = sym (ap (λ (w : Screen). w .holds) left-at)
 
-  module _ {new : List ℕ} (swept : (one : Vehicle) → Lent one (numbers-of car) (car .ratio) (car .n) (j .powers)
+  module _ {new : List ℕ} (swept : (one : Vehicle) → Lent one (numbers-of car) (car .ratio) (car .n) powers
       → new ≡ patch old (j .range .lo) (j .range .hi) (card-at one (asked-speeds e vs) (asked-holds e hs))) where
     pub card-left-at : new ≡ edited car e (showing vs hs old n) .card
     unfolding asked-screen
     card-left-at =
-        swept car lent-at
+        swept car (R .lent)
         ∙ rw (R .from, R .to) (ap (λ (r : Span). patch old (r .lo) (r .hi) (card-at car (asked-speeds e vs) (asked-holds e hs))) (sym (span-kept e vs)))
         ∙ sym (ap (λ (w : Screen). w .card) left-at)
 

@@ -10,7 +10,6 @@ use Rattle.rules.specs.declared.Edit.the-variants.{Hold, Release, Mend}
 use Rattle.rules.specs.Words.{if_then_else_, at}
 use Rattle.rules.specs.Edit.{second, asked-speeds, asked-holds, span}
 use Rattle.gears.specs.Parts.{Lent, numbers-of}
-use Rattle.gears.specs.Choosing.{available}
 use Rattle.checks.specs.declared.Asked.{Asked}
 use Rattle.cards.specs.Rework.{Passes}
 use Rattle.summaries.specs.Tallies.{tallied}
@@ -27,10 +26,10 @@ asked-of (Release s) vs hs = record { second = s; speed = at vs s; gear = 0 }
 asked-of (Mend s v) vs hs = record { second = s; speed = v; gear = at hs s }
 
 -- an edit that no check refuses: where it re-works, with what powers, that every check passes there, and what the card counts there
-pub record Ready (car : Vehicle) (e : Edit) (vs hs old : List ℕ) (j : Judged) : Type 0 where
+pub record Ready (car : Vehicle) (e : Edit) (vs hs old : List ℕ) (j : Judged) (powers : List ℕ) : Type 0 where
   pub from : j .range .lo ≡ span e vs .lo
   pub to : j .range .hi ≡ span e vs .hi
-  pub powers-are : j .powers ≡ available (car .margin) (car .p) (car .m) (car .points)
-  pub passes : (one : Vehicle) → Lent one (numbers-of car) (car .ratio) (car .n) (j .powers)
+  pub lent : Lent car (numbers-of car) (car .ratio) (car .n) powers
+  pub passes : (one : Vehicle) → Lent one (numbers-of car) (car .ratio) (car .n) powers
       → Passes one (asked-speeds e vs) (asked-holds e hs) (span e vs .lo) (span e vs .hi)
   pub counted-are : j .counted ≡ tallied vs old (span e vs .lo) (span e vs .hi - span e vs .lo)

@@ -1,16 +1,18 @@
-// The three edits, each its own call.
+// The three edits, each its own call: judged, written, the card re-worked, and the summary brought up to date from what it counted there and counts now.
 ghost use mathlib.Core.Path.{_≡_};
 ghost use Rattle.rules.specs.declared.Edit.the-variants.{Hold, Release, Mend};
 ghost use Rattle.rules.specs.Refusals.{said};
 ghost use Rattle.rules.specs.Edit.{showing, edit-fault, edited};
-use crate::judging::carry_out;
 use crate::judging::judge;
+use cards::sweep;
 use gears::numbers_of;
 use rules::Answer;
 use rules::Edit;
 use rules::Summary;
 use rules::Vehicle;
 use summaries::Counted;
+use summaries::count;
+use summaries::updated;
 
 // One second held in a gear. Gear 0 is none, and is refused by 7 in the table's order.
 pub fn hold(
@@ -27,28 +29,40 @@ pub fn hold(
     ensures holds { λ r. ⌜ now (holds .exit) ≡ edited vehicle (Hold second gear) (showing (now (speeds .entry)) (now (holds .entry)) (now (card .entry)) summary) .holds ⌝ }
     ensures card { λ r. ⌜ now (card .exit) ≡ edited vehicle (Hold second gear) (showing (now (speeds .entry)) (now (holds .entry)) (now (card .entry)) summary) .card ⌝ }
 {
-    let judged = judge(vehicle, speeds, holds, card, Edit::Hold(second, gear));
+    let k = numbers_of(vehicle);
+    let mut powers = [0u32; 64];
+    let judged = judge(
+        k,
+        &vehicle.ratio,
+        &vehicle.n,
+        &vehicle.p,
+        &vehicle.m,
+        vehicle.margin,
+        &mut powers,
+        speeds,
+        holds,
+        card,
+        Edit::Hold(second, gear),
+    );
     let answer = judged.answer;
     let Answer::Done = answer else {
         return Counted { answer, summary };
     };
     holds[second] = gear;
-    let k = numbers_of(vehicle);
-    let now = carry_out(
+    sweep(
         k,
         &vehicle.ratio,
         &vehicle.n,
-        &judged.powers,
+        &powers,
         speeds,
         holds,
         card,
         judged.range,
-        judged.counted,
-        summary,
     );
+    let held = count(speeds, card, judged.range);
     Counted {
         answer,
-        summary: now,
+        summary: updated(summary, judged.counted, held),
     }
 }
 
@@ -66,28 +80,40 @@ pub fn release(
     ensures holds { λ r. ⌜ now (holds .exit) ≡ edited vehicle (Release second) (showing (now (speeds .entry)) (now (holds .entry)) (now (card .entry)) summary) .holds ⌝ }
     ensures card { λ r. ⌜ now (card .exit) ≡ edited vehicle (Release second) (showing (now (speeds .entry)) (now (holds .entry)) (now (card .entry)) summary) .card ⌝ }
 {
-    let judged = judge(vehicle, speeds, holds, card, Edit::Release(second));
+    let k = numbers_of(vehicle);
+    let mut powers = [0u32; 64];
+    let judged = judge(
+        k,
+        &vehicle.ratio,
+        &vehicle.n,
+        &vehicle.p,
+        &vehicle.m,
+        vehicle.margin,
+        &mut powers,
+        speeds,
+        holds,
+        card,
+        Edit::Release(second),
+    );
     let answer = judged.answer;
     let Answer::Done = answer else {
         return Counted { answer, summary };
     };
     holds[second] = 0;
-    let k = numbers_of(vehicle);
-    let now = carry_out(
+    sweep(
         k,
         &vehicle.ratio,
         &vehicle.n,
-        &judged.powers,
+        &powers,
         speeds,
         holds,
         card,
         judged.range,
-        judged.counted,
-        summary,
     );
+    let freed = count(speeds, card, judged.range);
     Counted {
         answer,
-        summary: now,
+        summary: updated(summary, judged.counted, freed),
     }
 }
 
@@ -106,27 +132,39 @@ pub fn mend(
     ensures speeds { λ r. ⌜ now (speeds .exit) ≡ edited vehicle (Mend second speed) (showing (now (speeds .entry)) (now (holds .entry)) (now (card .entry)) summary) .speeds ⌝ }
     ensures card { λ r. ⌜ now (card .exit) ≡ edited vehicle (Mend second speed) (showing (now (speeds .entry)) (now (holds .entry)) (now (card .entry)) summary) .card ⌝ }
 {
-    let judged = judge(vehicle, speeds, holds, card, Edit::Mend(second, speed));
+    let k = numbers_of(vehicle);
+    let mut powers = [0u32; 64];
+    let judged = judge(
+        k,
+        &vehicle.ratio,
+        &vehicle.n,
+        &vehicle.p,
+        &vehicle.m,
+        vehicle.margin,
+        &mut powers,
+        speeds,
+        holds,
+        card,
+        Edit::Mend(second, speed),
+    );
     let answer = judged.answer;
     let Answer::Done = answer else {
         return Counted { answer, summary };
     };
     speeds[second] = speed;
-    let k = numbers_of(vehicle);
-    let now = carry_out(
+    sweep(
         k,
         &vehicle.ratio,
         &vehicle.n,
-        &judged.powers,
+        &powers,
         speeds,
         holds,
         card,
         judged.range,
-        judged.counted,
-        summary,
     );
+    let mended = count(speeds, card, judged.range);
     Counted {
         answer,
-        summary: now,
+        summary: updated(summary, judged.counted, mended),
     }
 }

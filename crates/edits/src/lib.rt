@@ -12,11 +12,9 @@ use checks::Span;
 use rules::Answer;
 use summaries::Tally;
 
-// What was found out of an edit: the answer, and where there is no refusal the seconds that it re-works, the available powers, and what the card as it
-// stands counts there.
+// What was found out of an edit: the answer, and where there is no refusal the seconds that it re-works, and what the card as it stands counts there.
 pub struct Judged {
     pub answer: Answer,
     pub range: Span,
-    pub powers: [u32; 64],
     pub counted: Tally,
 }

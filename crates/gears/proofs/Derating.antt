@@ -1,35 +1,32 @@
 -- The available powers, point by point: as a loop from left to right puts them down, and what they are of a vehicle in bounds.
 -- Assumes nothing.
-use Rattle.rules.proofs.Base.{ℕ, suc, _+_, _-_, _*_, _≤_, _<_, add-one, lt-of-lt-of-le, arith, _≡_, refl, ap, _∙_, List, length, set, replicate, pos}
+use Rattle.rules.proofs.Base.{ℕ, suc, _+_, _-_, _*_, _≤_, _<_, add-one, lt-of-lt-of-le, arith, _≡_, refl, ap, _∙_, List, length, set, pos}
 use Rattle.rules.specs.declared.Vehicle.{Vehicle}
 use Rattle.rules.specs.Words.{at, pass}
 use Rattle.rules.specs.Gears.{derated}
 use Rattle.rules.specs.Inside.{InBounds}
-use Rattle.rules.proofs.Laws.Words.{length-pass, pass-at}
+use Rattle.rules.proofs.Laws.Words.{pass-at}
 use Rattle.rules.proofs.Laws.Sizes.{derated-is}
 use Rattle.gears.specs.Choosing.{available}
 use Rattle.gears.specs.Second.{Derates}
+use Rattle.gears.specs.declared.Numbers.{Numbers}
+use Rattle.gears.specs.Parts.{Counts, Lent}
 
-module _ (margin : ℕ) (p m : List ℕ) where
+module _ (margin : ℕ) (p m room : List ℕ) where
   -- no point yet
-  pub begun : replicate 64 0 ≡ available margin p m 0
+  pub begun : room ≡ available margin p m 0 room
   unfolding available pass
   begun = refl
 
   -- and one more
-  pub goes-on : {powers : List ℕ} (i : ℕ) {x : ℕ} → powers ≡ available margin p m i → x ≡ at p i * (100 - margin - at m i) → set powers i x ≡ available margin p m (i + 1)
+  pub goes-on : {powers : List ℕ} (i : ℕ) {x : ℕ} → powers ≡ available margin p m i room → x ≡ at p i * (100 - margin - at m i) → set powers i x ≡ available margin p m (i + 1) room
   unfolding available pass
   goes-on {powers} i {x} e f = rw (add-one, e, f)
 
-  -- there is a place for each
-  pub places : (points : ℕ) → length (available margin p m points) ≡ 64
-  unfolding available
-  places points = length-pass (λ i done. at p i * (100 - margin - at m i)) (replicate 64 0) points
-
   -- each is the point's own
-  pub available-at : (points i : ℕ) → i < points → points ≤ 64 → at (available margin p m points) i ≡ at p i * (100 - margin - at m i)
+  pub available-at : (points i : ℕ) → i < points → points ≤ length room → at (available margin p m points room) i ≡ at p i * (100 - margin - at m i)
   unfolding available
-  available-at points i h l = pass-at (λ i done. at p i * (100 - margin - at m i)) (replicate 64 0) points i h (lt-of-lt-of-le h l)
+  available-at points i h l = pass-at (λ i done. at p i * (100 - margin - at m i)) room points i h (lt-of-lt-of-le h l)
 
 module _ (car : Vehicle) (b : InBounds car) where
   -- a vehicle in bounds can be derated
@@ -37,5 +34,10 @@ module _ (car : Vehicle) (b : InBounds car) where
   derates = record { to = b .points-to; left = b .margins-to }
 
   -- to the available powers of the rules
-  pub derated-powers : (i : ℕ) → i < car .points → derated car i ≡ pos (at (available (car .margin) (car .p) (car .m) (car .points)) i)
-  derated-powers i h = derated-is car b i h ∙ rw (available-at (car .margin) (car .p) (car .m) (car .points) i h (b .points-to))
+  derated-powers : (room : List ℕ) → length room ≡ 64 → (i : ℕ) → i < car .points → derated car i ≡ pos (at (available (car .margin) (car .p) (car .m) (car .points) room) i)
+  derated-powers room n i h = derated-is car b i h ∙ rw (available-at (car .margin) (car .p) (car .m) room (car .points) i h (omega (arith, n, b .points-to)))
+
+  -- which may be lent in place of p
+  pub powers-lent : {k : Numbers} → Counts car k → (room : List ℕ) {powers : List ℕ} → length room ≡ 64 → powers ≡ available (car .margin) (car .p) (car .m) (car .points) room
+      → Lent car k (car .ratio) (car .n) powers
+  powers-lent K room n e = record { has = record { counts = K; ratios = refl }; speeds = refl; powers = rw e (derated-powers room n); bounds = b }

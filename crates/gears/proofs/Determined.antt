@@ -1,6 +1,6 @@
 -- Each public function's contract allows one outcome. `Reads` is the contract's own reading, which the check makes of the clauses.
 -- Assumes nothing.
-use Rattle.rules.proofs.Base.{ℕ, refl, sym, _∙_, [], now}
+use Rattle.rules.proofs.Base.{ℕ, refl, sym, ap, _∙_, List, [], now}
 use Rattle.rules.proofs.Laws.Refusals.{said-once}
 use Rattle.once.specs.Determined.{Determined, DeterminedAs}
 use Rattle.gears.proofs.Parts.{built-has}
@@ -72,7 +72,7 @@ pub numbers-of : Determined numbers-of-kinds.ps numbers-of-kinds.r numbers-of-re
 numbers-of κs a asked z z′ ws ws′ p q = (p ∙ sym q, refl)
 
 pub derate : Determined derate-kinds.ps derate-kinds.r derate-reads.Asked derate-reads.Learnt
-derate κs a asked z z′ ws ws′ p q = (p ∙ sym q, refl)
+derate κs a asked z z′ ws ws′ p q = (refl, ap (λ (x : List ℕ). (tt, (tt, (tt, (tt, (x, tt)))))) (p ∙ sym q))
 
 pub segment-near : Determined segment-near-kinds.ps segment-near-kinds.r segment-near-reads.Asked segment-near-reads.Learnt
 segment-near κs a asked z z′ ws ws′ p q = (p ∙ sym q, refl)

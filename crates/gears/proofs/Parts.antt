@@ -8,7 +8,7 @@ use Rattle.rules.specs.Gears.{engine, required}
 use Rattle.rules.specs.Vocabulary.Sums.{nested}
 use Rattle.rules.proofs.Laws.Nested.{required-nested}
 use Rattle.gears.specs.declared.Numbers.{Numbers}
-use Rattle.gears.specs.Parts.{numbers-of, low-in, Counts, Has}
+use Rattle.gears.specs.Parts.{numbers-of, whole, low-in, Counts, Has}
 
 module _ {car : Vehicle} {k : Numbers} (C : Counts car k) where
   -- the lowest gear, from the numbers
@@ -43,6 +43,10 @@ module _ {car : Vehicle} {k : Numbers} (C : Counts car k) where
   pub tm-of : car .tm ≡ k .tm
   tm-of = ap (λ (x : Numbers). x .tm) (C .numbers)
 
+  -- the vehicle of its parts is itself
+  pub whole-of : whole k (car .ratio) (car .n) (car .p) (car .m) (car .margin) ≡ car
+  whole-of = ap (λ (x : Numbers). whole x (car .ratio) (car .n) (car .p) (car .m) (car .margin)) (sym (C .numbers))
+
   -- required power, from the numbers
   pub required-of : (v : ℕ) (d : ℤ)
       → pos v *ℤ (pos 9000000 *ℤ pos (k .f0) +ℤ pos 2575000 *ℤ d *ℤ pos (k .tm) +ℤ pos v *ℤ (pos 9000 *ℤ k .f1 +ℤ pos v *ℤ (pos 9 *ℤ pos (k .f2)))) ≡ required car v d
@@ -54,25 +58,9 @@ pub engine-of : {car : Vehicle} {k : Numbers} {ratio : List ℕ} → Has car k r
 unfolding engine ratio-of
 engine-of H g v = rw (H .ratios)
 
--- some vehicle of these parts
+-- some vehicle of these numbers and ratios
 unfoldable pub built : Numbers → List ℕ → Vehicle
-built k ratio = record {
-  ng = k .ng;
-  ratio = ratio;
-  idle = k .idle;
-  rated = k .rated;
-  nmax = k .nmax;
-  f0 = k .f0;
-  f1 = k .f1;
-  f2 = k .f2;
-  tm = k .tm;
-  margin = 0;
-  points = k .points;
-  profile = k .profile;
-  n = [];
-  p = [];
-  m = [];
-}
+built k ratio = whole k ratio [] [] [] 0
 
 pub built-has : (k : Numbers) (ratio : List ℕ) → Has (built k ratio) k ratio
 unfolding built

@@ -6,7 +6,6 @@ use mathlib.Core.Bool.{Bool, true, false}
 use mathlib.Core.List.{List}
 use mathlib.Core.Option.{Option·getD}
 use lib.Dec.{leb, eqb}
-use lib.ListN.{replicate}
 use lib.IntN.{ℤ, pos, natAbs, _*ℤ_}
 use lib.Signed.{leZ}
 use Rattle.rules.specs.declared.Vehicle.{Vehicle}
@@ -23,9 +22,9 @@ use Rattle.gears.specs.declared.Best.{Best}
 
 -- ---- the curve
 
--- the available power of each point, p x (100 - M - m), of points so many, and 0 past them
-unfoldable pub available : ℕ → List ℕ → List ℕ → ℕ → List ℕ
-available margin p m points = pass (λ i done. at p i * (100 - margin - at m i)) points (replicate 64 0)
+-- the available power of each point, p x (100 - M - m), of points so many, and past them what the room held before
+unfoldable pub available : ℕ → List ℕ → List ℕ → ℕ → List ℕ → List ℕ
+available margin p m points room = pass (λ i done. at p i * (100 - margin - at m i)) points room
 
 -- r is the whole number x, at most so large, with a sign
 pub record Signed (bound x : ℕ) (r : ℤ) : Type 0 where

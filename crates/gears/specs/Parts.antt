@@ -26,6 +26,26 @@ numbers-of car = record {
   profile = car .profile;
 }
 
+-- the vehicle of these parts
+abbrev pub whole : Numbers → List ℕ → List ℕ → List ℕ → List ℕ → ℕ → Vehicle
+whole k ratio n p m margin = record {
+  ng = k .ng;
+  ratio = ratio;
+  idle = k .idle;
+  rated = k .rated;
+  nmax = k .nmax;
+  f0 = k .f0;
+  f1 = k .f1;
+  f2 = k .f2;
+  tm = k .tm;
+  margin = margin;
+  points = k .points;
+  profile = k .profile;
+  n = n;
+  p = p;
+  m = m;
+}
+
 -- their lowest gear
 abbrev pub low-in : Numbers → ℕ
 low-in k = 1 + k .profile

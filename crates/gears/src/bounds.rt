@@ -8,10 +8,11 @@ ghost use Rattle.rules.specs.Words.{_and_, _or_, within, at, every};
 ghost use Rattle.rules.specs.Units.{ratio-good, point-good, bounds, first-failed};
 ghost use Rattle.rules.specs.Refusals.{said, refuse-at};
 ghost use Rattle.rules.specs.declared.Vehicle.{Vehicle};
+ghost use Rattle.gears.specs.Parts.{whole};
 ghost use Rattle.gears.specs.Second.{Gear, Points, CurveOf};
+use crate::Numbers;
 use rules::Answer;
 use rules::Refusal;
-use rules::Vehicle;
 
 // From lo to hi, both included.
 fn within(lo: u16, hi: u16, x: u16) -> bool
@@ -186,47 +187,55 @@ fn gears_good(version: u16, profile: u16, ng: u16) -> bool
     within(profile + 2, 10, ng)
 }
 
-// The first field that is out of bounds, or has no place in the version, is refused.
-pub fn check_vehicle(car: Vehicle, version: u16) -> Answer
-    ensures { λ r. ⌜ said r ≡ refuse-at 3 (first-failed 1 (bounds version car)) ⌝ }
+// The first field that is out of bounds, or has no place in the version, is refused. The vehicle comes in its parts, so that nothing of it is copied.
+pub fn check_vehicle<'a>(
+    k: Numbers,
+    ratio: &'a [u16; 10],
+    n: &'a [u16; 64],
+    p: &'a [u16; 64],
+    m: &'a [u16; 64],
+    margin: u16,
+    version: u16,
+) -> Answer
+    ensures { λ r. ⌜ said r ≡ refuse-at 3 (first-failed 1 (bounds version (whole k (now (ratio .entry)) (now (n .entry)) (now (p .entry)) (now (m .entry)) margin))) ⌝ }
 {
-    if !gears_good(version, car.profile, car.ng) {
+    if !gears_good(version, k.profile, k.ng) {
         return Answer::Refused(Refusal::VehicleField(1));
     }
-    if !ratios_good(&car.ratio, car.ng) {
+    if !ratios_good(ratio, k.ng) {
         return Answer::Refused(Refusal::VehicleField(2));
     }
-    if !within(300, 3000, car.idle) {
+    if !within(300, 3000, k.idle) {
         return Answer::Refused(Refusal::VehicleField(3));
     }
-    if !above(car.idle, 12000, car.rated) {
+    if !above(k.idle, 12000, k.rated) {
         return Answer::Refused(Refusal::VehicleField(4));
     }
-    if !within(car.rated, 15000, car.nmax) {
+    if !within(k.rated, 15000, k.nmax) {
         return Answer::Refused(Refusal::VehicleField(5));
     }
-    if car.f0 > 10000 {
+    if k.f0 > 10000 {
         return Answer::Refused(Refusal::VehicleField(6));
     }
-    if !f1_good(car.f1) {
+    if !f1_good(k.f1) {
         return Answer::Refused(Refusal::VehicleField(7));
     }
-    if car.f2 > 20000 {
+    if k.f2 > 20000 {
         return Answer::Refused(Refusal::VehicleField(8));
     }
-    if !within(400, 4000, car.tm) {
+    if !within(400, 4000, k.tm) {
         return Answer::Refused(Refusal::VehicleField(9));
     }
-    if car.margin > 50 {
+    if margin > 50 {
         return Answer::Refused(Refusal::VehicleField(10));
     }
-    if !within(2, 64, car.points) {
+    if !within(2, 64, k.points) {
         return Answer::Refused(Refusal::VehicleField(11));
     }
-    if !points_good(&car.n, &car.p, &car.m, car.margin, car.points, version) {
+    if !points_good(n, p, m, margin, k.points, version) {
         return Answer::Refused(Refusal::VehicleField(12));
     }
-    if !ends_good(&car.n, car.points, car.idle, car.nmax) {
+    if !ends_good(n, k.points, k.idle, k.nmax) {
         return Answer::Refused(Refusal::VehicleField(13));
     }
     Answer::Done

@@ -41,19 +41,24 @@ fn derated(margin: u16, p: u16, m: u16) -> u32
     (p as u32) * ((100 - margin - m) as u32)
 }
 
-// The available power of each point; places past the points are 0. It is worked out once a call, and lent on in place of p.
-pub fn derate<'a>(margin: u16, p: &'a [u16; 64], m: &'a [u16; 64], points: u16) -> [u32; 64]
+// The available power of each point, put into the lent room, whose places past the points stay as they are. It is worked out once a call, and lent on in
+// place of p.
+pub fn derate<'a>(
+    margin: u16,
+    p: &'a [u16; 64],
+    m: &'a [u16; 64],
+    points: u16,
+    powers: &mut [u32; 64],
+)
     requires { ⌜ Derates margin (now m) points ⌝ }
-    ensures { λ r. ⌜ r ≡ available margin (now (p .entry)) (now (m .entry)) points ⌝ }
+    ensures { λ r. ⌜ now (powers .exit) ≡ available margin (now (p .entry)) (now (m .entry)) points (now (powers .entry)) ⌝ }
 {
-    let mut powers = [0u32; 64];
     let end = points as usize;
     let mut i: usize = 0;
     while i < end {
         powers[i] = derated(margin, p[i], m[i]);
         i += 1;
     }
-    powers
 }
 
 // The segment of x, found from a segment near it. The last point's speed is x or more, so the first loop ends before it.

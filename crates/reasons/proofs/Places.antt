@@ -15,8 +15,6 @@ use Rattle.rules.proofs.Laws.Checks.{listed, driven, trace-in}
 use Rattle.rules.proofs.Theorems.Edits.{span-of-hold}
 use Rattle.gears.specs.declared.Numbers.{Numbers}
 use Rattle.gears.specs.Parts.{Counts, Lent}
-use Rattle.gears.specs.Choosing.{available}
-use Rattle.gears.proofs.Derating.{derated-powers}
 use Rattle.gears.proofs.Parts.{ng-of}
 use Rattle.trips.specs.Ready.{Ready}
 use Rattle.checks.specs.Checks.{Spanned}
@@ -130,11 +128,6 @@ module _ {car : Vehicle} {vs hs : List ℕ} (O : Opened car vs hs hs) {lo end : 
   no-span-edit one v g e =
       e ∙ ap (λ (us : List ℕ). span-fault one us (set hs (length vs) g) lo end) (set-out vs (length vs) v (omega arith))
       ∙ ap (λ (ks : List ℕ). span-fault one vs ks lo end) (set-out hs (length vs) g (omega (arith, O .holds-long)))
-
--- the parts that are lent of a vehicle in bounds, with its available powers
-pub its-parts : {k : Numbers} {car : Vehicle} {vs hs old : List ℕ} → Counts car k → Opened car vs hs old → {p : List ℕ} → p ≡ available (car .margin) (car .p) (car .m) (car .points)
-    → Lent car k (car .ratio) (car .n) p
-its-parts {car = car} K O e = record { has = record { counts = K; ratios = refl }; speeds = refl; powers = rw e (derated-powers car (O .bounds)); bounds = O .bounds }
 
 -- ---- the trip of a moving second, of a span that passes 4 to 9
 

@@ -104,7 +104,18 @@ pub fn why<'a>(vehicle: Vehicle, speeds: &'a [u16], holds: &'a [u8], second: usi
     ensures reasons { λ r. ⌜ r .reasons ≡ why vehicle (now (speeds .entry)) (now (holds .entry)) second ⌝ }
 {
     let seconds = speeds.len();
-    let opening = check_opening(vehicle, seconds, holds.len(), holds.len());
+    let k = numbers_of(vehicle);
+    let opening = check_opening(
+        k,
+        &vehicle.ratio,
+        &vehicle.n,
+        &vehicle.p,
+        &vehicle.m,
+        vehicle.margin,
+        seconds,
+        holds.len(),
+        holds.len(),
+    );
     let Answer::Done = opening else {
         return refused(opening);
     };
@@ -118,8 +129,14 @@ pub fn why<'a>(vehicle: Vehicle, speeds: &'a [u16], holds: &'a [u8], second: usi
         hi: trip_stop(speeds, i),
     };
     let looked = looked_at(speeds, i, trip);
-    let k = numbers_of(vehicle);
-    let powers = derate(vehicle.margin, &vehicle.p, &vehicle.m, vehicle.points);
+    let mut powers = [0u32; 64];
+    derate(
+        vehicle.margin,
+        &vehicle.p,
+        &vehicle.m,
+        vehicle.points,
+        &mut powers,
+    );
     // nothing is asked for: the second lies past the trace
     let none = Asked {
         second: seconds,

@@ -7,7 +7,7 @@ ghost use Rattle.rules.specs.Groups.{form};
 ghost use Rattle.rules.specs.Job.{points-of, gather, vehicle};
 ghost use Rattle.rules.specs.Inside.{InBounds};
 ghost use Rattle.reading.specs.Lent.{Put};
-ghost use Rattle.writing.specs.Writing.{values-bytes, pairs-bytes, since, points-bytes, hold-bytes, Short};
+ghost use Rattle.writing.specs.Writing.{values-bytes, pairs-bytes, since, points-bytes, hold-bytes, Short, Light};
 use crate::numbers::numbers_between;
 use rules::Vehicle;
 
@@ -135,21 +135,21 @@ fn put_points<'a>(
     next
 }
 
-// Second and gear of a hold; nothing where there is none.
+// Second and gear of a hold; nothing where there is none. The checks have shown that the second has two bytes at most, and the gear one.
 fn put_hold(room: &mut [u8], at: usize, second: u16, gear: u8) -> usize
-    requires { ⌜ at + length (hold-bytes second gear) ≤ length (now room) ⌝ }
+    requires { ⌜ (second < 16384) × (gear < 128) × (at + length (hold-bytes second gear) ≤ length (now room)) ⌝ }
     ensures { λ r. ⌜ Put (hold-bytes second gear) (now (room .entry)) at r (now (room .exit)) ⌝ }
 {
     if gear == 0 {
         return at;
     }
-    let then = put_group(room, at, second);
-    put_group(room, then, gear as u16)
+    let then = put_short(room, at, second);
+    put_byte(room, then, gear)
 }
 
 // Second and gear for each of so many holds.
 pub fn put_held(room: &mut [u8], at: usize, holds: &[u8], count: u16) -> usize
-    requires { ⌜ (length (now holds) ≤ 65535) × (count ≡ length (gather 0 (now holds))) × (at + length (pairs-bytes (gather 0 (now holds))) ≤ length (now room)) ⌝ }
+    requires { ⌜ Light (now holds) × (count ≡ length (gather 0 (now holds))) × (at + length (pairs-bytes (gather 0 (now holds))) ≤ length (now room)) ⌝ }
     ensures { λ r. ⌜ Put (pairs-bytes (gather 0 (now (holds .entry)))) (now (room .entry)) at r (now (room .exit)) ⌝ }
 {
     if count == 0 {

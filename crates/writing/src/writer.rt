@@ -122,7 +122,16 @@ fn check_told(version: u16, vehicle: Vehicle, seconds: usize, holds: usize) -> A
     let Answer::Done = lengths else {
         return lengths;
     };
-    check_vehicle(vehicle, version)
+    let k = numbers_of(vehicle);
+    check_vehicle(
+        k,
+        &vehicle.ratio,
+        &vehicle.n,
+        &vehicle.p,
+        &vehicle.m,
+        vehicle.margin,
+        version,
+    )
 }
 
 // 14, and checks 1 to 9 of a whole job, as in the working.

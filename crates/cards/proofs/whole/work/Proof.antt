@@ -1,40 +1,45 @@
 -- `cards::whole::work` meets its contract. One law for each stage says what is known from there on, one of `Working` for each return.
 -- Assumes nothing.
-use Rattle.rules.proofs.Base.{ℕ, refl, sym, List, arith, needs}
+use Rattle.rules.proofs.Base.{ℕ, _≡_, refl, sym, List, length-replicate, arith, needs}
 use Rattle.rules.specs.declared.Vehicle.{Vehicle}
+use Rattle.rules.specs.Refusals.{said}
 use Rattle.gears.specs.Parts.{Counts, Lent}
-use Rattle.checks.proofs.Rows.{Opened, opened, spanned}
-use Rattle.cards.proofs.Working.{work-opening, its-parts, no-edit, work-span, work-range, work-passes, work-done, whole-resting}
-use Rattle.gears.proofs.Derating.{derates}
+use Rattle.checks.proofs.Rows.{opening, Opened, opened, opening-of, spanned}
+use Rattle.cards.proofs.Working.{work-opening, no-edit, work-span, work-range, work-passes, work-done, whole-resting}
+use Rattle.gears.proofs.Derating.{derates, powers-lent}
 use Rattle.cards.proofs.whole.work.Statement.{statement}
 use Rattle.cards.proofs.whole.work.Tie as tie
 
 -- a statement of the four arguments, at a stage past the opening
 abbrev Of : (Vehicle → List ℕ → List ℕ → List ℕ → Type 0) → tie.After-enum-told → Type 0
-Of P p = let s = p .before .before .before .before .before .before in P (s .args .t1) (s .args .speeds .now) (s .args .holds .now) (s .args .card .now)
-
--- the opening has passed
-opened-at : (p : tie.After-enum-told) → Of Opened p
-opened-at p = opened (p .before .before .check-opening .ensures _ _ _ refl refl refl) (p .enum-told .given .1)
+Of P p = let s = p .before .before .before .before .before .before .before .before .before .before .before .before in P (s .args .t1) (s .args .speeds .now) (s .args .holds .now) (s .args .card .now)
 
 -- the numbers are the vehicle's
-counts-at : (c : tie.After-numbers-of) → Of (λ car vs hs old. Counts car (c .numbers-of .result)) (c .before)
-counts-at c = record { numbers = sym (c .numbers-of .ensures) }
+counts-at : (p : tie.After-enum-told) → Of (λ car vs hs old. Counts car (p .before .before .before .before .before .before .before .before .numbers-of .result)) p
+counts-at p = record { numbers = sym (p .before .before .before .before .before .before .before .before .numbers-of .ensures) }
+
+-- the opening said what the vehicle's own says
+opening-says : (p : tie.After-check-opening) → let s = p .before .before .before .before .before .before .before .before .before .before .args in said (p .check-opening .result) ≡ opening (s .t1) (s .speeds .now) (s .holds .now) (s .card .now)
+opening-says p = opening-of _ _ _ _ (record { numbers = sym (p .before .before .before .before .before .before .numbers-of .ensures) }) (p .check-opening .ensures _ _ _ refl refl refl)
+
+-- it has passed
+opened-at : (p : tie.After-enum-told) → Of Opened p
+opened-at p = opened (opening-says (p .before .before)) (p .enum-told .given .1)
 
 -- and the parts that are lent, with the available powers
-parts-at : (c : tie.After-derate) → Of (λ car vs hs old. Lent car (c .before .before .before .before .numbers-of .result) (car .ratio) (car .n) (c .derate .result)) (c .before .before .before .before .before)
-parts-at c = its-parts (counts-at (c .before .before .before .before)) (opened-at (c .before .before .before .before .before)) (c .derate .ensures)
+parts-at : (c : tie.After-derate) → Of (λ car vs hs old. Lent car (c .before .before .before .before .before .before .before .before .before .before .before .before .before .numbers-of .result) (car .ratio) (car .n) (c .derate .last .1 .1 .1 .1 .0)) (c .before .before .before .before .before)
+parts-at c = powers-lent _ (opened-at (c .before .before .before .before .before) .bounds) (counts-at (c .before .before .before .before .before)) _ (length-replicate {A = ℕ} 64 0) (c .derate .ensures)
 
 returns : tie.Need-returns
 returns c =
-    let s = c .before .before .before .before .before .before in
+    let s = c .before .before .before .before .before .before .before .before .before .before .before .before in
     work-opening (s .args .t1) (s .args .speeds .now) (s .args .holds .now) (s .args .card .now)
-    (c .before .before .check-opening .ensures _ _ _ refl refl refl) (c .enum-told2 .given .1)
+    (opening-says (c .before .before)) (c .enum-told2 .given .1)
 
 check-span-requires : tie.Need-check-span-requires
 check-span-requires c κs =
     let O = opened-at (c .before .before .before .before .before .before .before .before .before) in
-    (record { car = _; lent = parts-at (c .before .before .before .before) }, spanned (counts-at (c .before .before .before .before .before .before .before .before)) O (omega arith) (omega arith), omega arith, whole-resting O 0)
+    (record { car = _; lent = parts-at (c .before .before .before .before) }, spanned (counts-at (c .before .before .before .before .before .before .before .before .before)) O (omega arith) (omega arith), omega arith, whole-resting O 0)
 
 returns-2 : tie.Need-returns-2
 returns-2 c =
@@ -59,6 +64,6 @@ returns-3 c =
 pub work-spec : {M : Type 1} → statement M
 work-spec =
     tie.close
-    (tie.spec (λ c κs. search needs) (λ c. search needs) (λ c. search needs) returns (λ c κs. search needs)
+    (tie.spec (λ c κs. search needs) (λ c κs. search needs) (λ c. search needs) (λ c. search needs) returns
     (λ c κs. derates _ (opened-at (c .before .before .before .before) .bounds))
     check-span-requires (λ c. search needs) (λ c. search needs) returns-2 sweep-requires (λ c. search needs) returns-3)

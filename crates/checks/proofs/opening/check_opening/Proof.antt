@@ -8,15 +8,13 @@ use Rattle.checks.proofs.opening.check_opening.Statement.{statement}
 use Rattle.checks.proofs.opening.check_opening.Tie as tie
 
 returns : tie.Need-returns
-returns c vs hs old l h o =
-    let s = c .before .before .before in
-    opening-lengths vs hs old (s .args .vehicle) (c .before .before .check-lengths .ensures vs hs old l h o) (c .enum-told2 .given .1)
+returns c vs hs old l h o = opening-lengths vs hs old _ (c .before .before .check-lengths .ensures vs hs old l h o) (c .enum-told2 .given .1)
 
 returns-2 : tie.Need-returns-2
 unfolding vehicle-fault bad-field
 returns-2 c vs hs old l h o =
     let p = c .before in
-    opening-vehicle vs hs old (p .before .before .before .args .vehicle) (c .check-vehicle .result)
+    opening-vehicle vs hs old _ (c .check-vehicle .result)
     (p .before .before .check-lengths .ensures vs hs old l h o) (p .enum-told .given .1) (c .check-vehicle .ensures)
 
 pub check-opening-spec : {M : Type 1} → statement M

@@ -1,33 +1,51 @@
 -- `checks::want::covered` meets its contract: each gear so far hands on to the next.
 -- Assumes nothing.
-use Rattle.rules.proofs.Base.{_-_, _≤_, arith, _≡_, refl, not-false, needs}
+use Rattle.rules.proofs.Base.{_+_, _-_, _≤_, arith, _≡_, refl, _∙_, not-false, needs}
+use Rattle.rules.specs.declared.Vehicle.{Vehicle}
+use Rattle.rules.specs.declared.Role.the-variants.{AfterLow}
+use Rattle.rules.specs.Gears.{minimum}
 use Rattle.rules.proofs.Laws.Words.{clash}
-use Rattle.gears.specs.Parts.{low-in}
+use Rattle.gears.specs.Parts.{low-in, Counts}
+use Rattle.gears.proofs.Parts.{low-of}
+use Rattle.gears.proofs.Speeds.{same-minimum}
 use Rattle.checks.specs.Calm.{Each, Follows}
 use Rattle.checks.proofs.Calmness.{each-none, each-more}
 use Rattle.checks.proofs.want.covered.Statement.{statement}
 use Rattle.checks.proofs.want.covered.Tie as tie
 
 abbrev Inv-loop : tie.InvT-loop
-Inv-loop k ratio ng j₀ j = (j₀ ≡ low-in k) × (low-in k ≤ j) × Each (Follows k ratio) (low-in k) j
+Inv-loop k ratio ng low shared least₀ j₀ least j =
+    (low-in k ≤ j) × (least ≤ 131070) × ((car : Vehicle) → Counts car k → least ≡ minimum car AfterLow (j + 1)) × Each (Follows k ratio) (low-in k) j
 
 abbrev μ-loop : tie.MeasureT-loop
-μ-loop k ratio ng j₀ j = ng - j
+μ-loop k ratio ng low shared least₀ j₀ least j = ng - j
 
 loop-holds : tie.Need-loop-holds Inv-loop μ-loop
 loop-holds c =
-    let a = c .before .before .args in
-    let o = c .lowest .ensures in
-    (o, omega (arith, o), rw o (each-none (Follows (a .k) (a .ratio .now)) (low-in (a .k))))
-
-hands-on-requires : tie.Need-hands-on-requires Inv-loop μ-loop
-hands-on-requires c κs = record { from = omega (arith, c .before .before .before .loop .inv .1); rated-from = c .before .before .before .before .before .before .pre .rated-from }
+    let a = c .before .before .before .before .args in
+    let o = c .before .before .lowest .ensures in
+    let m = c .minimum2 .ensures in
+    (omega (arith, o), m .1, m .0, rw o (each-none (Follows (a .k) (a .ratio .now)) (low-in (a .k))))
 
 loop-again : tie.Need-loop-again Inv-loop μ-loop
 loop-again c =
-    let a = c .before .before .before .before .before .before .before .before .args in
+    let a = c .before .before .before .before .before .before .before .before .before .before .args in
     let l = c .before .before .before .before .before .loop in
-    (l .inv .0, omega (arith, l .inv .1), each-more (Follows (a .k) (a .ratio .now)) (low-in (a .k)) (l .j) (l .inv .2) (c .before .hands-on .ensures (not-false _ (c .if1 .left))))
+    let o = c .before .before .before .before .before .before .before .before .lowest .ensures in
+    let m = c .before .before .before .before .before .before .before .minimum .ensures in (
+      omega (arith, l .inv .0),
+      m .1,
+      λ car C. rw o at (m .0 car C) ∙ rw (low-of C) at (same-minimum car AfterLow (l .j + 1 + 1) (omega (arith, l .inv .0, low-of C))),
+      each-more (Follows (a .k) (a .ratio .now)) (low-in (a .k)) (l .j) (l .inv .3) (λ car C. rw (← l .inv .2 car C) (c .before .hands-on .ensures (not-false _ (c .if1 .left)))),
+    )
 
 pub covered-spec : {M : Type 1} → statement M
-covered-spec = tie.close (tie.spec Inv-loop μ-loop (λ c. search needs) (λ c κs. search needs) loop-holds (λ c. search needs) (λ c. search needs) (λ c. search needs) (λ c. search needs) (λ c. search needs) (λ c. search needs) hands-on-requires (λ c. λ e. clash e refl) (λ c. search needs) (λ c. search needs) loop-again (λ c. λ e g a b. c .before .loop .inv .2 g a (omega arith)))
+covered-spec =
+    tie.close
+    (tie.spec Inv-loop μ-loop (λ c. search needs) (λ c κs. search needs) (λ c. search needs)
+    (λ c κs. record { from = omega (arith, c .lowest .ensures); rated-from = c .before .before .pre .rated-from })
+    (λ c. search needs)
+    (λ c κs. record { from = omega (arith, c .before .lowest .ensures); rated-from = c .before .before .before .pre .rated-from })
+    loop-holds (λ c. search needs) (λ c. search needs) (λ c. search needs) (λ c. search needs) (λ c. search needs)
+    (λ c κs. c .before .before .before .loop .inv .1) (λ c. λ e. clash e refl) (λ c. search needs) (λ c. search needs) loop-again
+    (λ c. λ e g a b. c .before .loop .inv .3 g a (omega arith)))

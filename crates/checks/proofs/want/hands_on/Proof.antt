@@ -6,4 +6,4 @@ use Rattle.checks.proofs.want.hands_on.Statement.{statement}
 use Rattle.checks.proofs.want.hands_on.Tie as tie
 
 pub hands-on-spec : {M : Type 1} → statement M
-hands-on-spec = tie.close (tie.spec (λ c κs. search needs) (λ c. product 131070 65535 (c .minimum .ensures .1) (omega arith) tt) (λ c. search needs) (λ c. product 65535 65535 (omega arith) (omega arith) tt) (λ c. λ e car C. rw (← c .before .minimum .ensures .0 car C) (leb-true _ _ e)))
+hands-on-spec = tie.close (tie.spec (λ c. product 131070 65535 (c .pre) (omega arith) tt) (λ c. product 65535 65535 (omega arith) (omega arith) tt) (λ c. λ e. leb-true _ _ e))

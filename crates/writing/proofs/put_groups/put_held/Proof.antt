@@ -30,7 +30,8 @@ put-hold-requires c κs =
     let c₀ = c .before .before .before in
     let s = c₀ .before .before .before .before in
     let l = said-as (held-more (s .args .holds .now) (c₀ .loop .second) (omega arith)) (c₀ .loop .inv .1) in
-    omega (arith, has-space (hold-bytes (c₀ .loop .second) (at (s .args .holds .now) (c₀ .loop .second))) (pairs-bytes (held-left (s .args .holds .now) (suc (c₀ .loop .second)))) l)
+    let L = s .pre .0 in
+    (omega (arith, L .seconds), L .gears (c₀ .loop .second) (omega arith), omega (arith, has-space (hold-bytes (c₀ .loop .second) (at (s .args .holds .now) (c₀ .loop .second))) (pairs-bytes (held-left (s .args .holds .now) (suc (c₀ .loop .second)))) l))
 
 loop-again : tie.Need-loop-again Inv-loop μ-loop
 loop-again c =

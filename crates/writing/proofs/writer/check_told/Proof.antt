@@ -1,6 +1,11 @@
 -- `writing::writer::check_told` meets its contract: one law of `Checked` for each `return`.
 -- Assumes nothing.
-use Rattle.rules.proofs.Base.{arith, needs}
+use Rattle.rules.proofs.Base.{arith, sym, ap, _∙_, needs}
+use Rattle.rules.specs.declared.Vehicle.{Vehicle}
+use Rattle.rules.specs.Units.{bounds, first-failed}
+use Rattle.rules.specs.Refusals.{refuse-at}
+use Rattle.gears.specs.Parts.{Counts}
+use Rattle.gears.proofs.Parts.{whole-of}
 use Rattle.rules.proofs.Laws.Takes.{in-range}
 use Rattle.reading.proofs.GroupAnswers.{out-of-range}
 use Rattle.writing.proofs.Checked.{told-version, told-lengths, told-vehicle}
@@ -8,23 +13,25 @@ use Rattle.writing.proofs.writer.check_told.Statement.{statement}
 use Rattle.writing.proofs.writer.check_told.Tie as tie
 
 returns : tie.Need-returns
-returns c = λ vs hs a b. told-version (c .before .args .version) (c .before .args .vehicle) vs hs (out-of-range 1 3 _ (λ x y. omega arith))
+returns c = λ vs hs a b. told-version (c .before .args .version) (c .before .args .t2) vs hs (out-of-range 1 3 _ (λ x y. omega arith))
 
 returns-2 : tie.Need-returns-2
-returns-2 c = λ vs hs a b. let s = c .before .before in told-version (s .args .version) (s .args .vehicle) vs hs (out-of-range 1 3 _ (λ x y. omega arith))
+returns-2 c = λ vs hs a b. let s = c .before .before in told-version (s .args .version) (s .args .t2) vs hs (out-of-range 1 3 _ (λ x y. omega arith))
 
 returns-3 : tie.Need-returns-3
 returns-3 c = λ vs hs a b.
     let s = c .before .before .before .before .before in
-    told-lengths (s .args .version) (s .args .vehicle) vs hs (in-range 1 3 _ (omega arith) (omega arith)) (c .before .before .check-lengths .ensures vs hs hs a b b) (c .enum-told2 .given .1)
+    told-lengths (s .args .version) (s .args .t2) vs hs (in-range 1 3 _ (omega arith) (omega arith)) (c .before .before .check-lengths .ensures vs hs hs a b b) (c .enum-told2 .given .1)
 
 returns-4 : tie.Need-returns-4
 returns-4 c = λ vs hs a b.
-    let p = c .before in
-    let s = p .before .before .before .before .before in
-    told-vehicle (s .args .version) (s .args .vehicle) vs hs (in-range 1 3 _ (omega arith) (omega arith)) (p .before .before .check-lengths .ensures vs hs hs a b b) (p .enum-told .given .1) (c .check-vehicle .ensures)
+    let p = c .before .before .before .before .before .before .before in
+    let s = p .before .before .before .before .before .args in
+    let K : Counts (s .t2) (c .before .before .before .before .before .before .numbers-of .result) = record { numbers = sym (c .before .before .before .before .before .before .numbers-of .ensures) } in
+    told-vehicle (s .version) (s .t2) vs hs (in-range 1 3 _ (omega arith) (omega arith)) (p .before .before .check-lengths .ensures vs hs hs a b b) (p .enum-told .given .1)
+    (c .check-vehicle .ensures ∙ ap (λ (one : Vehicle). refuse-at 3 (first-failed 1 (bounds (s .version) one))) (whole-of K))
 
 pub check-told-spec : {M : Type 1} → statement M
 check-told-spec =
     tie.close
-    (tie.spec returns returns-2 (λ c κs. search needs) (λ c. search needs) (λ c. search needs) returns-3 (λ c κs. search needs) returns-4)
+    (tie.spec returns returns-2 (λ c κs. search needs) (λ c. search needs) (λ c. search needs) returns-3 (λ c κs. search needs) (λ c κs. search needs) returns-4)

@@ -87,7 +87,7 @@ put-held-requires c κs =
     let l₂ = fewer-left l₁ (c .before .before .before .before .before .before .before .before .before .before .before .put-vehicle .ensures) in
     let l₃ = fewer-left l₂ (c .before .before .before .before .before .before .before .put-trace .ensures) in
     let l₄ = fewer-left l₃ (rw (s .pre .1) at (c .before .before .before .put-group2 .ensures)) in
-    (omega (arith, w .not-long, w .even), s .pre .1, omega (arith, l₄ .fits))
+    (record { seconds = omega (arith, w .not-long, w .even); gears = λ i h. omega (arith, w .bounds .ng-to, w .holds-in i (omega (arith, w .even, h))) }, s .pre .1, omega (arith, l₄ .fits))
 
 returns : tie.Need-returns
 returns c =
