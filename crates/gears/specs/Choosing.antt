@@ -12,11 +12,11 @@ use Rattle.rules.specs.declared.Vehicle.{Vehicle}
 use Rattle.rules.specs.declared.Role.{Role}
 use Rattle.rules.specs.declared.Role.the-variants.{Inner}
 use Rattle.rules.specs.Words.{if_then_else_, _and_, at, first, highest, pass}
-use Rattle.rules.specs.Gears.{Power, is-first, engine, minimum, fits, power, more, strongest, choose, reaches, segment}
+use Rattle.rules.specs.Gears.{Power, engine, minimum, fits, power, more, strongest, choose, reaches, segment}
 use Rattle.rules.specs.Units.{low, fastest, steepest, rise}
 use Rattle.rules.specs.Corrections.{here, first-choice}
 use Rattle.gears.specs.declared.Numbers.{Numbers}
-use Rattle.gears.specs.Parts.{low-in, Counts}
+use Rattle.gears.specs.Parts.{low-in}
 use Rattle.gears.specs.declared.Power as code
 use Rattle.gears.specs.declared.Best.{Best}
 
@@ -124,11 +124,6 @@ pub record Reached (second ng : ℕ) (ratio : List ℕ) (v least g : ℕ) : Type
   pub to : g ≤ ng
   pub above : (i : ℕ) → g < i → i ≤ ng → at ratio (i - 1) * v < least
   pub over : second < g → least ≤ at ratio (g - 1) * v
-
--- what a second is that is not its trip's first, and the least engine speed of the gear above the lowest there
-pub record Placed (k : Numbers) (here : Role) (next : ℕ) : Type 0 where
-  pub is-later : is-first here ≡ false
-  pub next-is : (car : Vehicle) → Counts car k → next ≡ 1000 * minimum car here (low-in k + 1)
 
 -- gear g and those below it are in reach: from two above the lowest on they are over their minimum
 pub record InReach (car : Vehicle) (v g : ℕ) : Type 0 where

@@ -7,11 +7,11 @@ ghost use lib.IntN.{pos, natAbs, _-ℤ_};
 ghost use Rattle.rules.specs.Words.{_and_, at};
 ghost use Rattle.rules.specs.declared.Role.{Role};
 ghost use Rattle.rules.specs.declared.Vehicle.{Vehicle};
-ghost use Rattle.rules.specs.Gears.{fits, more, choose};
+ghost use Rattle.rules.specs.Gears.{minimum, fits, more, choose};
 ghost use Rattle.rules.specs.Corrections.{role-of};
 ghost use Rattle.gears.specs.Parts.{low-in, Counts, Has, Lent, Parts};
 ghost use Rattle.gears.specs.Second.{Gear, Driven};
-ghost use Rattle.gears.specs.Choosing.{power-of, PowerSized, most-E, Weighed, enough-for, Pace, Falling, Higher, Reached, InReach, Placed, only-lowest, the-stronger, Highest, Tried, choose-for, Hints, first-of};
+ghost use Rattle.gears.specs.Choosing.{power-of, PowerSized, most-E, Weighed, enough-for, Pace, Falling, Higher, Reached, InReach, only-lowest, the-stronger, Highest, Tried, choose-for, Hints, first-of};
 use crate::Best;
 use crate::Chosen;
 use crate::Numbers;
@@ -107,23 +107,24 @@ fn reached(k: Numbers, ratio: &[u16; 10], v: u16, least: u64, from: usize) -> us
     down_from(ratio, ng, lowest(k) + 1, v, least, from)
 }
 
-// Whether a gear in reach is below its minimum, X = x: only the gear above the lowest may be, whose least X is `next`.
-fn below_minimum(k: Numbers, next: u64, g: usize, x: u64) -> bool
-    ensures { λ r. ⌜ r ≡ (eqb g (low-in k + 1) and ltb x next) ⌝ }
+// Whether a gear in reach is below its minimum, X = x: only the gear above the lowest may be. So its minimum, which what the second is in its trip decides, is
+// asked for at that gear alone.
+fn below_minimum(k: Numbers, closes: bool, before: u8, g: usize, x: u64) -> bool
+    ensures { λ r. ⌜ ((car : Vehicle) → Counts car k → r ≡ (eqb g (low-in k + 1) and ltb x (1000 * minimum car (role-of car false closes before) (low-in k + 1)))) ⌝ }
 {
-    if g == lowest(k) + 1 {
-        return x < next;
+    if g != lowest(k) + 1 {
+        return false;
     }
-    false
+    x < next_least(k, role_of(k, closes, before))
 }
 
 // Whether a gear in reach fits at a second that is not its trip's first.
-fn fits_in_reach(k: Numbers, ratio: &[u16; 10], here: Role, next: u64, v: u16, g: usize) -> bool
-    requires { ⌜ Gear g × (low-in k ≤ g) × Placed k here next ⌝ }
-    ensures { λ r. ⌜ ((car : Vehicle) → Has car k (now (ratio .entry)) → InReach car v g → r ≡ fits car here v g) ⌝ }
+fn fits_in_reach(k: Numbers, ratio: &[u16; 10], closes: bool, before: u8, v: u16, g: usize) -> bool
+    requires { ⌜ Gear g × (low-in k ≤ g) ⌝ }
+    ensures { λ r. ⌜ ((car : Vehicle) → Has car k (now (ratio .entry)) → InReach car v g → r ≡ fits car (role-of car false closes before) v g) ⌝ }
 {
     let x = engine(ratio, g, v);
-    if below_minimum(k, next, g, x) {
+    if below_minimum(k, closes, before, g, x) {
         return false;
     }
     x <= top(k)
@@ -183,15 +184,15 @@ fn choose_from<'a>(
     ratio: &'a [u16; 10],
     n: &'a [u16; 64],
     p: &'a [u32; 64],
-    here: Role,
-    next: u64,
+    closes: bool,
+    before: u8,
     v: u16,
     e: i64,
     first: Best,
     near: usize,
 ) -> usize
-    requires { ⌜ Parts k (now ratio) (now n) (now p) × (natAbs e ≤ most-E) × (near + 1 < k .points) × Higher k (first .gear) × Placed k here next × ((car : Vehicle) → Lent car k (now ratio) (now n) (now p) → Highest car here v first × InReach car v (first .gear)) ⌝ }
-    ensures { λ r. ⌜ ((car : Vehicle) → Lent car k (now (ratio .entry)) (now (n .entry)) (now (p .entry)) → r ≡ choose-for car here v e) ⌝ }
+    requires { ⌜ Parts k (now ratio) (now n) (now p) × (natAbs e ≤ most-E) × (near + 1 < k .points) × Higher k (first .gear) × ((car : Vehicle) → Lent car k (now ratio) (now n) (now p) → Highest car (role-of car false closes before) v first × InReach car v (first .gear)) ⌝ }
+    ensures { λ r. ⌜ ((car : Vehicle) → Lent car k (now (ratio .entry)) (now (n .entry)) (now (p .entry)) → r ≡ choose-for car (role-of car false closes before) v e) ⌝ }
 {
     let low = lowest(k);
     let highest = first.gear;
@@ -206,7 +207,7 @@ fn choose_from<'a>(
             break best.gear;
         }
         g = below(g, highest);
-        if fits_in_reach(k, ratio, here, next, v, g) {
+        if fits_in_reach(k, ratio, closes, before, v, g) {
             s = segment_at(k, ratio, n, v, g, s);
             let a = power_at(k, ratio, n, p, v, g, s);
             if enough(a, e) {
@@ -236,10 +237,8 @@ pub fn choose<'a>(
 {
     let highest = reached(k, ratio, v, shared_least(k), from);
     let x = engine(ratio, highest, v);
-    let here = role_of(k, closes, before);
-    let next = next_least(k, here);
     // then the gear above the lowest is the highest in reach
-    if below_minimum(k, next, highest, x) {
+    if below_minimum(k, closes, before, highest, x) {
         return Chosen {
             gear: only_lowest(k, ratio, v) as u8,
             reached: highest,
@@ -270,8 +269,8 @@ pub fn choose<'a>(
         ratio,
         n,
         p,
-        here,
-        next,
+        closes,
+        before,
         v,
         e,
         Best {

@@ -3,9 +3,10 @@
 use Rattle.rules.proofs.Base.{ℕ, _+_, _-_, _≤_, _<_, arith, _≡_, refl, sym, ap, _∙_, List, length, set, length-set, getD-set-same}
 use Rattle.rules.specs.declared.Vehicle.{Vehicle}
 use Rattle.rules.specs.Words.{at, pass}
-use Rattle.rules.specs.Corrections.{peak, rising}
-use Rattle.trips.proofs.Passes.{pass-first, pass-more, pass-kept}
-use Rattle.trips.proofs.Seconds.{free-first, peak-still, rising-still}
+use Rattle.rules.specs.Corrections.{peak, rising, slowing}
+use Rattle.rules.proofs.Laws.Held.{peak-fixed, rising-fixed, slowing-fixed}
+use Rattle.trips.proofs.Passes.{pass-first, pass-more}
+use Rattle.trips.proofs.Seconds.{free-first}
 use Rattle.trips.specs.Ready.{Later}
 
 -- the pass's rule f of every vehicle P, as one that has these numbers and ratios
@@ -38,17 +39,6 @@ module _ (P : Vehicle → Type 0) (f : Vehicle → ℕ → List ℕ → ℕ) whe
           later = record { from = omega arith; last-is = rw one (same ∙ sym (getD-set-same gs j r 0 l)) };
         }
 
-    -- second j stays as it is, and its gear is now the gear before
-    pub along-kept : j < length gs → ((car : Vehicle) → P car → at gs j ≡ f car j gs) → Along gs₀ gs (j + 1) (at gs j)
-    along-kept l h =
-        let one : j + 1 - 1 ≡ j = omega arith in
-        record {
-          within = omega arith;
-          size = L .size;
-          so-far = λ car H. pass-kept (f car) gs₀ gs j (L .so-far car H) (h car H);
-          later = record { from = omega arith; last-is = rw one };
-        }
-
     -- the trip ends
     pub along-end : length gs ≤ j → (m : ℕ) → length gs₀ ≡ m → (car : Vehicle) → P car → gs ≡ pass (f car) m gs₀
     along-end l m e car H =
@@ -58,8 +48,12 @@ module _ (P : Vehicle → Type 0) (f : Vehicle → ℕ → List ℕ → ℕ) whe
 module _ (car : Vehicle) (us hs gs : List ℕ) where
   -- pass A leaves the trip's first second as it is
   pub peak-first : at gs 0 ≡ peak car us hs 0 gs
-  peak-first = peak-still car us hs 0 gs (free-first car us hs 0 (omega arith))
+  peak-first = sym (peak-fixed car us hs 0 gs (free-first car us hs 0 (omega arith)))
 
   -- so does pass B
   pub rising-first : at gs 0 ≡ rising car us hs 0 gs
-  rising-first = rising-still car us hs 0 gs (free-first car us hs 0 (omega arith))
+  rising-first = sym (rising-fixed car us hs 0 gs (free-first car us hs 0 (omega arith)))
+
+  -- and pass C
+  pub slowing-first : at gs 0 ≡ slowing car us hs 0 gs
+  slowing-first = sym (slowing-fixed car us hs 0 gs (free-first car us hs 0 (omega arith)))

@@ -26,10 +26,6 @@ pub pass-more : (f : ℕ → List ℕ → ℕ) (gs l : List ℕ) (k v : ℕ) →
 unfolding pass
 pass-more f gs l k v e h = rw (h, e, add-one)
 
--- the rule leaves place k alone
-pub pass-kept : (f : ℕ → List ℕ → ℕ) (gs l : List ℕ) (k : ℕ) → l ≡ pass f k gs → at l k ≡ f k l → l ≡ pass f (k + 1) gs
-pass-kept f gs l k e h = sym (set-getD l k 0) ∙ pass-more f gs l k (at l k) e h
-
 -- places that the rule leaves alone may be passed over
 pub pass-skip : (f : ℕ → List ℕ → ℕ) (gs : List ℕ) (k : ℕ) → ((j : ℕ) → j < k → f j gs ≡ at gs j) → pass f k gs ≡ gs
 unfolding pass

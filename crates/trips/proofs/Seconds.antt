@@ -1,11 +1,12 @@
 -- What passes A, B and C make of one second: an answer for each way through the code.
 -- Assumes nothing.
-use Rattle.rules.proofs.Base.{ℕ, suc, _+_, _-_, _≤_, _<_, max, min, add-one, arith, _≡_, refl, sym, _∙_, Bool, true, false, List, leb, ltb, eqb, length, drop, le-leb, lt-leb, le-ltb, lt-ltb, eqb-true, eqb-false, eq-eqb, ne-eqb}
+use Rattle.rules.proofs.Base.{ℕ, suc, _+_, _-_, _≤_, _<_, max, min, arith, _≡_, refl, sym, Bool, true, false, List, leb, ltb, eqb, length, drop, le-leb, lt-leb, le-ltb, lt-ltb, eq-eqb, ne-eqb}
 use Rattle.rules.specs.declared.Vehicle.{Vehicle}
-use Rattle.rules.specs.Words.{if_then_else_, _and_, _or_, at}
+use Rattle.rules.specs.Words.{_and_, _or_, at}
 use Rattle.rules.specs.Units.{low}
 use Rattle.rules.specs.Corrections.{floor, closing, ceiling, free, is-peak, peak, too-high, rising, too-low, slowing}
-use Rattle.rules.proofs.Laws.Words.{by-test, by-order, if-ind, both, and-no}
+use Rattle.rules.proofs.Laws.Words.{by-order, if-ind, both, and-no}
+use Rattle.trips.specs.Second.{ceiling-of, is-peaked, peaked, is-risen, risen, slowed}
 use Rattle.trips.specs.Trip.{one-above}
 
 -- ---- tests
@@ -21,6 +22,12 @@ and-assoc : (a b c : Bool) → (a and b) and c ≡ a and (b and c)
 unfolding _and_
 and-assoc true b c = refl
 and-assoc false b c = refl
+
+-- a test that holds may be left out
+and-yes : (a : Bool) → a and true ≡ a
+unfolding _and_
+and-yes true = refl
+and-yes false = refl
 
 -- the same of the larger and the smaller by name: g is not one above the larger
 pub over-no : (low g high : ℕ) → (g ≡ high + 1 → ⊥) → false ≡ (eqb g (high + 1) and (eqb g (low + 1) or eqb g (low + 2)))
@@ -54,11 +61,16 @@ above-no p g q h = no-and _ _ (ne-eqb g (max p q + 1) (λ z. omega arith))
 
 -- ---- the ceiling
 
+-- it is the gear before, or one more
+ceiling-from : (last : ℕ) (level : Bool) → last ≤ ceiling-of last level
+unfolding ceiling-of
+ceiling-from last level = if-ind (λ c. last ≤ c) level (λ t. omega arith) (λ t. omega arith)
+
 module _ (j : ℕ) (gs : List ℕ) where
-  -- it is the gear before, or one more
-  ceiling-from : at gs (j - 1) ≤ ceiling j gs
-  unfolding ceiling
-  ceiling-from = if-ind (λ c. at gs (j - 1) ≤ c) (leb 2 j and eqb (at gs (j - 1)) (at gs (j - 2))) (λ t. omega arith) (λ t. omega arith)
+  -- from the gears before
+  pub ceiling-is : ceiling j gs ≡ ceiling-of (at gs (j - 1)) (leb 2 j and eqb (at gs (j - 1)) (at gs (j - 2)))
+  unfolding ceiling ceiling-of
+  ceiling-is = refl
 
   -- one second before
   pub ceiling-second : j < 2 → at gs (j - 1) ≡ ceiling j gs
@@ -95,107 +107,107 @@ module _ (car : Vehicle) (us hs : List ℕ) (j : ℕ) where
 
   -- ---- pass A
 
-  module _ (gs : List ℕ) where
-    -- where one of the tests fails the gear stays
-    peak-no : is-peak car us hs j gs ≡ false → at gs j ≡ peak car us hs j gs
-    unfolding peak
-    peak-no e = rw e
+  -- it looks at the gears around the second
+  pub peak-is : (gs : List ℕ) → peak car us hs j gs ≡ peaked car us hs (length gs) j (at gs (j - 1)) (at gs j) (at gs (suc j))
+  unfolding peak is-peak peaked is-peaked one-above
+  peak-is gs = rw (and-assoc (free car us hs j and ltb (suc j) (length gs)) _ _)
 
-    -- held, or the trip's first second
-    pub peak-still : free car us hs j ≡ false → at gs j ≡ peak car us hs j gs
-    unfolding is-peak
-    peak-still e = peak-no (no-and _ _ (no-and _ _ (no-and _ _ (no-and _ _ e))))
+  module _ (size p g q : ℕ) where
+    -- where one of the tests fails the gear stays
+    peaked-no : is-peaked car us hs size j p g q ≡ false → g ≡ peaked car us hs size j p g q
+    unfolding peaked
+    peaked-no e = rw e
+
+    -- held
+    pub peaked-still : free car us hs j ≡ false → g ≡ peaked car us hs size j p g q
+    unfolding is-peaked
+    peaked-still e = peaked-no (no-and _ _ (no-and _ _ (no-and _ _ e)))
 
     -- the trip's last second
-    pub peak-last : length gs ≤ suc j → at gs j ≡ peak car us hs j gs
-    unfolding is-peak
-    peak-last e = peak-no (no-and _ _ (no-and _ _ (no-and _ _ (and-no _ _ (le-ltb (suc j) (length gs) e)))))
+    pub peaked-last : size ≤ suc j → g ≡ peaked car us hs size j p g q
+    unfolding is-peaked
+    peaked-last e = peaked-no (no-and _ _ (no-and _ _ (and-no _ _ (le-ltb (suc j) size e))))
 
     -- no peak
-    pub peak-flat : one-above (at gs (j - 1)) (at gs j) (at gs (j + 1)) ≡ false → at gs j ≡ peak car us hs j gs
-    unfolding is-peak one-above
-    peak-flat e = peak-no (no-and _ _ (and-assoc _ _ _ ∙ and-no _ _ (rw (add-one j) at e)))
+    pub peaked-flat : one-above p g q ≡ false → g ≡ peaked car us hs size j p g q
+    unfolding is-peaked
+    peaked-flat e = peaked-no (no-and _ _ (and-no _ _ e))
 
     -- not above the gear before
-    pub peak-level : at gs j ≤ at gs (j - 1) → at gs j ≡ peak car us hs j gs
-    peak-level h = peak-flat (above-no (at gs (j - 1)) (at gs j) (at gs (j + 1)) h)
+    pub peaked-level : g ≤ p → g ≡ peaked car us hs size j p g q
+    peaked-level h = peaked-flat (above-no p g q h)
 
     -- the gear below is below the floor
-    pub peak-floor : at gs j - 1 < floor car (at us j) → at gs j ≡ peak car us hs j gs
-    unfolding is-peak
-    peak-floor e = peak-no (and-no _ _ (lt-leb (floor car (at us j)) (at gs j - 1) e))
+    pub peaked-floor : g - 1 < floor car (at us j) → g ≡ peaked car us hs size j p g q
+    unfolding is-peaked
+    peaked-floor e = peaked-no (and-no _ _ (lt-leb (floor car (at us j)) (g - 1) e))
 
     -- a peak
-    pub peak-cut : free car us hs j ≡ true → suc j < length gs → one-above (at gs (j - 1)) (at gs j) (at gs (j + 1)) ≡ true
-        → floor car (at us j) ≤ at gs j - 1 → at gs j - 1 ≡ peak car us hs j gs
-    unfolding peak is-peak one-above
-    peak-cut f l o e =
-        let t : one-above (at gs (j - 1)) (at gs j) (at gs (suc j)) ≡ true = rw (add-one j) at o in
-        rw (both (and-assoc _ _ _ ∙ both (both f (lt-ltb (suc j) (length gs) l)) t) (le-leb (floor car (at us j)) (at gs j - 1) e))
+    pub peaked-cut : free car us hs j ≡ true → suc j < size → one-above p g q ≡ true → floor car (at us j) ≤ g - 1 → g - 1 ≡ peaked car us hs size j p g q
+    unfolding peaked is-peaked
+    peaked-cut f l o e = rw (both (both (both f (lt-ltb (suc j) size l)) o) (le-leb (floor car (at us j)) (g - 1) e))
 
   -- ---- pass B
 
-  module _ (gs : List ℕ) where
-    -- where one of the tests fails the gear stays
-    rising-no : too-high car us hs j gs ≡ false → at gs j ≡ rising car us hs j gs
-    unfolding rising
-    rising-no e = rw e
+  -- it looks at the ceiling
+  pub rising-is : (gs : List ℕ) → rising car us hs j gs ≡ risen car us hs j (ceiling j gs) (at gs j)
+  unfolding rising too-high risen is-risen
+  rising-is gs = refl
 
-    -- held, or the trip's first second
-    pub rising-still : free car us hs j ≡ false → at gs j ≡ rising car us hs j gs
-    unfolding too-high
-    rising-still e = rising-no (no-and _ _ (no-and _ _ e))
+  module _ (c g : ℕ) where
+    -- where one of the tests fails the gear stays
+    risen-no : is-risen car us hs j c g ≡ false → g ≡ risen car us hs j c g
+    unfolding risen
+    risen-no e = rw e
+
+    -- held
+    pub risen-still : free car us hs j ≡ false → g ≡ risen car us hs j c g
+    unfolding is-risen
+    risen-still e = risen-no (no-and _ _ (no-and _ _ e))
 
     -- the speed does not rise
-    pub rising-flat : at us j ≤ at us (j - 1) → at gs j ≡ rising car us hs j gs
-    unfolding too-high
-    rising-flat e = rising-no (no-and _ _ (and-no _ _ (le-ltb (at us (j - 1)) (at us j) e)))
+    pub risen-flat : at us j ≤ at us (j - 1) → g ≡ risen car us hs j c g
+    unfolding is-risen
+    risen-flat e = risen-no (no-and _ _ (and-no _ _ (le-ltb (at us (j - 1)) (at us j) e)))
 
     -- the gear is not above the ceiling
-    pub rising-low : at gs j ≤ ceiling j gs → at gs j ≡ rising car us hs j gs
-    unfolding too-high
-    rising-low e = rising-no (and-no _ _ (le-ltb (ceiling j gs) (at gs j) e))
-
-    -- nor is it, if it is not above the gear before
-    pub rising-level : at gs j ≤ at gs (j - 1) → at gs j ≡ rising car us hs j gs
-    rising-level e = rising-low (omega (arith, ceiling-from j gs))
+    pub risen-low : g ≤ c → g ≡ risen car us hs j c g
+    unfolding is-risen
+    risen-low e = risen-no (and-no _ _ (le-ltb c g e))
 
     -- the gear is above the ceiling
-    pub rising-cut : free car us hs j ≡ true → at us (j - 1) < at us j → ceiling j gs < at gs j → max (ceiling j gs) (floor car (at us j)) ≡ rising car us hs j gs
-    unfolding rising too-high
-    rising-cut f l e = rw (both (both f (lt-ltb (at us (j - 1)) (at us j) l)) (lt-ltb (ceiling j gs) (at gs j) e))
+    pub risen-cut : free car us hs j ≡ true → at us (j - 1) < at us j → c < g → max c (floor car (at us j)) ≡ risen car us hs j c g
+    unfolding risen is-risen
+    risen-cut f l e = rw (both (both f (lt-ltb (at us (j - 1)) (at us j) l)) (lt-ltb c g e))
+
+  -- nor is it, if it is not above the gear before
+  pub risen-level : (last : ℕ) (level : Bool) (g : ℕ) → g ≤ last → g ≡ risen car us hs j (ceiling-of last level) g
+  risen-level last level g h = risen-low (ceiling-of last level) g (omega (arith, ceiling-from last level))
 
   -- ---- pass C
 
-  module _ (gs : List ℕ) where
-    -- where one of the tests fails the gear stays
-    slowing-no : too-low car us hs j gs ≡ false → at gs j ≡ slowing car us hs j gs
-    unfolding slowing
-    slowing-no e = rw e
+  -- past the trip's first second it looks at the hold, at the closing run and at the gear
+  pub slowing-is : (gs : List ℕ) → 1 ≤ j → slowing car us hs j gs ≡ slowed (at hs j) (closing (drop j us)) (low car) (at gs j)
+  unfolding slowing too-low free slowed _and_
+  slowing-is gs l = rw (lt-ltb 0 j l, and-yes (eqb (at hs j) 0))
 
-    -- held, or the trip's first second
-    pub slowing-still : free car us hs j ≡ false → at gs j ≡ slowing car us hs j gs
-    unfolding too-low
-    slowing-still e = slowing-no (no-and _ _ (no-and _ _ e))
+module _ (hold : ℕ) (closes : Bool) (low g : ℕ) where
+  -- not in the closing run
+  pub slowed-open : closes ≡ false → g ≡ slowed hold closes low g
+  unfolding slowed
+  slowed-open e = rw (no-and _ (eqb g low) (and-no (eqb hold 0) closes e))
 
-    -- not in the closing run
-    pub slowing-open : closing (drop j us) ≡ false → at gs j ≡ slowing car us hs j gs
-    unfolding too-low
-    slowing-open e = slowing-no (no-and _ _ (and-no _ _ e))
+  -- another gear than the lowest
+  pub slowed-other : (g ≡ low → ⊥) → g ≡ slowed hold closes low g
+  unfolding slowed
+  slowed-other e = rw (and-no (eqb hold 0 and closes) _ (ne-eqb g low e))
 
-    -- another gear than the lowest
-    pub slowing-other : (at gs j ≡ low car → ⊥) → at gs j ≡ slowing car us hs j gs
-    unfolding too-low
-    slowing-other e = slowing-no (and-no _ _ (ne-eqb (at gs j) (low car) e))
+  -- held
+  pub slowed-still : (hold ≡ 0 → ⊥) → g ≡ slowed hold closes low g
+  unfolding slowed
+  slowed-still e = rw (no-and _ (eqb g low) (no-and _ closes (ne-eqb hold 0 e)))
 
-    -- the lowest gear in the closing run
-    pub slowing-up : free car us hs j ≡ true → closing (drop j us) ≡ true → at gs j ≡ low car → low car + 1 ≡ slowing car us hs j gs
-    unfolding slowing too-low
-    slowing-up f c e = rw (both (both f c) (eq-eqb (at gs j) (low car) e))
-
-    -- past the trip's first second: unless it is held
-    pub slowing-lowest : 1 ≤ j → closing (drop j us) ≡ true → at gs j ≡ low car → (if eqb (at hs j) 0 then low car + 1 else low car) ≡ slowing car us hs j gs
-    slowing-lowest l c e =
-        by-test (eqb (at hs j) 0)
-        (λ t. rw t (slowing-up (free-later (eqb-true _ _ t) l) c e))
-        (λ t. rw t (sym e ∙ slowing-still (free-held (eqb-false _ _ t))))
+  -- the lowest gear in the closing run
+  pub slowed-up : hold ≡ 0 → closes ≡ true → g ≡ low → low + 1 ≡ slowed hold closes low g
+  unfolding slowed
+  slowed-up h c e = rw (both (both (eq-eqb hold 0 h) c) (eq-eqb g low e))

@@ -1,2 +1,3 @@
 pub mod Ready
+pub mod Second
 pub mod Trip

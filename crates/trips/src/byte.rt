@@ -2,12 +2,11 @@
 ghost use mathlib.Core.Path.{_≡_};
 ghost use Prim.Native.Nat.{_+_, _-_, _*_, _<_};
 ghost use lib.ListN.{length};
-ghost use Rattle.rules.specs.Words.{at, table};
+ghost use Rattle.rules.specs.Words.{at};
 ghost use Rattle.rules.specs.Corrections.{byte};
 ghost use Rattle.rules.specs.declared.Vehicle.{Vehicle};
 ghost use Rattle.gears.specs.Parts.{Has};
 ghost use Rattle.gears.specs.Second.{Gear};
-ghost use Rattle.trips.specs.Ready.{Geared};
 use gears::Numbers;
 use gears::engine;
 
@@ -33,7 +32,7 @@ pub fn turning(ratio: &[u16], g: u8, v: u16) -> u64
 }
 
 // The engine speed X of idle.
-fn bottom(k: Numbers) -> u64
+pub fn bottom(k: Numbers) -> u64
     ensures { λ r. ⌜ r ≡ 1000 * k .idle ⌝ }
 {
     1000 * (k.idle as u64)
@@ -53,18 +52,4 @@ pub fn byte_at(k: Numbers, ratio: &[u16; 10], us: &[u16], j: usize, g: u8) -> u8
         return g;
     }
     g + 16
-}
-
-// A trip's gears become its bytes.
-pub fn bytes(k: Numbers, ratio: &[u16; 10], us: &[u16], gs: &mut [u8])
-    requires { ⌜ Geared (now us) (now gs) ⌝ }
-    ensures { λ r. ⌜ ((car : Vehicle) → Has car k (now (ratio .entry)) → now (gs .exit) ≡ table (λ j. byte car (now (us .entry)) j (at (now (gs .entry)) j)) 0 (length (now (gs .entry)))) ⌝ }
-{
-    let mut j = 0;
-    while j < gs.len() {
-        let g = gs[j];
-        let b = byte_at(k, ratio, us, j, g);
-        gs[j] = b;
-        j += 1;
-    }
 }

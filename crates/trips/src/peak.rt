@@ -8,7 +8,8 @@ ghost use Rattle.rules.specs.Corrections.{peak};
 ghost use Rattle.rules.specs.declared.Vehicle.{Vehicle};
 ghost use Rattle.gears.specs.Parts.{Has};
 ghost use Rattle.gears.specs.Second.{Driven};
-ghost use Rattle.trips.specs.Ready.{Aligned, Later};
+ghost use Rattle.trips.specs.Ready.{Aligned};
+ghost use Rattle.trips.specs.Second.{peaked};
 ghost use Rattle.trips.specs.Trip.{one-above};
 use gears::Numbers;
 use gears::floor;
@@ -35,7 +36,8 @@ fn one_above(p: u8, g: u8, q: u8) -> bool
     over(q, g, p)
 }
 
-// What pass A makes of second j, whose gear is g, after a lower one, last.
+// What pass A makes of second j, whose gear is g, after gear last, as corrected. The slice holds the gear after it, not yet corrected. Most gears are no higher
+// than the one before, and stay.
 pub fn peak_at(
     k: Numbers,
     ratio: &[u16; 10],
@@ -46,9 +48,12 @@ pub fn peak_at(
     g: u8,
     last: u8,
 ) -> u8
-    requires { ⌜ Driven k × Aligned (now us) (now hs) (now gs) × Later (now gs) j last × (j < length (now gs)) × (g ≡ at (now gs) j) × (last < g) ⌝ }
-    ensures { λ r. ⌜ ((car : Vehicle) → Has car k (now (ratio .entry)) → r ≡ peak car (now (us .entry)) (now (hs .entry)) j (now (gs .entry))) ⌝ }
+    requires { ⌜ Driven k × Aligned (now us) (now hs) (now gs) × (1 ≤ j) × (j < length (now gs)) ⌝ }
+    ensures { λ r. ⌜ ((car : Vehicle) → Has car k (now (ratio .entry)) → r ≡ peaked car (now (us .entry)) (now (hs .entry)) (length (now (gs .entry))) j last g (at (now (gs .entry)) (j + 1))) ⌝ }
 {
+    if g <= last {
+        return g;
+    }
     if hs[j] != 0 {
         return g;
     }
@@ -67,7 +72,7 @@ pub fn peak_at(
     g
 }
 
-// Pass A, one-second peaks. The trip's first second stays, and the gear before goes along, as corrected. Most gears are no higher than it, and stay.
+// Pass A, one-second peaks. The trip's first second stays, and the gear before goes along, as corrected.
 pub fn pass_a(k: Numbers, ratio: &[u16; 10], us: &[u16], hs: &[u8], gs: &mut [u8])
     requires { ⌜ Driven k × Aligned (now us) (now hs) (now gs) ⌝ }
     ensures { λ r. ⌜ ((car : Vehicle) → Has car k (now (ratio .entry)) → now (gs .exit) ≡ pass (peak car (now (us .entry)) (now (hs .entry))) (length (now (hs .entry))) (now (gs .entry))) ⌝ }
@@ -78,14 +83,9 @@ pub fn pass_a(k: Numbers, ratio: &[u16; 10], us: &[u16], hs: &[u8], gs: &mut [u8
     let mut j = 1;
     let mut last = gs[0];
     while j < gs.len() {
-        let i = j;
+        let g = gs[j];
+        last = peak_at(k, ratio, us, hs, gs, j, g, last);
+        gs[j] = last;
         j += 1;
-        let g = gs[i];
-        if last < g {
-            last = peak_at(k, ratio, us, hs, gs, i, g, last);
-            gs[i] = last;
-        } else {
-            last = g;
-        }
     }
 }

@@ -2,44 +2,55 @@
 ghost use mathlib.Core.Path.{_≡_};
 ghost use Prim.Native.Nat.{_≤_, _<_};
 ghost use lib.ListN.{length};
-ghost use Rattle.rules.specs.Words.{at, pass};
+ghost use Rattle.rules.specs.Words.{pass};
 ghost use Rattle.rules.specs.Corrections.{ceiling, rising};
 ghost use Rattle.rules.specs.declared.Vehicle.{Vehicle};
 ghost use Rattle.gears.specs.Parts.{Has};
 ghost use Rattle.gears.specs.Second.{Driven};
-ghost use Rattle.trips.specs.Ready.{Aligned, Later};
+ghost use Rattle.trips.specs.Ready.{Aligned, Later, TripSecond};
+ghost use Rattle.trips.specs.Second.{ceiling-of, risen};
 use gears::Numbers;
 use gears::floor;
 
-// The ceiling of second j after gear last, from the gears before it as corrected.
-fn ceiling_at(gs: &[u8], j: usize, last: u8) -> usize
+// Whether the two seconds before second j lie in the trip with equal gears, the one before with gear last.
+fn level_at(gs: &[u8], j: usize, last: u8) -> bool
     requires { ⌜ Later (now gs) j last × (j < length (now gs)) ⌝ }
-    ensures { λ r. ⌜ r ≡ ceiling j (now (gs .entry)) ⌝ }
+    ensures { λ r. ⌜ ceiling-of last r ≡ ceiling j (now (gs .entry)) ⌝ }
 {
-    let w = last as usize;
     if j < 2 {
-        return w;
+        return false;
     }
-    if last == gs[j - 2] {
-        return w + 1;
-    }
-    w
+    last == gs[j - 2]
 }
 
-// What pass B makes of second j, whose gear is g, after a lower one, last.
-fn rising_at(
+// The ceiling after gear last, and whether the second before that has it too.
+fn ceiling_of(last: u8, level: bool) -> usize
+    ensures { λ r. ⌜ r ≡ ceiling-of last level ⌝ }
+{
+    if level {
+        return last as usize + 1;
+    }
+    last as usize
+}
+
+// What pass B makes of second j, whose gear is g, after gear last, as corrected. Most gears are no higher than the one before, so no higher than the ceiling,
+// and stay.
+pub fn rising_at(
     k: Numbers,
     ratio: &[u16; 10],
     us: &[u16],
     hs: &[u8],
-    gs: &[u8],
     j: usize,
     g: u8,
     last: u8,
+    level: bool,
 ) -> u8
-    requires { ⌜ Driven k × Aligned (now us) (now hs) (now gs) × Later (now gs) j last × (j < length (now gs)) × (g ≡ at (now gs) j) × (last < g) ⌝ }
-    ensures { λ r. ⌜ ((car : Vehicle) → Has car k (now (ratio .entry)) → r ≡ rising car (now (us .entry)) (now (hs .entry)) j (now (gs .entry))) ⌝ }
+    requires { ⌜ Driven k × TripSecond (now us) (now hs) j × (1 ≤ j) ⌝ }
+    ensures { λ r. ⌜ ((car : Vehicle) → Has car k (now (ratio .entry)) → r ≡ risen car (now (us .entry)) (now (hs .entry)) j (ceiling-of last level) g) ⌝ }
 {
+    if g <= last {
+        return g;
+    }
     if hs[j] != 0 {
         return g;
     }
@@ -47,7 +58,7 @@ fn rising_at(
     if v <= us[j - 1] {
         return g;
     }
-    let ceiling = ceiling_at(gs, j, last);
+    let ceiling = ceiling_of(last, level);
     if g as usize <= ceiling {
         return g;
     }
@@ -58,8 +69,7 @@ fn rising_at(
     ceiling as u8
 }
 
-// Pass B, rising speed. The trip's first second stays, and the gear before goes along, as corrected. Most gears are no higher than it, so no higher than the
-// ceiling, and stay.
+// Pass B, rising speed. The trip's first second stays, and the gear before goes along, as corrected.
 pub fn pass_b(k: Numbers, ratio: &[u16; 10], us: &[u16], hs: &[u8], gs: &mut [u8])
     requires { ⌜ Driven k × Aligned (now us) (now hs) (now gs) ⌝ }
     ensures { λ r. ⌜ ((car : Vehicle) → Has car k (now (ratio .entry)) → now (gs .exit) ≡ pass (rising car (now (us .entry)) (now (hs .entry))) (length (now (hs .entry))) (now (gs .entry))) ⌝ }
@@ -70,15 +80,10 @@ pub fn pass_b(k: Numbers, ratio: &[u16; 10], us: &[u16], hs: &[u8], gs: &mut [u8
     let mut j = 1;
     let mut last = gs[0];
     while j < gs.len() {
-        let i = j;
+        let g = gs[j];
+        let level = level_at(gs, j, last);
+        last = rising_at(k, ratio, us, hs, j, g, last, level);
+        gs[j] = last;
         j += 1;
-        let g = gs[i];
-        if last < g {
-            let r = rising_at(k, ratio, us, hs, gs, i, g, last);
-            gs[i] = r;
-            last = r;
-        } else {
-            last = g;
-        }
     }
 }

@@ -1,15 +1,15 @@
 -- `gears::choice::choose` meets its contract: one law of the choice for each return.
 -- Assumes nothing.
-use Rattle.rules.proofs.Base.{ℕ, _+_, _*_, _≤_, _<_, arith, true, false, _≡_, sym, _∙_, natAbs, needs, eqb-true, le-leb, toZ-ofZ}
+use Rattle.rules.proofs.Base.{ℕ, _+_, _≤_, _<_, arith, true, false, _≡_, refl, sym, _∙_, natAbs, needs, eqb-true, le-leb, toZ-ofZ}
 use Rattle.rules.proofs.Laws.Choice.{choose-to}
 use Rattle.rules.proofs.Laws.Sizes.{required-size}
 use Rattle.rules.proofs.Laws.Range.{rd, result}
 use Rattle.rules.proofs.Laws.Words.{and-left}
-use Rattle.rules.specs.Gears.{minimum, fits, required, choose}
+use Rattle.rules.specs.Gears.{fits, required, choose}
 use Rattle.rules.specs.Corrections.{role-of}
 use Rattle.rules.specs.declared.Vehicle.{Vehicle}
 use Rattle.rules.specs.declared.Role.{Role}
-use Rattle.gears.specs.Parts.{low-in, Counts, Lent}
+use Rattle.gears.specs.Parts.{Counts, Lent}
 use Rattle.gears.specs.Choosing.{most-E, InGear, Turning, Hints}
 use Rattle.gears.proofs.Parts.{low-of, ng-of, idle-of, rated-of, f0-of, f1-of, f2-of, tm-of}
 use Rattle.gears.proofs.Reach.{falling-of, later, in-reach, none-above, fits-under-own, fits-else}
@@ -40,53 +40,44 @@ to-ten c = let L = c .before .before .pre .0 .lent in omega (arith, c .reached .
 none : (c : tie.After-reached) → let s = c .before .before in (car : Vehicle) → Of s car → (h : ℕ) → c .reached .result < h → h ≤ car .ng → fits car (here s car) (s .args .v) h ≡ false
 none c car L = let s = c .before .before in none-above L (s .args .v) (c .before .shared-least .ensures car (L .has .counts)) (c .reached .ensures) (here s car) (later car (s .args .closes) (s .args .before))
 
--- what the callee says that the second is
-role : (c : tie.After-role-of) → let s = c .before .before .before .before in (car : Vehicle) → Counts car (s .args .k) → c .role-of .result ≡ here s car
-role c car C = c .role-of .ensures car C
-
--- the least engine speed of the gear above the lowest there
-next : (c : tie.After-next-least) → let s = c .before .before .before .before .before in (car : Vehicle) → Counts car (s .args .k) → c .next-least .result ≡ 1000 * minimum car (here s car) (low-in (s .args .k) + 1)
-next c car C = rw (role (c .before) car C) at (c .next-least .ensures car C)
-
 -- it is the gear above the lowest and below its minimum: only the lowest may fit
-only : (c : tie.After-only-lowest) → let s = c .before .before .before .before .before .before .before .before in (car : Vehicle) → Of s car → c .only-lowest .result ≡ choose car (here s car) (s .args .v) (s .args .d)
+only : (c : tie.After-only-lowest) → let s = c .before .before .before .before .before .before in (car : Vehicle) → Of s car → c .only-lowest .result ≡ choose car (here s car) (s .args .v) (s .args .d)
 only c car L =
-    let s = c .before .before .before .before .before .before .before .before in
-    let t = sym (c .before .if1 .taken) ∙ c .before .before .below-minimum .ensures in
+    let s = c .before .before .before .before .before .before in
+    let t = sym (c .before .if1 .taken) ∙ c .before .before .below-minimum .ensures car (L .has .counts) in
     c .only-lowest .ensures car (L .has) (here s car)
-    ∙ choice-below L (here s car) (s .args .v) _ (s .args .d) (none (c .before .before .before .before .before .before) car L) (eqb-true _ _ (and-left _ _ (sym t)))
-    (sym (fits-under-own (L .has) (here s car) (later car (s .args .closes) (s .args .before)) (s .args .v) _ (next (c .before .before .before) car (L .has .counts)) (c .before .before .before .before .before .engine .ensures) t))
+    ∙ choice-below L (here s car) (s .args .v) _ (s .args .d) (none (c .before .before .before .before) car L) (eqb-true _ _ (and-left _ _ (sym t)))
+    (sym (fits-under-own (L .has) (here s car) (later car (s .args .closes) (s .args .before)) (s .args .v) _ refl (c .before .before .before .engine .ensures) t))
 
 -- else, and within nmax, it fits
-fit : (c : tie.Else2) → let s = c .before .before .before .before .before .before .before .before .before in (car : Vehicle) → Of s car → fits car (here s car) (s .args .v) (c .before .before .before .before .before .before .before .reached .result) ≡ true
+fit : (c : tie.Else2) → let s = c .before .before .before .before .before .before .before in (car : Vehicle) → Of s car → fits car (here s car) (s .args .v) (c .before .before .before .before .before .reached .result) ≡ true
 fit c car L =
-    let s = c .before .before .before .before .before .before .before .before .before in
-    let R = c .before .before .before .before .before .before .before .reached .ensures in
-    sym (fits-else (L .has) (here s car) (later car (s .args .closes) (s .args .before)) (s .args .v) _ (next (c .before .before .before .before) car (L .has .counts)) (c .before .before .before .before .before .before .engine .ensures) (omega (arith, R .from))
-    (in-reach L (s .args .v) (c .before .before .before .before .before .before .before .before .shared-least .ensures car (L .has .counts)) R) (sym (c .before .before .if1 .left) ∙ c .before .before .before .below-minimum .ensures))
+    let s = c .before .before .before .before .before .before .before in
+    let R = c .before .before .before .before .before .reached .ensures in
+    sym (fits-else (L .has) (here s car) (later car (s .args .closes) (s .args .before)) (s .args .v) _ refl (c .before .before .before .before .engine .ensures) (omega (arith, R .from))
+    (in-reach L (s .args .v) (c .before .before .before .before .before .before .shared-least .ensures car (L .has .counts)) R) (sym (c .before .before .if1 .left) ∙ c .before .before .before .below-minimum .ensures car (L .has .counts)))
     ∙ le-leb _ _ (rw (c .before .top .ensures) at (c .if2 .left))
 
-turns : (c : tie.Else2) → let s = c .before .before .before .before .before .before .before .before .before in Turning (s .args .k) (s .args .ratio .now) (s .args .v) (c .before .before .before .before .before .before .before .reached .result)
-turns c = let s = c .before .before .before .before .before .before .before .before .before in let L = s .pre .0 .lent in turning-of (L .has) _ _ _ (in-gear (c .before .before .before .before .before .before .before)) (fit c (s .pre .0 .car) L)
+turns : (c : tie.Else2) → let s = c .before .before .before .before .before .before .before in Turning (s .args .k) (s .args .ratio .now) (s .args .v) (c .before .before .before .before .before .reached .result)
+turns c = let s = c .before .before .before .before .before .before .before in let L = s .pre .0 .lent in turning-of (L .has) _ _ _ (in-gear (c .before .before .before .before .before)) (fit c (s .pre .0 .car) L)
 
 -- E is the required power, of every vehicle of these parts
-load : (c : tie.After-required) → let s = c .before .before .before .before .before .before .before .before .before .before in (car : Vehicle) → Counts car (s .args .k) → rd (c .required .result) ≡ required car (s .args .v) (s .args .d)
+load : (c : tie.After-required) → let s = c .before .before .before .before .before .before .before .before in (car : Vehicle) → Counts car (s .args .k) → rd (c .required .result) ≡ required car (s .args .v) (s .args .d)
 load c car C =
-    let s = c .before .before .before .before .before .before .before .before .before .before in
+    let s = c .before .before .before .before .before .before .before .before in
     result (c .required .ok) ∙ (rw (toZ-ofZ (s .fits .d)) at (c .required .ensures car C))
 
 load-in : (c : tie.After-required) → natAbs (rd (c .required .result)) ≤ most-E
 load-in c =
-    let s = c .before .before .before .before .before .before .before .before .before .before in
+    let s = c .before .before .before .before .before .before .before .before in
     let P = s .pre .0 in
     rw (load c (P .car) (P .lent .has .counts)) (required-size (P .car) (P .lent .bounds) (s .args .v) (s .pre .1 .v-to) (s .args .d) (s .pre .1 .d-in))
 
 -- what the search from there on found is the rules' choice
-searched : (c : tie.After-choose-from) → let s = c .before .before .before .before .before .before .before .before .before .before .before .before .before .before in (car : Vehicle) → Of s car → c .choose-from .result ≡ choose car (here s car) (s .args .v) (s .args .d)
+searched : (c : tie.After-choose-from) → let s = c .before .before .before .before .before .before .before .before .before .before .before .before in (car : Vehicle) → Of s car → c .choose-from .result ≡ choose car (here s car) (s .args .v) (s .args .d)
 searched c car L =
-    let s = c .before .before .before .before .before .before .before .before .before .before .before .before .before .before in
-    let r = c .before .before .before .before .before .before .before .before .before .before in
-    (rw (role r car (L .has .counts)) at (c .choose-from .ensures car L)) ∙ choice-for car (here s car) (s .args .v) (s .args .d) (load (c .before .before .before .before) car (L .has .counts))
+    let s = c .before .before .before .before .before .before .before .before .before .before .before .before in
+    c .choose-from .ensures car L ∙ choice-for car (here s car) (s .args .v) (s .args .d) (load (c .before .before .before .before) car (L .has .counts))
 
 shared-least-requires : tie.Need-shared-least-requires
 shared-least-requires c κs = let L = c .pre .0 .lent in omega (arith, idle-of (L .has .counts), rated-of (L .has .counts), L .bounds .rated-from)
@@ -96,30 +87,30 @@ reached-requires c κs = let s = c .before in let h = s .pre .2 in (falling-of (
 
 only-lowest-requires : tie.Need-only-lowest-requires
 only-lowest-requires c κs =
-    let L = c .before .before .before .before .before .before .before .pre .0 .lent in
+    let L = c .before .before .before .before .before .pre .0 .lent in
     record { ng-to = omega (arith, ng-of (L .has .counts), L .bounds .ng-to); low-to = omega (arith, ng-of (L .has .counts), low-of (L .has .counts), L .bounds .low-ng) }
 
-cast-t22 : tie.Need-cast-t22
-cast-t22 c =
-    let s = c .before .before .before .before .before .before .before .before in
+cast-t20 : tie.Need-cast-t20
+cast-t20 c =
+    let s = c .before .before .before .before .before .before in
     let car = s .pre .0 .car in
     let L = s .pre .0 .lent in
     omega (arith, only c car L, choose-to car (here s car) (s .args .v) (s .args .d), L .bounds .ng-to)
 
 returns : tie.Need-returns
-returns c = (only c, hints (c .before .before .before .before .before .before) (c .before .before .before .before .before .before .before .before .pre .2 .near))
+returns c = (only c, hints (c .before .before .before .before) (c .before .before .before .before .before .before .pre .2 .near))
 
 returns-2 : tie.Need-returns-2
 returns-2 c =
-    let s = c .before .before .before .before .before .before .before .before .before in
-    let r = c .before .before .before .before .before .before .before in (
-      λ car L. choice-past L (here s car) (s .args .v) _ (s .args .d) (none r car L) (omega (arith, r .reached .ensures .to, ng-of (L .has .counts))) (rw (c .before .top .ensures, c .before .before .before .before .before .before .engine .ensures) at (c .if2 .taken)),
+    let s = c .before .before .before .before .before .before .before in
+    let r = c .before .before .before .before .before in (
+      λ car L. choice-past L (here s car) (s .args .v) _ (s .args .d) (none r car L) (omega (arith, r .reached .ensures .to, ng-of (L .has .counts))) (rw (c .before .top .ensures, c .before .before .before .before .engine .ensures) at (c .if2 .taken)),
       hints r (s .pre .2 .near),
     )
 
 required-requires : tie.Need-required-requires
 required-requires c κs =
-    let s = c .before .before .before .before .before .before .before .before .before in
+    let s = c .before .before .before .before .before .before .before in
     let L = s .pre .0 .lent in
     rw (toZ-ofZ (s .fits .d)) (record {
       f0-to = omega (arith, f0-of (L .has .counts), L .bounds .f0-to);
@@ -130,13 +121,13 @@ required-requires c κs =
       d-in = s .pre .1 .d-in;
     })
 
-cast-t24 : tie.Need-cast-t24
-cast-t24 c = omega (arith, to-ten (c .before .before .before .before .before .before .before .before .before))
+cast-t22 : tie.Need-cast-t22
+cast-t22 c = omega (arith, to-ten (c .before .before .before .before .before .before .before))
 
 returns-3 : tie.Need-returns-3
 returns-3 c =
-    let s = c .before .before .before .before .before .before .before .before .before .before .before in
-    let r = c .before .before .before .before .before .before .before .before .before in (
+    let s = c .before .before .before .before .before .before .before .before .before in
+    let r = c .before .before .before .before .before .before .before in (
       λ car L.
           for-suiting car (here s car) (s .args .v) _ (in-gear r .from) (omega (arith, r .reached .ensures .to, ng-of (L .has .counts)))
           (suits-none L (here s car) (s .args .v) _ (in-gear r) _ (fit (c .before .before) car L) (c .if3 .taken))
@@ -147,51 +138,47 @@ returns-3 c =
 
 segment-at-requires : tie.Need-segment-at-requires
 segment-at-requires c κs =
-    let s = c .before .before .before .before .before .before .before .before .before .before .before in
-    let r = c .before .before .before .before .before .before .before .before .before in
+    let s = c .before .before .before .before .before .before .before .before .before in
+    let r = c .before .before .before .before .before .before .before in
     (record { from = in-gear r .from; to = to-ten r }, turned-curve (s .pre .0 .lent) _ _ (turns (c .before .before)), s .pre .2 .near)
 
 power-at-requires : tie.Need-power-at-requires
-power-at-requires c κs = (c .before .before .before .before .before .before .before .before .before .before .before .before .pre .0, turns (c .before .before .before), c .segment-at .ensures)
+power-at-requires c κs = (c .before .before .before .before .before .before .before .before .before .before .pre .0, turns (c .before .before .before), c .segment-at .ensures)
 
 choose-from-requires : tie.Need-choose-from-requires
 choose-from-requires c κs =
-    let s = c .before .before .before .before .before .before .before .before .before .before .before .before .before in
-    let r = c .before .before .before .before .before .before .before .before .before .before .before in (
+    let s = c .before .before .before .before .before .before .before .before .before .before .before in
+    let r = c .before .before .before .before .before .before .before .before .before in (
       s .pre .0,
       load-in (c .before .before .before),
       turned-next (s .pre .0 .lent) _ _ (turns (c .before .before .before .before)) (c .before .segment-at .ensures),
       record { from = r .reached .ensures .from; to = r .reached .ensures .to },
-      record {
-        is-later = rw (role (c .before .before .before .before .before .before .before .before .before) (s .pre .0 .car) (s .pre .0 .lent .has .counts)) (later (s .pre .0 .car) (s .args .closes) (s .args .before));
-        next-is = c .before .before .before .before .before .before .before .before .next-least .ensures;
-      },
       λ car L. (
-        rw (role (c .before .before .before .before .before .before .before .before .before) car (L .has .counts)) (record {
+        record {
           to = omega (arith, r .reached .ensures .to, ng-of (L .has .counts));
           fitting = fit (c .before .before .before .before) car L;
           its-power = c .power-at .ensures car L;
           none-above = none r car L;
-        }),
-        in-reach L (s .args .v) (c .before .before .before .before .before .before .before .before .before .before .before .before .shared-least .ensures car (L .has .counts)) (r .reached .ensures),
+        },
+        in-reach L (s .args .v) (c .before .before .before .before .before .before .before .before .before .before .shared-least .ensures car (L .has .counts)) (r .reached .ensures),
       ),
     )
 
-cast-t26 : tie.Need-cast-t26
-cast-t26 c =
-    let s = c .before .before .before .before .before .before .before .before .before .before .before .before .before .before in
+cast-t24 : tie.Need-cast-t24
+cast-t24 c =
+    let s = c .before .before .before .before .before .before .before .before .before .before .before .before in
     let car = s .pre .0 .car in
     let L = s .pre .0 .lent in
     omega (arith, searched c car L, choose-to car (here s car) (s .args .v) (s .args .d), L .bounds .ng-to)
 
 returns-4 : tie.Need-returns-4
-returns-4 c = (searched c, hints (c .before .before .before .before .before .before .before .before .before .before .before .before) (turned-next (c .before .before .before .before .before .before .before .before .before .before .before .before .before .before .pre .0 .lent) _ _ (turns (c .before .before .before .before .before)) (c .before .before .segment-at .ensures)))
+returns-4 c = (searched c, hints (c .before .before .before .before .before .before .before .before .before .before) (turned-next (c .before .before .before .before .before .before .before .before .before .before .before .before .pre .0 .lent) _ _ (turns (c .before .before .before .before .before)) (c .before .before .segment-at .ensures)))
 
 pub choose-spec : {M : Type 1} → statement M
 choose-spec =
     tie.close
     (tie.spec shared-least-requires reached-requires
     (λ c κs. record { from = in-gear c .from; to = to-ten c })
-    (λ c κs. search needs) (λ c κs. search needs) (λ c κs. search needs) only-lowest-requires cast-t22 returns
-    (λ c κs. search needs) returns-2 required-requires cast-t24 returns-3 segment-at-requires power-at-requires
-    choose-from-requires cast-t26 returns-4)
+    (λ c κs. search needs) only-lowest-requires cast-t20 returns
+    (λ c κs. search needs) returns-2 required-requires cast-t22 returns-3 segment-at-requires power-at-requires
+    choose-from-requires cast-t24 returns-4)

@@ -3,6 +3,7 @@
 use Rattle.rules.proofs.Base.{ℕ, _+_, _-_, _≤_, _<_, min, ℤ, arith, true, false, _≡_, refl, sym, _∙_, needs, le-leb, toZ-ofZ, w64, toZ, ofZ}
 use Rattle.rules.proofs.Laws.Words.{by-order, and-right, and-fails}
 use Rattle.rules.specs.Gears.{fits}
+use Rattle.rules.specs.Corrections.{role-of}
 use Rattle.rules.specs.declared.Vehicle.{Vehicle}
 use Rattle.rules.specs.declared.Role.{Role}
 use Rattle.gears.specs.declared.Best.{Best}
@@ -16,20 +17,24 @@ use Rattle.gears.proofs.choice.choose_from.Statement.{statement}
 use Rattle.gears.proofs.choice.choose_from.Tie as tie
 
 abbrev Inv-loop : tie.InvT-loop
-Inv-loop k ratio n p here next v e first near low highest best₀ s₀ g₀ best s g =
+Inv-loop k ratio n p closes before v e first near low highest best₀ s₀ g₀ best s g =
     (s + 1 < k .points) × (first .gear ≤ g → best ≡ first)
-    × ((car : Vehicle) → Lent car k ratio n p → g < first .gear → Tried car here v (toZ w64 e) g best)
+    × ((car : Vehicle) → Lent car k ratio n p → g < first .gear → Tried car (role-of car false closes before) v (toZ w64 e) g best)
 
 abbrev μ-loop : tie.MeasureT-loop
-μ-loop k ratio n p here next v e first near low highest best₀ s₀ g₀ best s g = g
+μ-loop k ratio n p closes before v e first near low highest best₀ s₀ g₀ best s g = g
 
 -- the parts lent
 abbrev Of : tie.Start Inv-loop μ-loop → Vehicle → Type 0
 Of s car = Lent car (s .args .k) (s .args .ratio .now) (s .args .n .now) (s .args .p .now)
 
+-- what the second is
+abbrev here : tie.Start Inv-loop μ-loop → Vehicle → Role
+here s car = role-of car false (s .args .closes) (s .args .before)
+
 -- past the highest that fits, which has not enough power, all from the gear on have been tried
 tried-at : (c : tie.Else1 Inv-loop μ-loop) → let s = c .before .before .before .before .before in (car : Vehicle) → Of s car
-    → Tried car (s .args .here) (s .args .v) (toZ w64 (ofZ w64 (s .args .e))) (min (c .before .before .loop .g) (s .args .first .gear)) (c .before .before .loop .best)
+    → Tried car (here s car) (s .args .v) (toZ w64 (ofZ w64 (s .args .e))) (min (c .before .before .loop .g) (s .args .first .gear)) (c .before .before .loop .best)
 tried-at c car L =
     let s = c .before .before .before .before .before in
     let l = c .before .before .loop in
@@ -38,7 +43,7 @@ tried-at c car L =
     (λ o.
     let z : min (l .g) (s .args .first .gear) ≡ s .args .first .gear = omega arith in
     let weak = and-fails _ _ (le-leb _ _ o) (sym (c .before .suffices .ensures) ∙ c .if1 .left) in
-    rw (z, l .inv .1 o) (highest-tried (s .pre .5 car L .0) _ weak))
+    rw (z, l .inv .1 o) (highest-tried (s .pre .4 car L .0) _ weak))
 
 -- the next gear down is one, below the highest in reach and below the one before
 next : (c : tie.After-below Inv-loop μ-loop) → let s = c .before .before .before .before .before .before .before in
@@ -56,15 +61,15 @@ in-gear c = record { from = omega (arith, next c .0); to = next c .2 }
 
 -- whether it fits
 same : (c : tie.After-fits-in-reach Inv-loop μ-loop) → let s = c .before .before .before .before .before .before .before .before in (car : Vehicle) → Of s car
-    → c .fits-in-reach .result ≡ fits car (s .args .here) (s .args .v) (c .before .below .result)
+    → c .fits-in-reach .result ≡ fits car (here s car) (s .args .v) (c .before .below .result)
 same c car L =
     let s = c .before .before .before .before .before .before .before .before in
     let x = next (c .before) .1 in
-    c .fits-in-reach .ensures car (L .has) (reach-below (s .pre .5 car L .1) (omega (arith, x)))
+    c .fits-in-reach .ensures car (L .has) (reach-below (s .pre .4 car L .1) (omega (arith, x)))
 
 -- it does
 fit : (c : tie.Then3 Inv-loop μ-loop) → let s = c .before .before .before .before .before .before .before .before .before in (car : Vehicle) → Of s car
-    → fits car (s .args .here) (s .args .v) (c .before .before .below .result) ≡ true
+    → fits car (here s car) (s .args .v) (c .before .before .below .result) ≡ true
 fit c car L = sym (same (c .before) car L) ∙ c .if3 .taken
 
 -- so it is within nmax
@@ -82,7 +87,7 @@ suffices-requires : tie.Need-suffices-requires Inv-loop μ-loop
 suffices-requires c κs =
     let s = c .before .before .before in
     let L = s .pre .0 .lent in
-    record { sized = highest-sized (s .pre .5 (s .pre .0 .car) L .0) L; e-in = rw (toZ-ofZ (s .fits .e)) (s .pre .1) }
+    record { sized = highest-sized (s .pre .4 (s .pre .0 .car) L .0) L; e-in = rw (toZ-ofZ (s .fits .e)) (s .pre .1) }
 
 below-requires : tie.Need-below-requires Inv-loop μ-loop
 below-requires c κs = let h = c .before .before .before .before .before .before .pre .3 in (omega (arith, c .if2 .left, c .before .before .before .before .before .lowest .ensures), omega (arith, h .from))
@@ -91,7 +96,7 @@ fits-in-reach-requires : tie.Need-fits-in-reach-requires Inv-loop μ-loop
 fits-in-reach-requires c κs =
     let s = c .before .before .before .before .before .before .before in
     let L = s .pre .0 .lent in
-    (record { from = omega (arith, next c .0); to = omega (arith, next c .2, ng-of (L .has .counts), L .bounds .ng-to) }, next c .0, s .pre .4)
+    (record { from = omega (arith, next c .0); to = omega (arith, next c .2, ng-of (L .has .counts), L .bounds .ng-to) }, next c .0)
 
 segment-at-requires : tie.Need-segment-at-requires Inv-loop μ-loop
 segment-at-requires c κs =
@@ -141,7 +146,7 @@ loop-again-2 c =
 returns : tie.Need-returns Inv-loop μ-loop
 returns c = λ car L.
     let s = c .before .before .before .before .before in
-    rw (toZ-ofZ (s .fits .e)) at (highest-suits (s .pre .5 car L .0) _ (omega (arith, s .pre .3 .from)) (and-right _ _ (sym (c .before .suffices .ensures) ∙ c .if1 .taken)))
+    rw (toZ-ofZ (s .fits .e)) at (highest-suits (s .pre .4 car L .0) _ (omega (arith, s .pre .3 .from)) (and-right _ _ (sym (c .before .suffices .ensures) ∙ c .if1 .taken)))
 
 returns-2 : tie.Need-returns-2 Inv-loop μ-loop
 returns-2 c = λ car L.

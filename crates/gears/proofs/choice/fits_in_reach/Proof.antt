@@ -1,20 +1,19 @@
 -- `gears::choice::fits_in_reach` meets its contract: the gear above the lowest by its minimum, and then nmax decides.
 -- Assumes nothing.
-use Rattle.rules.proofs.Base.{sym, _∙_, needs}
-use Rattle.gears.proofs.Reach.{fits-under-own, fits-else}
+use Rattle.rules.proofs.Base.{refl, sym, _∙_, needs}
+use Rattle.gears.proofs.Reach.{later, fits-under-own, fits-else}
 use Rattle.gears.proofs.choice.fits_in_reach.Statement.{statement}
 use Rattle.gears.proofs.choice.fits_in_reach.Tie as tie
 
 returns : tie.Need-returns
 returns c = λ car H R.
-    let P = c .before .before .before .pre .2 in
-    fits-under-own H _ (P .is-later) _ _ (P .next-is car (H .counts)) (c .before .before .engine .ensures) (sym (c .if1 .taken) ∙ c .before .below-minimum .ensures)
+    let a = c .before .before .before .args in
+    fits-under-own H _ (later car (a .closes) (a .before)) _ _ refl (c .before .before .engine .ensures) (sym (c .if1 .taken) ∙ c .before .below-minimum .ensures car (H .counts))
 
 returns-2 : tie.Need-returns-2
 returns-2 c = λ car H R.
     let s = c .before .before .before .before in
-    let P = s .pre .2 in
-    rw (c .top .ensures) (fits-else H _ (P .is-later) _ _ (P .next-is car (H .counts)) (c .before .before .before .engine .ensures) (s .pre .1) R (sym (c .before .if1 .left) ∙ c .before .before .below-minimum .ensures))
+    rw (c .top .ensures) (fits-else H _ (later car (s .args .closes) (s .args .before)) _ _ refl (c .before .before .before .engine .ensures) (s .pre .1) R (sym (c .before .if1 .left) ∙ c .before .before .below-minimum .ensures car (H .counts)))
 
 pub fits-in-reach-spec : {M : Type 1} → statement M
 fits-in-reach-spec =

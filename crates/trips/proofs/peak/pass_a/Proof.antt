@@ -1,12 +1,11 @@
 -- `trips::peak::pass_a` meets its contract. The loop's invariant: the slice is what pass A has made of it up to second j, and the gear before j goes along.
 -- Assumes nothing.
-use Rattle.rules.proofs.Base.{_-_, refl, _∙_, arith, length, length-set}
+use Rattle.rules.proofs.Base.{_-_, _∙_, arith, add-one, length, length-set}
 use Rattle.trips.proofs.Passes.{pass-first}
-use Rattle.rules.specs.declared.Vehicle.{Vehicle}
 use Rattle.gears.specs.Parts.{Has}
 use Rattle.rules.specs.Corrections.{peak}
-use Rattle.trips.proofs.Seconds.{peak-level}
-use Rattle.trips.proofs.Along.{Along, along-start, along-more, along-kept, along-end, peak-first}
+use Rattle.trips.proofs.Seconds.{peak-is}
+use Rattle.trips.proofs.Along.{Along, along-start, along-more, along-end, peak-first}
 use Rattle.trips.proofs.peak.pass_a.Statement.{statement}
 use Rattle.trips.proofs.peak.pass_a.Tie as tie
 
@@ -27,22 +26,16 @@ loop-holds c = let a = c .before .before .before .before .before .args in along-
 
 peak-at-requires : tie.Need-peak-at-requires Inv-loop μ-loop
 peak-at-requires c κs =
-    let s = c .before .before .before .before .before .before .before .before .before .before in
-    let l = c .before .before .before .before .loop .inv in
-    (s .pre .0, record { speeds = s .pre .1 .speeds; gears = l .size ∙ s .pre .1 .gears }, l .later, omega arith, refl, omega arith)
+    let s = c .before .before .before .before .before .before .before .before .before in
+    let l = c .before .before .before .loop .inv in
+    (s .pre .0, record { speeds = s .pre .1 .speeds; gears = l .size ∙ s .pre .1 .gears }, l .later .from, omega arith)
 
 loop-again : tie.Need-loop-again Inv-loop μ-loop
 loop-again c =
-    let a = c .before .before .before .before .before .before .before .before .before .before .before .args in
-    along-more (λ car. Has car (a .k) (a .ratio .now)) (λ car. peak car (a .us .now) (a .hs .now)) (c .before .before .before .before .before .loop .inv) (omega arith) (c .peak-at .result) _ (c .peak-at .ensures) (omega arith)
-
--- a gear that is no higher than the one before
-loop-again-2 : tie.Need-loop-again-2 Inv-loop μ-loop
-loop-again-2 c =
-    let a = c .before .before .before .before .before .before .before .before .before .args in
-    let l = c .before .before .before .loop in
-    along-kept (λ car. Has car (a .k) (a .ratio .now)) (λ car. peak car (a .us .now) (a .hs .now)) (l .inv) (omega arith)
-    (λ car H. peak-level car (a .us .now) (a .hs .now) (l .j) (l .gs) (omega (arith, l .inv .later .last-is)))
+    let a = c .before .before .before .before .before .before .before .before .before .before .args in
+    let l = c .before .before .before .before .loop in
+    along-more (λ car. Has car (a .k) (a .ratio .now)) (λ car. peak car (a .us .now) (a .hs .now)) (l .inv) (omega arith) (c .peak-at .result) _
+    (λ car H. rw (peak-is car (a .us .now) (a .hs .now) (l .j) (l .gs), ← l .inv .later .last-is, ← add-one (l .j)) (c .peak-at .ensures car H)) (omega arith)
 
 returns-2 : tie.Need-returns-2 Inv-loop μ-loop
 returns-2 c =
@@ -53,6 +46,6 @@ returns-2 c =
 pub pass-a-spec : {M : Type 1} → statement M
 pass-a-spec =
     tie.close
-    (tie.spec Inv-loop μ-loop returns (λ c. omega arith) loop-holds (λ c. omega arith) (λ c. omega arith)
-    peak-at-requires (λ c. omega arith) (λ c. simp length-set (omega arith)) loop-again (λ c. omega arith) loop-again-2
+    (tie.spec Inv-loop μ-loop returns (λ c. omega arith) loop-holds (λ c. omega arith) peak-at-requires
+    (λ c. omega arith) (λ c. omega arith) (λ c. simp length-set (omega arith)) loop-again
     (λ c. c .before .loop .inv .size) returns-2)

@@ -1,12 +1,11 @@
 -- `trips::rising::pass_b` meets its contract. The loop's invariant: the slice is what pass B has made of it up to second j, and the gear before j goes along.
 -- Assumes nothing.
-use Rattle.rules.proofs.Base.{_-_, refl, _∙_, arith, length, length-set}
+use Rattle.rules.proofs.Base.{_-_, arith, length, length-set}
 use Rattle.trips.proofs.Passes.{pass-first}
-use Rattle.rules.specs.declared.Vehicle.{Vehicle}
 use Rattle.gears.specs.Parts.{Has}
 use Rattle.rules.specs.Corrections.{rising}
-use Rattle.trips.proofs.Seconds.{rising-level}
-use Rattle.trips.proofs.Along.{Along, along-start, along-more, along-kept, along-end, rising-first}
+use Rattle.trips.proofs.Seconds.{rising-is}
+use Rattle.trips.proofs.Along.{Along, along-start, along-more, along-end, rising-first}
 use Rattle.trips.proofs.rising.pass_b.Statement.{statement}
 use Rattle.trips.proofs.rising.pass_b.Tie as tie
 
@@ -25,24 +24,21 @@ returns c =
 loop-holds : tie.Need-loop-holds Inv-loop μ-loop
 loop-holds c = let a = c .before .before .before .before .before .args in along-start (λ car. Has car (a .k) (a .ratio .now)) (λ car. rising car (a .us .now) (a .hs .now)) (λ car H gs. rising-first car (a .us .now) (a .hs .now) gs) (a .gs .now) (omega arith)
 
+level-at-requires : tie.Need-level-at-requires Inv-loop μ-loop
+level-at-requires c κs = (c .before .before .before .loop .inv .later, omega arith)
+
 rising-at-requires : tie.Need-rising-at-requires Inv-loop μ-loop
 rising-at-requires c κs =
     let s = c .before .before .before .before .before .before .before .before .before .before in
     let l = c .before .before .before .before .loop .inv in
-    (s .pre .0, record { speeds = s .pre .1 .speeds; gears = l .size ∙ s .pre .1 .gears }, l .later, omega arith, refl, omega arith)
+    (s .pre .0, record { speeds = s .pre .1 .speeds; inside = omega (arith, l .size, s .pre .1 .gears) }, l .later .from)
 
 loop-again : tie.Need-loop-again Inv-loop μ-loop
 loop-again c =
     let a = c .before .before .before .before .before .before .before .before .before .before .before .args in
-    along-more (λ car. Has car (a .k) (a .ratio .now)) (λ car. rising car (a .us .now) (a .hs .now)) (c .before .before .before .before .before .loop .inv) (omega arith) (c .rising-at .result) _ (c .rising-at .ensures) (omega arith)
-
--- a gear that is no higher than the one before
-loop-again-2 : tie.Need-loop-again-2 Inv-loop μ-loop
-loop-again-2 c =
-    let a = c .before .before .before .before .before .before .before .before .before .args in
-    let l = c .before .before .before .loop in
-    along-kept (λ car. Has car (a .k) (a .ratio .now)) (λ car. rising car (a .us .now) (a .hs .now)) (l .inv) (omega arith)
-    (λ car H. rising-level car (a .us .now) (a .hs .now) (l .j) (l .gs) (omega (arith, l .inv .later .last-is)))
+    let l = c .before .before .before .before .before .loop in
+    along-more (λ car. Has car (a .k) (a .ratio .now)) (λ car. rising car (a .us .now) (a .hs .now)) (l .inv) (omega arith) (c .rising-at .result) _
+    (λ car H. rw (rising-is car (a .us .now) (a .hs .now) (l .j) (l .gs), ← c .before .level-at .ensures) (c .rising-at .ensures car H)) (omega arith)
 
 returns-2 : tie.Need-returns-2 Inv-loop μ-loop
 returns-2 c =
@@ -53,6 +49,6 @@ returns-2 c =
 pub pass-b-spec : {M : Type 1} → statement M
 pass-b-spec =
     tie.close
-    (tie.spec Inv-loop μ-loop returns (λ c. omega arith) loop-holds (λ c. omega arith) (λ c. omega arith)
-    rising-at-requires (λ c. omega arith) (λ c. simp length-set (omega arith)) loop-again (λ c. omega arith)
-    loop-again-2 (λ c. c .before .loop .inv .size) returns-2)
+    (tie.spec Inv-loop μ-loop returns (λ c. omega arith) loop-holds (λ c. omega arith) level-at-requires
+    rising-at-requires (λ c. omega arith) (λ c. omega arith) (λ c. simp length-set (omega arith)) loop-again
+    (λ c. c .before .loop .inv .size) returns-2)

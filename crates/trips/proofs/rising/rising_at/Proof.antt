@@ -1,34 +1,38 @@
 -- `trips::rising::rising_at` meets its contract, by one law of pass B for each return.
 -- Assumes nothing.
-use Rattle.rules.proofs.Base.{arith, _∙_, needs}
+use Rattle.rules.proofs.Base.{arith, needs}
 use Rattle.rules.specs.Words.{at}
+use Rattle.trips.specs.Second.{ceiling-of}
 use Rattle.trips.proofs.Passes.{floor-few}
-use Rattle.trips.proofs.Seconds.{free-held, free-later, rising-still, rising-flat, rising-low, rising-cut}
+use Rattle.trips.proofs.Seconds.{free-held, free-later, risen-level, risen-still, risen-flat, risen-low, risen-cut}
 use Rattle.gears.proofs.Parts.{built, built-has}
 use Rattle.trips.proofs.rising.rising_at.Statement.{statement}
 use Rattle.trips.proofs.rising.rising_at.Tie as tie
 
 returns : tie.Need-returns
-returns c = let a = c .before .before .before .before .before .args in let q = c .before .before .before .before .before .pre in λ car H. q .4 ∙ rising-still car (a .us .now) (a .hs .now) (a .j) (a .gs .now) (free-held car (a .us .now) (a .hs .now) (a .j) (λ z. omega arith))
+returns c = let a = c .before .before .before .args in λ car H. risen-level car (a .us .now) (a .hs .now) (a .j) (a .last) (a .level) (a .g) (omega arith)
 
 returns-2 : tie.Need-returns-2
-returns-2 c = let a = c .before .before .before .before .before .before .before .before .args in let q = c .before .before .before .before .before .before .before .before .pre in λ car H. q .4 ∙ rising-flat car (a .us .now) (a .hs .now) (a .j) (a .gs .now) (omega arith)
+returns-2 c = let a = c .before .before .before .before .before .args in λ car H. risen-still car (a .us .now) (a .hs .now) (a .j) _ (a .g) (free-held car (a .us .now) (a .hs .now) (a .j) (λ z. omega arith))
 
 returns-3 : tie.Need-returns-3
-returns-3 c = let a = c .before .before .before .before .before .before .before .before .before .before .args in let q = c .before .before .before .before .before .before .before .before .before .before .pre in λ car H. q .4 ∙ rising-low car (a .us .now) (a .hs .now) (a .j) (a .gs .now) (omega (arith, q .4, c .before .ceiling-at .ensures))
-
-cast-result : tie.Need-cast-result
-cast-result c = let a = c .before .before .before .before .before .before .before .before .before .before .before .before .args in let q = c .before .before .before .before .before .before .before .before .before .before .before .before .pre in omega (arith, c .before .floor .ensures (built (a .k) (a .ratio .now)) (built-has (a .k) (a .ratio .now)), floor-few (a .k) (a .ratio .now) (at (a .us .now) (a .j)), q .0 .ng-to)
+returns-3 c = let a = c .before .before .before .before .before .before .before .before .args in λ car H. risen-flat car (a .us .now) (a .hs .now) (a .j) _ (a .g) (omega arith)
 
 returns-4 : tie.Need-returns-4
-returns-4 c = let a = c .before .before .before .before .before .before .before .before .before .before .before .before .args in let q = c .before .before .before .before .before .before .before .before .before .before .before .before .pre in λ car H. omega (arith, rising-cut car (a .us .now) (a .hs .now) (a .j) (a .gs .now) (free-later car (a .us .now) (a .hs .now) (a .j) (omega arith) (q .2 .from)) (omega arith) (omega (arith, q .4, c .before .before .before .ceiling-at .ensures)), c .before .before .before .ceiling-at .ensures, c .before .floor .ensures car H)
+returns-4 c = let a = c .before .before .before .before .before .before .before .before .before .before .args in λ car H. risen-low car (a .us .now) (a .hs .now) (a .j) (ceiling-of (a .last) (a .level)) (a .g) (omega (arith, c .if4 .taken, c .before .ceiling-of .ensures))
+
+cast-result : tie.Need-cast-result
+cast-result c = let s = c .before .before .before .before .before .before .before .before .before .before .before .before in let a = s .args in omega (arith, c .before .floor .ensures (built (a .k) (a .ratio .now)) (built-has (a .k) (a .ratio .now)), floor-few (a .k) (a .ratio .now) (at (a .us .now) (a .j)), s .pre .0 .ng-to)
 
 returns-5 : tie.Need-returns-5
-returns-5 c = let a = c .before .before .before .before .before .before .before .before .before .before .before .before .args in let q = c .before .before .before .before .before .before .before .before .before .before .before .before .pre in λ car H. omega (arith, rising-cut car (a .us .now) (a .hs .now) (a .j) (a .gs .now) (free-later car (a .us .now) (a .hs .now) (a .j) (omega arith) (q .2 .from)) (omega arith) (omega (arith, q .4, c .before .before .before .ceiling-at .ensures)), c .before .before .before .ceiling-at .ensures, c .before .floor .ensures car H)
+returns-5 c = let a = c .before .before .before .before .before .before .before .before .before .before .before .before .args in let e = c .before .before .before .ceiling-of .ensures in λ car H. omega (arith, risen-cut car (a .us .now) (a .hs .now) (a .j) (ceiling-of (a .last) (a .level)) (a .g) (free-later car (a .us .now) (a .hs .now) (a .j) (omega arith) (omega arith)) (omega arith) (omega (arith, e)), e, c .before .floor .ensures car H)
+
+returns-6 : tie.Need-returns-6
+returns-6 c = let a = c .before .before .before .before .before .before .before .before .before .before .before .before .args in let e = c .before .before .before .ceiling-of .ensures in λ car H. omega (arith, risen-cut car (a .us .now) (a .hs .now) (a .j) (ceiling-of (a .last) (a .level)) (a .g) (free-later car (a .us .now) (a .hs .now) (a .j) (omega arith) (omega arith)) (omega arith) (omega (arith, e)), e, c .before .floor .ensures car H)
 
 pub rising-at-spec : {M : Type 1} → statement M
 rising-at-spec =
     tie.close
-    (tie.spec (λ c. search needs) returns (λ c. search needs) (λ c. search needs) (λ c. search needs)
-    (λ c. search needs) (λ c. search needs) returns-2 (λ c κs. search needs) returns-3 (λ c κs. search needs)
-    cast-result returns-4 (λ c. search needs) returns-5)
+    (tie.spec returns (λ c. search needs) returns-2 (λ c. search needs) (λ c. search needs) (λ c. search needs)
+    (λ c. search needs) (λ c. search needs) returns-3 (λ c κs. search needs) returns-4 (λ c κs. search needs)
+    cast-result returns-5 (λ c. search needs) returns-6)

@@ -1,0 +1,69 @@
+-- `trips::work::later_choices` meets its contract. The loop's invariant: the slice holds the first choices up to second j.
+-- Assumes nothing.
+use Rattle.rules.proofs.Base.{ℕ, _+_, _-_, _≤_, _≡_, refl, sym, ap, _∙_, arith, Bool, List, needs, length, length-set, getD-set-same, false, eqb, ne-eqb}
+use Rattle.rules.specs.Words.{if_then_else_, _and_, at, pass}
+use Rattle.rules.proofs.Laws.Words.{and-no}
+use Rattle.trips.specs.Trip.{on-way}
+use Rattle.trips.proofs.Trip.{way-step, any-hints}
+use Rattle.trips.proofs.Passes.{pass-more}
+use Rattle.rules.specs.declared.Vehicle.{Vehicle}
+use Rattle.gears.specs.Parts.{Lent}
+use Rattle.gears.specs.Choosing.{Hints}
+use Rattle.trips.proofs.work.later_choices.Statement.{statement}
+use Rattle.trips.proofs.work.later_choices.Tie as tie
+
+-- none of the seconds is the trip's first, `last` is the first choice before second j, and the slice holds those up to it
+pub record Way (car : Vehicle) (us hs : List ℕ) (run : ℕ) (begins : Bool) (before : ℕ) (base gs : List ℕ) (last j : ℕ) : Type 0 where
+  pub not-first : (begins and eqb j 0) ≡ false
+  pub last-is : last ≡ (if eqb j 0 then before else at gs (j - 1))
+  pub so-far : gs ≡ pass (on-way car us hs begins run before) j base
+
+abbrev Inv-loop : tie.InvT-loop
+Inv-loop k ratio n p us hs run last from gs₀ j₀ before₀ gs j before =
+    (j ≤ length gs) × (length gs ≡ length gs₀) × Hints k (before .reached) (before .segment)
+    × ((car : Vehicle) → Lent car k ratio n p → (begins : Bool) (was : ℕ) (base : List ℕ) → Way car us hs run begins was base gs₀ (before₀ .gear) j₀ → Way car us hs run begins was base gs (before .gear) j)
+
+abbrev μ-loop : tie.MeasureT-loop
+μ-loop k ratio n p us hs run last from gs₀ j₀ before₀ gs j before = length gs - j
+
+loop-holds : tie.Need-loop-holds Inv-loop μ-loop
+loop-holds c = let s = c .before .before .before .before in (s .pre .3, refl, rw (c .lowest .ensures) (any-hints (s .pre .0)), λ car L begins was base w. w)
+
+choice-at-requires : tie.Need-choice-at-requires Inv-loop μ-loop
+choice-at-requires c κs =
+    let s = c .before .before .before .before .before .before in
+    let l = c .before .loop in
+    (s .pre .0, s .pre .1, record { speeds = s .pre .2 .speeds; inside = search needs }, l .inv .2)
+
+add-j : tie.Need-add-j Inv-loop μ-loop
+add-j c = let s = c .before .before .before .before .before .before .before in omega (arith, s .fits, s .pre .2, c .before .before .loop .inv .1, c .before .loop-test)
+
+loop-again : tie.Need-loop-again Inv-loop μ-loop
+loop-again c =
+    let a = c .before .before .before .before .before .before .before .args in
+    let l = c .before .before .loop in
+    let x : l .j + 1 - 1 ≡ l .j = omega arith in
+    let y : eqb (l .j + 1) 0 ≡ false = ne-eqb (l .j + 1) 0 (λ z. omega arith) in (
+      simp length-set (omega arith),
+      simp length-set (l .inv .1),
+      c .choice-at .ensures .1,
+      λ car L begins was base w₀. let w = l .inv .3 car L begins was base w₀ in record {
+        not-first = and-no _ _ y;
+        last-is = rw (y, x) (sym (getD-set-same (l .gs) (l .j) (c .choice-at .result .gear) 0 (omega arith)));
+        so-far = pass-more (on-way car (a .us .now) (a .hs .now) begins (a .run) was) base (l .gs) (l .j) (c .choice-at .result .gear) (w .so-far)
+            (way-step car (a .us .now) (a .hs .now) begins (a .run) was (l .before .gear) (l .j) (l .gs) (w .not-first) (w .last-is) (c .choice-at .ensures .0 car L));
+      },
+    )
+
+returns : tie.Need-returns Inv-loop μ-loop
+returns c =
+    let a = c .before .before .before .before .before .before .args in
+    let l = c .before .loop in
+    let e : l .j ≡ length (a .hs .now) = search needs in
+    λ car L begins was base f t d. l .inv .3 car L begins was base record { not-first = f; last-is = t; so-far = d } .so-far ∙ ap (λ (i : ℕ). pass (on-way car (a .us .now) (a .hs .now) begins (a .run) was) i base) e
+
+pub later-choices-spec : {M : Type 1} → statement M
+later-choices-spec =
+    tie.close
+    (tie.spec Inv-loop μ-loop (λ c κs. search needs) (λ c. search needs) loop-holds choice-at-requires (λ c. omega arith)
+    add-j (λ c. simp length-set (omega arith)) loop-again (λ c. search needs) returns)
