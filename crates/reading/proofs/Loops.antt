@@ -11,7 +11,7 @@ use Rattle.rules.proofs.Laws.Forms.{says-now, value-sound}
 use Rattle.rules.proofs.Laws.Gathers.{HoldFits, takes-hold, hold-sound}
 use Rattle.reading.specs.Progress.{holds-from, hold-row, Comes, Short, used}
 use Rattle.reading.proofs.Steps.{joined, went, passed, use-as-is, many-length}
-use Rattle.reading.proofs.GroupAnswers.{gear-first}
+use Rattle.reading.proofs.GroupAnswers.{first-there, gear-inside, gear-first}
 use Rattle.reading.proofs.StageAnswers.{all-filled}
 
 -- ---- k parts in a row, of which i are read: `keep` is what becomes of the others
@@ -129,48 +129,58 @@ module _ (job : List ℕ) (count next i : ℕ) where
 pub hold-fits : (job : List ℕ) (count next i : ℕ) {s g j : ℕ} → got (s, g) j ≡ hold count next .read job i → HoldFits count next (s, g)
 hold-fits job count next i e = takes-hold count next _ (says-now (sym e) (hold-sound count next .one-form job i) .taken)
 
--- ---- holds put into a room; what the next second must rise from is not kept
+-- ---- judged holds put into a room; what the next second must rise from is not kept
 
 pub record Putting (count : ℕ) (job : List ℕ) (k i place : ℕ) (room : List ℕ) (R : Read (List ℕ)) : Type 0 where
   pub next : ℕ
   pub left : Holds count job k i next place (λ hs. put hs room) R
+  pub all : Comes R
+  pub few : count ≤ 16384
 
-pub put-begins : (count : ℕ) (job : List ℕ) (k place : ℕ) (room : List ℕ) → Putting count job k 0 place room (used (λ hs. put hs room) (hold-row count k) job place)
-put-begins count job k place room = record { next = 0; left = holds-begin count job k 0 place (λ hs. put hs room) }
+pub put-begins : (count : ℕ) (job : List ℕ) (k place : ℕ) (room : List ℕ) → Comes (hold-row count k .read job place) → count ≤ 16384
+    → Putting count job k 0 place room (used (λ hs. put hs room) (hold-row count k) job place)
+put-begins count job k place room c f =
+    record { next = 0; left = holds-begin count job k 0 place (λ hs. put hs room); all = used-comes (λ hs. put hs room) (hold-row count k) job place c; few = f }
 
 module _ {count : ℕ} {job : List ℕ} {k i place : ℕ} {room : List ℕ} {R : Read (List ℕ)} (p : Putting count job k i place room R) where
   pub put-ends : k ≤ i → got room place ≡ R
   unfolding put
   put-ends h = ends (p .left) h
 
-  module _ (h : i < k) (r : Comes R) where
+  module _ (h : i < k) where
     here : Comes (hold count (p .next) .read job place)
-    here = comes-here (p .left) h r
+    here = comes-here (p .left) h (p .all)
 
-    pub put-second : Comes (group job place)
-    put-second = second-comes job count (p .next) place here
+    second : Comes (group job place)
+    second = second-comes job count (p .next) place here
+
+    fits : {s j : ℕ} → got s j ≡ group job place → {g l : ℕ} → got g l ≡ group job j → HoldFits count (p .next) (s, g)
+    fits e f = hold-fits job count (p .next) place (hold-comes job count (p .next) place here e f)
+
+    -- its second has one byte or two
+    pub put-short : Short (group job place)
+    put-short =
+        let b = gear-comes job count (p .next) place here (sym (second .comes)) in
+        record { there = second; small = omega (arith, p .few, fits (sym (second .comes)) (sym (b .comes)) .below) }
 
     module _ {s j : ℕ} (e : got s j ≡ group job place) where
-      pub put-gear : Comes (group job j)
-      put-gear = gear-comes job count (p .next) place here e
+      gear : Comes (group job j)
+      gear = gear-comes job count (p .next) place here e
 
-      module _ {g l : ℕ} (f : got g l ≡ group job j) where
-        the-hold : got (s, g) l ≡ hold count (p .next) .read job place
-        the-hold = hold-comes job count (p .next) place here e f
+      pub gear-there : j < length job
+      gear-there = first-there job j gear
 
-        pub put-fits : HoldFits count (p .next) (s, g)
-        put-fits = hold-fits job count (p .next) place the-hold
+      -- its gear is its group's first byte
+      module _ (b : at job j < 256) where
+        geared : got (at job j) (j + 1 + at job j / 128) ≡ group job j
+        geared = gear-first job j gear b (omega (arith, fits e (sym (gear .comes)) .byte))
 
-        pub put-again : Putting count job k (i + 1) l (set room s g) R
+        pub gear-ends : j + 1 + at job j / 128 ≤ length job
+        gear-ends = gear-inside job j gear b
+
+        pub second-fits : s < count
+        second-fits = fits e geared .below
+
+        pub put-again : Putting count job k (i + 1) (j + 1 + at job j / 128) (set room s (at job j)) R
         unfolding put
-        put-again = record { next = suc s; left = again (p .left) h the-hold }
-
-    -- its second has one byte or two, and its gear is its group's first byte
-    pub put-short : count ≤ 16384 → Short (group job place)
-    put-short top =
-        let a = put-second in
-        let b = put-gear (sym (a .comes)) in
-        record { there = a; small = omega (arith, top, put-fits (sym (a .comes)) (sym (b .comes)) .below) }
-
-    pub put-geared : {s j : ℕ} (e : got s j ≡ group job place) → at job j < 256 → got (at job j) (j + 1 + at job j / 128) ≡ group job j
-    put-geared {s} {j} e b = let g = put-gear e in gear-first job j g b (omega (arith, put-fits e (sym (g .comes)) .byte))
+        put-again = record { next = suc s; left = again (p .left) h (hold-comes job count (p .next) place here e geared); all = p .all; few = p .few }

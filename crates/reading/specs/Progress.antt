@@ -21,6 +21,12 @@ use Rattle.reading.specs.declared.Came.{Came}
 use Rattle.reading.specs.declared.Came.the-variants as came-is
 use Rattle.reading.specs.declared.Reading.{Reading}
 
+-- a byte of the job, and that it is there
+pub record ByteAt (job : List ℕ) (i r : ℕ) : Type 0 where
+  pub is : r ≡ at job i
+  pub small : r < 256
+  pub there : i < length job
+
 -- ---- how far reading came
 
 -- what reading as far as a place says of what was read on the way

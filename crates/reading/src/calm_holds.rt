@@ -4,6 +4,7 @@ ghost use Prim.Native.Nat.{_+_, _≤_, _<_};
 ghost use lib.ListN.{length};
 ghost use Rattle.reading.specs.Calm.{Geared, Follows, HeldAt};
 use crate::Brief;
+use crate::groups::byte_at;
 
 // The place after a gear of 1 to 255, which is its group's first byte; 0 where there is another value.
 fn gear_end(job: &[u8], place: usize) -> usize
@@ -52,11 +53,11 @@ pub fn calm_hold(job: &[u8], place: usize, next: usize, count: usize) -> Brief
     if end - 4 < place {
         return Brief { value: 0, next: 0 };
     }
-    let a = job[place] as usize;
+    let a = byte_at(job, place);
     if a < 128 {
         return calm_gear(job, place + 1, a, next, count);
     }
-    let b = job[place + 1] as usize;
+    let b = byte_at(job, place + 1);
     if b == 0 {
         return Brief { value: 0, next: 0 };
     }

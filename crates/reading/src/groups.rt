@@ -1,20 +1,28 @@
 // Groups: read with every test while the job is judged, and with none where they were judged before.
 ghost use mathlib.Core.Path.{_≡_};
 ghost use mathlib.Core.Bool.{true};
-ghost use Prim.Native.Nat.{_≤_};
+ghost use Prim.Native.Nat.{_≤_, _<_};
 ghost use lib.ListN.{length};
 ghost use Rattle.rules.specs.Refusals.{fault};
 ghost use Rattle.rules.specs.Groups.{got, group};
 ghost use Rattle.rules.specs.Forms.{value, bounded, many};
 ghost use Rattle.reading.specs.Reader.{group-as};
 ghost use lib.Seq.{sets};
-ghost use Rattle.reading.specs.Progress.{reached, Comes, Short, used};
+ghost use Rattle.reading.specs.Progress.{ByteAt, reached, Comes, Short, used};
 use crate::Brief;
 use crate::Came;
 use crate::Group;
 use crate::Judged;
 use crate::calm::calm_end;
 use rules::Refusal;
+
+// A byte of the job.
+pub fn byte_at(job: &[u8], i: usize) -> usize
+    requires { ⌜ i < length (now job) ⌝ }
+    ensures { λ r. ⌜ ByteAt (now (job .entry)) i r ⌝ }
+{
+    job[i] as usize
+}
 
 // A group: seven bits a byte, least significant first, the top bit set when more follow; one to three bytes, shortest form only.
 pub fn group_at(job: &[u8], at: usize) -> Group
@@ -24,14 +32,14 @@ pub fn group_at(job: &[u8], at: usize) -> Group
     if end <= at {
         return Group::Fault(Refusal::JobEndsEarly(end));
     }
-    let a = job[at] as u32;
+    let a = byte_at(job, at);
     if a < 128 {
         return Group::Value(a as u16, at + 1);
     }
     if end <= at + 1 {
         return Group::Fault(Refusal::JobEndsEarly(end));
     }
-    let b = job[at + 1] as u32;
+    let b = byte_at(job, at + 1);
     let two = a % 128 + 128 * (b % 128);
     if b < 128 {
         // A last byte of 0 adds nothing: there is a shorter form.
@@ -43,7 +51,7 @@ pub fn group_at(job: &[u8], at: usize) -> Group
     if end <= at + 2 {
         return Group::Fault(Refusal::JobEndsEarly(end));
     }
-    let c = job[at + 2] as u32;
+    let c = byte_at(job, at + 2);
     let three = two + 16384 * c;
     if c == 0 {
         return Group::Fault(Refusal::BadGroup(at));
@@ -125,14 +133,14 @@ pub fn value_at(job: &[u8], at: usize) -> Judged
     requires { ⌜ Comes (group (now job) at) ⌝ }
     ensures { λ r. ⌜ got (r .value) (r .next) ≡ group (now (job .entry)) at ⌝ }
 {
-    let a = job[at] as u32;
+    let a = byte_at(job, at);
     if a < 128 {
         return Judged {
             value: a as u16,
             next: at + 1,
         };
     }
-    let b = job[at + 1] as u32;
+    let b = byte_at(job, at + 1);
     // The top bits, 128 of the first byte and 128 times 128 of the second, are no part of the value.
     if b < 128 {
         let two = a + 128 * b - 128;
@@ -141,7 +149,7 @@ pub fn value_at(job: &[u8], at: usize) -> Judged
             next: at + 2,
         };
     }
-    let c = job[at + 2] as u32;
+    let c = byte_at(job, at + 2);
     let three = a + 128 * b + 16384 * c - 16512;
     Judged {
         value: three as u16,
@@ -154,14 +162,14 @@ pub fn short_at(job: &[u8], at: usize) -> Brief
     requires { ⌜ Short (group (now job) at) ⌝ }
     ensures { λ r. ⌜ got (r .value) (r .next) ≡ group (now (job .entry)) at ⌝ }
 {
-    let a = job[at] as usize;
+    let a = byte_at(job, at);
     if a < 128 {
         return Brief {
             value: a,
             next: at + 1,
         };
     }
-    let b = job[at + 1] as usize;
+    let b = byte_at(job, at + 1);
     Brief {
         value: a + 128 * b - 128,
         next: at + 2,

@@ -14,7 +14,7 @@ use crate::says::say_values;
 use rules::Vehicle;
 use summaries::Counted;
 
-// What a line asks of its job: its first letter and its first two numbers.
+// What a line asks for: its first letter and its first two numbers.
 struct Asked {
     verb: u8,
     one: u16,
@@ -42,7 +42,12 @@ fn edited(
     }
 }
 
-fn show<'a>(now: Counted, speeds: &'a [u16], holds: &'a [u8], card: &'a [u8]) {
+// The trace worked, then edited, and all that is left of it.
+fn screen(asked: Asked, car: Vehicle, speeds: &mut [u16], holds: &mut [u8], card: &mut [u8]) {
+    let answer = cards::work(car, speeds, holds, card);
+    let counted = summaries::summary_of(speeds, card);
+    let summary = counted.summary;
+    let now = edited(asked, car, speeds, holds, card, Counted { answer, summary });
     let told = now.answer;
     let counts = now.summary;
     say_answer(told);
@@ -50,15 +55,6 @@ fn show<'a>(now: Counted, speeds: &'a [u16], holds: &'a [u8], card: &'a [u8]) {
     say_bytes(holds);
     say_bytes(card);
     say_summary(counts);
-}
-
-fn screen(asked: Asked, car: Vehicle, speeds: &mut [u16], holds: &mut [u8], card: &mut [u8]) {
-    let answer = cards::work(car, speeds, holds, card);
-    let counted = summaries::summary_of(speeds, card);
-    let summary = counted.summary;
-    let worked = Counted { answer, summary };
-    let now = edited(asked, car, speeds, holds, card, worked);
-    show(now, speeds, holds, card);
 }
 
 // The job written into a room, and that room.
@@ -69,76 +65,40 @@ fn save<'a>(version: u16, car: Vehicle, speeds: &'a [u16], holds: &'a [u8], room
     say_bytes(room);
 }
 
-fn save_in<'a>(asked: Asked, car: Vehicle, speeds: &'a [u16], holds: &'a [u8], room: &mut [u8]) {
-    let m = wide(asked.two);
-    if room.len() < m {
-        return;
-    }
+// In a room of so many bytes.
+fn save_in<'a>(asked: Asked, car: Vehicle, speeds: &'a [u16], holds: &'a [u8]) {
+    let mut room = [7u8; 256];
+    let m = at_most(wide(asked.two), 256);
     save(asked.one, car, speeds, holds, &mut room[..m]);
 }
 
-// The job that was read is written, or worked.
-fn of_trace(asked: Asked, car: Vehicle, speeds: &mut [u16], holds: &mut [u8], card: &mut [u8]) {
-    if asked.verb == b's' {
-        let mut room = [7u8; 256];
-        save_in(asked, car, speeds, holds, &mut room);
-        return;
-    }
-    screen(asked, car, speeds, holds, card);
-}
-
-// In the rooms' first n places.
-fn of_car(
-    asked: Asked,
-    car: Vehicle,
-    n: usize,
-    speeds: &mut [u16],
-    holds: &mut [u8],
-    card: &mut [u8],
-) {
-    if speeds.len() < n {
-        return;
-    }
-    if holds.len() < n {
-        return;
-    }
-    if card.len() < n {
-        return;
-    }
-    of_trace(
-        asked,
-        car,
-        &mut speeds[..n],
-        &mut holds[..n],
-        &mut card[..n],
-    );
-}
-
-// The job read into the rooms, and what is asked of it then.
-fn in_rooms(asked: Asked, job: &[u8], speeds: &mut [u16], holds: &mut [u8], card: &mut [u8]) {
-    let read = reading::read(job, speeds, holds);
-    let n = read.count;
-    let car = read.vehicle;
-    let told = read.answer;
-    if asked.verb == b'j' {
-        say_answer(told);
-        say_values(speeds);
-        say_bytes(holds);
-        return;
-    }
-    of_car(asked, car, n, speeds, holds, card);
-}
-
-fn of_job(line: Line, job: &[u8]) {
-    let asked = Asked {
-        verb: line.verb,
-        one: line.numbers[1],
-        two: line.numbers[2],
-    };
+// The job read, and what is asked of it then.
+fn of_job(asked: Asked, job: &[u8]) {
     let mut speeds = [7u16; 24];
     let mut holds = [7u8; 24];
-    let mut card = [99u8; 24];
-    in_rooms(asked, job, &mut speeds, &mut holds, &mut card);
+    let read = reading::read(job, &mut speeds, &mut holds);
+    let n = at_most(read.count, 24);
+    let car = read.vehicle;
+    let verb = asked.verb;
+    match verb {
+        b'j' => {
+            let told = read.answer;
+            say_answer(told);
+            say_values(&speeds);
+            say_bytes(&holds);
+        }
+        b's' => save_in(asked, car, &speeds[..n], &holds[..n]),
+        _ => {
+            let mut card = [99u8; 24];
+            screen(
+                asked,
+                car,
+                &mut speeds[..n],
+                &mut holds[..n],
+                &mut card[..n],
+            );
+        }
+    }
 }
 
 // F1 may be negative: its sign.
@@ -163,9 +123,9 @@ fn of_export(bytes: &[u8]) {
     say_value(read.tm);
 }
 
-fn fill(line: Line, room: &mut [u16]) {
-    let number = line.numbers[1] as u32;
-    if line.verb == b'f' {
+fn fill(asked: Asked, room: &mut [u16]) {
+    let number = asked.one as u32;
+    if asked.verb == b'f' {
         let told = cycles::fill(number, room);
         say_answer(told);
         say_number(cycles::part_of(room, number).len() as u64);
@@ -176,41 +136,40 @@ fn fill(line: Line, room: &mut [u16]) {
 }
 
 // The speeds at the places that the line names.
-fn say_places(line: Line, room: &[u16]) {
+fn say_places(line: Line, room: [u16; 2048]) {
     say(b",");
     let last = at_most(line.last, 127);
     let mut i = 3;
     while i <= last {
         let at = wide(line.numbers[i]);
-        if at < room.len() {
+        if at < 2048 {
             say_value(room[at]);
         }
         i += 1;
     }
 }
 
-fn in_room(line: Line, room: &mut [u16]) {
-    let n = wide(line.numbers[2]);
-    if room.len() < n {
-        return;
-    }
-    fill(line, &mut room[..n]);
-    say_places(line, room);
-}
-
-fn of_cycle(line: Line) {
+// In a room's first places.
+fn of_cycle(asked: Asked, line: Line) {
     let mut room = [9999u16; 2048];
-    in_room(line, &mut room);
+    let n = at_most(wide(asked.two), 2048);
+    fill(asked, &mut room[..n]);
+    say_places(line, room);
 }
 
 pub fn run_line(line: Line, job: Job) {
     let bytes = job.bytes;
     let part = begun(&bytes, job.end);
     let verb = line.verb;
+    let asked = Asked {
+        verb,
+        one: line.numbers[1],
+        two: line.numbers[2],
+    };
     match verb {
-        b'j' | b's' | b'w' | b'h' | b'r' | b'm' => of_job(line, part),
+        b'j' | b's' | b'w' | b'h' | b'r' | b'm' => of_job(asked, part),
         b'e' => of_export(part),
-        b'f' | b'd' => of_cycle(line),
+        b'f' | b'd' => of_cycle(asked, line),
         _ => {}
     }
 }

@@ -8,13 +8,6 @@ use Rattle.cycles.proofs.Stretches.{accepted-room}
 use Rattle.cycles.proofs.filling.fill.Statement.{statement}
 use Rattle.cycles.proofs.filling.fill.Tie as tie
 
-returns : tie.Need-returns
-unfolding fill-room
-returns c = let said = c .before .before .check .ensures in (said, untouched said _ _ (c .enum-told2 .given .1))
-
-copy-in-requires : tie.Need-copy-in-requires
-copy-in-requires c κs = accepted-room _ _ (passed (c .before .before .before .before .check .ensures) (c .before .before .enum-told .given .1))
-
 returns-2 : tie.Need-returns-2
 unfolding fill-room cycle low medium high extra-high
 returns-2 c =
@@ -23,7 +16,8 @@ returns-2 c =
     (w .0, c .before .before .copy-in .ensures ∙ w .1)
 
 pub fill-spec : {M : Type 1} → statement M
+unfolding fill-room
 fill-spec =
     tie.close
-    (tie.spec (λ c κs. search needs) (λ c. search needs) (λ c. search needs) returns (λ c. search needs)
-    copy-in-requires (λ c. search needs) returns-2)
+    (tie.spec (λ c κs. search needs) (λ c. search needs) (λ c. search needs) (λ c. let said = c .before .before .check .ensures in (said, untouched said _ _ (c .enum-told2 .given .1))) (λ c. search needs)
+    (λ c κs. accepted-room _ _ (passed (c .before .before .before .before .check .ensures) (c .before .before .enum-told .given .1))) (λ c. search needs) returns-2)

@@ -6,28 +6,6 @@ use Rattle.cycles.proofs.Stretches.{no-second}
 use Rattle.cycles.proofs.parts.first_second.Statement.{statement}
 use Rattle.cycles.proofs.parts.first_second.Tie as tie
 
-returns : tie.Need-returns
-unfolding first-second
-returns c = rw (c .match .keys1)
-
-returns-2 : tie.Need-returns-2
-unfolding first-second
-returns-2 c = rw (c .match .keys2)
-
-returns-3 : tie.Need-returns-3
-unfolding first-second
-returns-3 c = rw (c .match .keys3)
-
-returns-4 : tie.Need-returns-4
-unfolding first-second
-returns-4 c = rw (c .match .keys4)
-
-returns-5 : tie.Need-returns-5
-unfolding first-second
-returns-5 c = rw (c .match .keys5)
-
-returns-6 : tie.Need-returns-6
-returns-6 c = let n = c .match .rest in sym (no-second _ (n .0 .0 .0 .0 .1) (n .0 .0 .0 .1) (n .0 .0 .1) (n .0 .1) (n .1) .0)
-
 pub first-second-spec : {M : Type 1} → statement M
-first-second-spec = tie.close (tie.spec returns returns-2 returns-3 returns-4 returns-5 returns-6)
+unfolding first-second
+first-second-spec = tie.close (tie.spec (λ c. rw (c .match .keys1)) (λ c. rw (c .match .keys2)) (λ c. rw (c .match .keys3)) (λ c. rw (c .match .keys4)) (λ c. rw (c .match .keys5)) (λ c. let n = c .match .rest in sym (no-second _ (n .0 .0 .0 .0 .1) (n .0 .0 .0 .1) (n .0 .0 .1) (n .0 .1) (n .1) .0)))

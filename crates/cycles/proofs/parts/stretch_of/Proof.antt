@@ -7,23 +7,14 @@ use Rattle.cycles.proofs.Stretches.{ordered, stretch-part, no-stretch}
 use Rattle.cycles.proofs.parts.stretch_of.Statement.{statement}
 use Rattle.cycles.proofs.parts.stretch_of.Tie as tie
 
-returns : tie.Need-returns
-unfolding said
-returns c = sym (no-stretch _ _ (sym (c .before .before .check .ensures) ∙ ap said (c .enum-told2 .given .1)))
-
-add-t6 : tie.Need-add-t6
-add-t6 c = omega (arith, ordered (c .before .before .before .before .before .args .part) .1, c .last-second .ensures)
-
-sub-t7 : tie.Need-sub-t7
-sub-t7 c = omega (arith, ordered (c .before .before .before .before .before .args .part) .0, c .last-second .ensures, c .before .first-second .ensures)
-
 returns-2 : tie.Need-returns-2
 returns-2 c =
     let p = c .before .before in
     rw (c .last-second .ensures, c .before .first-second .ensures) (sym (stretch-part _ _ (passed (p .before .before .check .ensures) (p .enum-told .given .1))))
 
 pub stretch-of-spec : {M : Type 1} → statement M
+unfolding said
 stretch-of-spec =
     tie.close
-    (tie.spec (λ c κs. search needs) (λ c. search needs) (λ c. search needs) returns (λ c κs. search needs)
-    (λ c κs. search needs) add-t6 sub-t7 returns-2)
+    (tie.spec (λ c κs. search needs) (λ c. search needs) (λ c. search needs) (λ c. sym (no-stretch _ _ (sym (c .before .before .check .ensures) ∙ ap said (c .enum-told2 .given .1)))) (λ c κs. search needs)
+    (λ c κs. search needs) (λ c. omega (arith, ordered (c .before .before .before .before .before .args .part) .1, c .last-second .ensures)) (λ c. omega (arith, ordered (c .before .before .before .before .before .args .part) .0, c .last-second .ensures, c .before .first-second .ensures)) returns-2)

@@ -6,17 +6,6 @@ use Rattle.downscale.specs.Steps.{down-fault}
 use Rattle.downscale.proofs.checks.check.Statement.{statement}
 use Rattle.downscale.proofs.checks.check.Tie as tie
 
-returns : tie.Need-returns
-unfolding said down-fault refuse-at _orelse_ when
-returns c = rw (lt-ltb 500 _ (c .if1 .taken))
-
-returns-2 : tie.Need-returns-2
-unfolding said down-fault refuse-at _orelse_ when
-returns-2 c = rw (le-ltb 500 _ (c .before .if1 .left), ne-eqb _ _ (c .if2 .taken))
-
-returns-3 : tie.Need-returns-3
-unfolding said down-fault refuse-at _orelse_ when
-returns-3 c = rw (le-ltb 500 _ (c .before .if1 .left), eq-eqb _ _ (c .if2 .left))
-
 pub check-spec : {M : Type 1} → statement M
-check-spec = tie.close (tie.spec returns returns-2 returns-3)
+unfolding said down-fault refuse-at _orelse_ when
+check-spec = tie.close (tie.spec (λ c. rw (lt-ltb 500 _ (c .if1 .taken))) (λ c. rw (le-ltb 500 _ (c .before .if1 .left), ne-eqb _ _ (c .if2 .taken))) (λ c. rw (le-ltb 500 _ (c .before .if1 .left), eq-eqb _ _ (c .if2 .left))))

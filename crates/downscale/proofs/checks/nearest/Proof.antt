@@ -6,14 +6,7 @@ use Rattle.downscale.proofs.Rounding.{nearest-most}
 use Rattle.downscale.proofs.checks.nearest.Statement.{statement}
 use Rattle.downscale.proofs.checks.nearest.Tie as tie
 
-cast-result : tie.Need-cast-result
-unfolding nearest
-cast-result c = let h = nearest-most (c .args .whole) (c .pre .0) (c .args .sum) 65535 (c .pre .2) in record { fits = omega arith }
-
-returns : tie.Need-returns
-unfolding nearest
-returns c = refl
-
 pub nearest-spec : {M : Type 1} → statement M
+unfolding nearest
 nearest-spec =
-    tie.close (tie.spec (λ c. search needs) (λ c. search needs) (λ c. search needs) (λ c. search needs) cast-result returns)
+    tie.close (tie.spec (λ c. search needs) (λ c. search needs) (λ c. search needs) (λ c. search needs) (λ c. let h = nearest-most (c .args .whole) (c .pre .0) (c .args .sum) 65535 (c .pre .2) in record { fits = omega arith }) (λ c. refl))

@@ -27,10 +27,6 @@ filled-is q = q .fill .ensures .1 ∙ filled-cycle _ (length-fine (q .before .be
 filled-length : (q : tie.After-fill) → length (q .fill .last .1 .0) ≡ 1801
 filled-length q = ap length (filled-is q) ∙ length-cycle
 
-returns : tie.Need-returns
-unfolding down-room
-returns c = let said = c .before .before .check .ensures in (said, untouched said _ _ (c .enum-told2 .given .1))
-
 draw-requires : tie.Need-draw-requires
 draw-requires c κs =
     let p = c .before .before .before .before .before in
@@ -50,7 +46,8 @@ returns-2 c =
     (w .0, drawn-whole _ (factor-fine p) (filled-is q) (c .before .before .before .before .before .before .draw .ensures) (c .before .before .draw2 .ensures) ∙ w .1)
 
 pub downscale-spec : {M : Type 1} → statement M
+unfolding down-room
 downscale-spec =
     tie.close
-    (tie.spec (λ c κs. search needs) (λ c. search needs) (λ c. search needs) returns (λ c κs. search needs)
+    (tie.spec (λ c κs. search needs) (λ c. search needs) (λ c. search needs) (λ c. let said = c .before .before .check .ensures in (said, untouched said _ _ (c .enum-told2 .given .1))) (λ c κs. search needs)
     draw-requires (λ c. search needs) draw-requires-2 (λ c. search needs) returns-2)

@@ -11,10 +11,7 @@ sum-most : (c : tie.Start) → (c .args .whole - c .args .parts) * c .args .spee
 unfolding drawn
 sum-most c = drawn-most (c .args .whole) (c .args .parts) (c .args .rest) (c .pre .parts) (c .args .speed) 65535 (omega arith) (c .pre .speed)
 
-returns : tie.Need-returns
-unfolding drawn-speed drawn
-returns c = c .nearest .ensures
-
 pub drawn-spec : {M : Type 1} → statement M
+unfolding drawn-speed drawn
 drawn-spec =
-    tie.close (tie.spec (λ c. search needs) (λ c. let h = sum-most c in search needs) (λ c. let h = sum-most c in search needs) (λ c. let h = sum-most c in search needs) (λ c κs. (c .pre .from, c .pre .to, sum-most c)) returns)
+    tie.close (tie.spec (λ c. search needs) (λ c. let h = sum-most c in search needs) (λ c. let h = sum-most c in search needs) (λ c. let h = sum-most c in search needs) (λ c κs. (c .pre .from, c .pre .to, sum-most c)) (λ c. c .nearest .ensures))

@@ -12,15 +12,6 @@ Inv-loop room₀ first end whole factor start sum i₀ before₀ total₀ room i
 abbrev μ-loop : tie.MeasureT-loop
 μ-loop room₀ first end whole factor start sum i₀ before₀ total₀ room i before total = end - i
 
-slice-write-room : tie.Need-slice-write-room Inv-loop μ-loop
-slice-write-room c = let h = c .before .before .before .before .loop .inv in omega (arith, h .changed .size, h .long)
-
-loop-again : tie.Need-loop-again Inv-loop μ-loop
-loop-again c = again (c .before .before .before .before .loop .inv) (omega arith) refl (c .before .step-on .ensures) _ (c .nearest .ensures)
-
-returns : tie.Need-returns Inv-loop μ-loop
-returns c = let h = c .before .loop .inv in (ends h (omega (arith, h .to)), upto (h .changed) (omega (arith, h .to)))
-
 pub add-steps-spec : {M : Type 1} → statement M
 add-steps-spec =
     tie.close
@@ -32,6 +23,6 @@ add-steps-spec =
     (λ c κs. asks (c .before .before .loop .inv))
     (λ c κs. rounds (c .before .before .before .loop .inv) (omega arith) refl (c .step-on .ensures))
     (λ c. let h = c .before .before .before .before .loop .inv .in-cycle in search needs)
-    slice-write-room
+    (λ c. let h = c .before .before .before .before .loop .inv in omega (arith, h .changed .size, h .long))
     (λ c. let h = c .before .before .before .before .loop .inv .in-cycle in search needs)
-    (λ c. search needs) loop-again (λ c. c .before .loop .inv .changed .size) returns)
+    (λ c. search needs) (λ c. again (c .before .before .before .before .loop .inv) (omega arith) refl (c .before .step-on .ensures) _ (c .nearest .ensures)) (λ c. c .before .loop .inv .changed .size) (λ c. let h = c .before .loop .inv in (ends h (omega (arith, h .to)), upto (h .changed) (omega (arith, h .to)))))

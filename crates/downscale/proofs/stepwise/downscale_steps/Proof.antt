@@ -27,13 +27,6 @@ filled-is q = q .fill .ensures .1 ∙ filled-cycle _ (length-fine (q .before .be
 peak-there : (q : tie.After-add-steps) → let f = q .before .before .before .before .before .before .before .before .before .before .args .factor in q .add-steps .result ≡ (1000 - f) * 1313 + f * 600
 peak-there q = peak-is _ (factor-fine (q .before .before .before .before .before .before)) (q .add-steps .ensures .0)
 
-returns : tie.Need-returns
-unfolding down-room
-returns c = let said = c .before .before .check .ensures in (said, untouched said _ _ (c .enum-told2 .given .1))
-
-add-steps-requires : tie.Need-add-steps-requires
-add-steps-requires c κs = rise-begins _ (factor-fine (c .before .before .before .before .before)) (filled-is (c .before .before .before))
-
 sub-add-steps-2 : tie.Need-sub-add-steps-2
 sub-add-steps-2 c =
     let q = c .before .before .before in
@@ -61,9 +54,10 @@ returns-2 c =
     (w .0, stepped-whole _ (factor-fine p) (filled-is (q .before .before .before .before)) (q .add-steps .ensures .1) (peak-there q) (c .before .before .add-steps2 .ensures .1) ∙ w .1)
 
 pub downscale-steps-spec : {M : Type 1} → statement M
+unfolding down-room
 downscale-steps-spec =
     tie.close
-    (tie.spec (λ c κs. search needs) (λ c. search needs) (λ c. search needs) returns (λ c κs. search needs)
+    (tie.spec (λ c κs. search needs) (λ c. search needs) (λ c. search needs) (λ c. let said = c .before .before .check .ensures in (said, untouched said _ _ (c .enum-told2 .given .1))) (λ c κs. search needs)
     (λ c. let f = factor-fine (c .before .before .before .before .before) in omega arith)
-    (λ c. search needs) add-steps-requires (λ c. search needs) sub-add-steps-2 mul-add-steps-3 add-steps-requires-2
+    (λ c. search needs) (λ c κs. rise-begins _ (factor-fine (c .before .before .before .before .before)) (filled-is (c .before .before .before))) (λ c. search needs) sub-add-steps-2 mul-add-steps-3 add-steps-requires-2
     (λ c. search needs) returns-2)

@@ -5,9 +5,6 @@ use Rattle.exports.specs.Export.{none-yet}
 use Rattle.exports.proofs.Found.none_yet.Statement.{statement}
 use Rattle.exports.proofs.Found.none_yet.Tie as tie
 
-returns : tie.Need-returns
-unfolding ofBits none-yet
-returns c = refl
-
 pub none-yet-spec : {M : Type 1} → statement M
-none-yet-spec = tie.close (tie.spec returns)
+unfolding ofBits none-yet
+none-yet-spec = tie.close (tie.spec (λ c. refl))

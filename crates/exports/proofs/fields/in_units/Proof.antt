@@ -6,14 +6,6 @@ use Rattle.exports.proofs.Sizes.{f1-short, f0-plain, f2-plain}
 use Rattle.exports.proofs.fields.in_units.Statement.{statement}
 use Rattle.exports.proofs.fields.in_units.Tie as tie
 
-whole-requires : tie.Need-whole-requires
-unfolding F0
-whole-requires c κs = (c .pre .f0-in, f0-plain)
-
-whole-requires-2 : tie.Need-whole-requires-2
-unfolding F2
-whole-requires-2 c κs = (c .before .before .pre .f2-in, f2-plain)
-
 returns : tie.Need-returns
 unfolding F0 F2
 returns c =
@@ -22,4 +14,5 @@ returns c =
     record { f0-is = c .before .before .whole .ensures; f1-is = rw f (toZ-ofZ (f1-short (s .args .c .f1) (s .pre .f1-in))); f2-is = c .whole2 .ensures }
 
 pub in-units-spec : {M : Type 1} → statement M
-in-units-spec = tie.close (tie.spec whole-requires (λ c κs. search needs) whole-requires-2 returns)
+unfolding F0 F2
+in-units-spec = tie.close (tie.spec (λ c κs. (c .pre .f0-in, f0-plain)) (λ c κs. search needs) (λ c κs. (c .before .before .pre .f2-in, f2-plain)) returns)

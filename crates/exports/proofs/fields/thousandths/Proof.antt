@@ -7,17 +7,6 @@ use Rattle.exports.proofs.Sizes.{f1-short, f1-fair}
 use Rattle.exports.proofs.fields.thousandths.Statement.{statement}
 use Rattle.exports.proofs.fields.thousandths.Tie as tie
 
-scaled-requires : tie.Need-scaled-requires
-unfolding F1
-scaled-requires c κs = moderate F1 (c .args .x) f1-fair (c .pre)
-
-cast-result : tie.Need-cast-result
-unfolding F1 units
-cast-result c = rw (toZ-ofZ (c .scaled .ensures .1), c .scaled .ensures .0) (f1-short (c .before .args .x) (c .before .pre))
-
-returns : tie.Need-returns
-unfolding F1 units
-returns c = rw (toZ-ofZ (c .scaled .ensures .1), c .scaled .ensures .0) (toZ-ofZ (f1-short (c .before .args .x) (c .before .pre)))
-
 pub thousandths-spec : {M : Type 1} → statement M
-thousandths-spec = tie.close (tie.spec scaled-requires cast-result returns)
+unfolding F1 units
+thousandths-spec = tie.close (tie.spec (λ c κs. moderate F1 (c .args .x) f1-fair (c .pre)) (λ c. rw (toZ-ofZ (c .scaled .ensures .1), c .scaled .ensures .0) (f1-short (c .before .args .x) (c .before .pre))) (λ c. rw (toZ-ofZ (c .scaled .ensures .1), c .scaled .ensures .0) (toZ-ofZ (f1-short (c .before .args .x) (c .before .pre)))))

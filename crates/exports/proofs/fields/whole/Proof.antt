@@ -6,14 +6,8 @@ use Rattle.exports.proofs.Sizes.{size-is}
 use Rattle.exports.proofs.fields.whole.Statement.{statement}
 use Rattle.exports.proofs.fields.whole.Tie as tie
 
-size-of-requires : tie.Need-size-of-requires
-size-of-requires c κs = let m = moderate (c .args .field) (c .args .x) (c .pre .1 .fair) (c .pre .0) in (m .below, m .scale)
-
 cast-result : tie.Need-cast-result
 cast-result c = let n = size-is (c .before .args .field) (c .before .args .x) (c .before .pre .1) (c .before .pre .0) in let e = c .size-of .ensures in omega (arith, n)
 
-returns : tie.Need-returns
-returns c = ap pos (c .size-of .ensures .0) ∙ size-is (c .before .args .field) (c .before .args .x) (c .before .pre .1) (c .before .pre .0) .0
-
 pub whole-spec : {M : Type 1} → statement M
-whole-spec = tie.close (tie.spec (λ c. no-nan (c .args .x) (c .pre .0 .is .number)) size-of-requires cast-result returns)
+whole-spec = tie.close (tie.spec (λ c. no-nan (c .args .x) (c .pre .0 .is .number)) (λ c κs. let m = moderate (c .args .field) (c .args .x) (c .pre .1 .fair) (c .pre .0) in (m .below, m .scale)) cast-result (λ c. ap pos (c .size-of .ensures .0) ∙ size-is (c .before .args .field) (c .before .args .x) (c .before .pre .1) (c .before .pre .0) .0))

@@ -5,14 +5,11 @@ use Rattle.exports.specs.Floats.{four-bytes}
 use Rattle.exports.proofs.floats.bits_at.Statement.{statement}
 use Rattle.exports.proofs.floats.bits_at.Tie as tie
 
-returns : tie.Need-returns
-unfolding four-bytes
-returns c = omega arith
-
 pub bits-at-spec : {M : Type 1} → statement M
+unfolding four-bytes
 bits-at-spec =
     tie.close
     (tie.spec (λ c. search needs) (λ c κs. search needs) (λ c. search needs) (λ c. search needs) (λ c κs. search needs)
     (λ c. search needs) (λ c. search needs) (λ c. search needs) (λ c. search needs) (λ c κs. search needs)
     (λ c. search needs) (λ c. search needs) (λ c. search needs) (λ c. search needs) (λ c κs. search needs)
-    (λ c. search needs) (λ c. search needs) returns)
+    (λ c. search needs) (λ c. search needs) (λ c. omega arith))

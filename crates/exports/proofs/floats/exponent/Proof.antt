@@ -5,9 +5,6 @@ use Rattle.exports.specs.Bits.{exponent}
 use Rattle.exports.proofs.floats.exponent.Statement.{statement}
 use Rattle.exports.proofs.floats.exponent.Tie as tie
 
-returns : tie.Need-returns
-unfolding exponent
-returns c = omega arith
-
 pub exponent-spec : {M : Type 1} → statement M
-exponent-spec = tie.close (tie.spec returns)
+unfolding exponent
+exponent-spec = tie.close (tie.spec (λ c. omega arith))

@@ -5,13 +5,6 @@ use Rattle.exports.specs.Bits.{shift}
 use Rattle.exports.proofs.floats.shift.Statement.{statement}
 use Rattle.exports.proofs.floats.shift.Tie as tie
 
-returns : tie.Need-returns
-unfolding shift
-returns c = (rw (eq-eqb _ 0 (sym (c .before .exponent .ensures .0) ∙ c .if1 .taken)), omega arith)
-
-returns-2 : tie.Need-returns-2
-unfolding shift
-returns-2 c = (rw (ne-eqb _ 0 (λ e. c .if1 .left (c .before .exponent .ensures .0 ∙ e)), c .before .exponent .ensures .0), omega arith)
-
 pub shift-spec : {M : Type 1} → statement M
-shift-spec = tie.close (tie.spec (λ c κs. search needs) returns (λ c. search needs) returns-2)
+unfolding shift
+shift-spec = tie.close (tie.spec (λ c κs. search needs) (λ c. (rw (eq-eqb _ 0 (sym (c .before .exponent .ensures .0) ∙ c .if1 .taken)), omega arith)) (λ c. search needs) (λ c. (rw (ne-eqb _ 0 (λ e. c .if1 .left (c .before .exponent .ensures .0 ∙ e)), c .before .exponent .ensures .0), omega arith)))

@@ -6,9 +6,6 @@ use Rattle.exports.proofs.Sizes.{product-low, tiny-size, rounded, sum-l
 use Rattle.exports.proofs.floats.size_of.Statement.{statement}
 use Rattle.exports.proofs.floats.size_of.Tie as tie
 
-mul-product : tie.Need-mul-product
-mul-product c = let m = product-low (c .before .args .scale) (c .significand .result) (omega arith) (omega arith) in omega arith
-
 returns : tie.Need-returns
 returns c =
     let s = c .before .before .before in
@@ -38,5 +35,5 @@ returns-2 c =
 pub size-of-spec : {M : Type 1} → statement M
 size-of-spec =
     tie.close
-    (tie.spec (λ c κs. search needs) mul-product (λ c κs. search needs) returns mul-result (λ c. search needs)
+    (tie.spec (λ c κs. search needs) (λ c. let m = product-low (c .before .args .scale) (c .significand .result) (omega arith) (omega arith) in omega arith) (λ c κs. search needs) returns mul-result (λ c. search needs)
     (λ c. search needs) add-result (λ c. search needs) (λ c. search needs) (λ c. search needs) returns-2)

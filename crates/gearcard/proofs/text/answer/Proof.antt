@@ -7,21 +7,6 @@ use Rattle.gearcard.proofs.Jobs.{room-is, printed-done, printed-stop}
 use Rattle.gearcard.proofs.text.answer.Statement.{statement}
 use Rattle.gearcard.proofs.text.answer.Tie as tie
 
-slice-aggregate-put-worked : tie.Need-slice-aggregate-put-worked
-slice-aggregate-put-worked c = let w = rooms (c .before .before .before .before .before .before .read .ensures) in sym (length-take-le _ _ (w .speeds-fit))
-
-array-share-prefix-holds : tie.Need-array-share-prefix-holds
-array-share-prefix-holds c = let w = rooms (c .before .before .before .before .before .before .read .ensures) in w .holds-fit
-
-slice-aggregate-put-worked-2 : tie.Need-slice-aggregate-put-worked-2
-slice-aggregate-put-worked-2 c = let w = rooms (c .before .before .before .before .before .before .before .read .ensures) in sym (length-take-le _ _ (w .holds-fit))
-
-array-borrow-prefix-card : tie.Need-array-borrow-prefix-card
-array-borrow-prefix-card c = let w = rooms (c .before .before .before .before .before .before .before .read .ensures) in w .few
-
-slice-aggregate-put-worked-3 : tie.Need-slice-aggregate-put-worked-3
-slice-aggregate-put-worked-3 c = let w = rooms (c .before .before .before .before .before .before .before .before .read .ensures) in sym (length-take-le _ _ (w .few))
-
 put-worked-requires : tie.Need-put-worked-requires
 put-worked-requires c κs =
     let p = c .before .before .before .before .before .before .before .before .before in
@@ -46,6 +31,6 @@ answer-spec =
     tie.close
     (tie.spec (λ c. search needs) (λ c. search needs) (λ c κs. search needs) (λ c. search needs)
     (λ c. let w = rooms (c .before .before .before .before .before .read .ensures) in w .speeds-fit)
-    slice-aggregate-put-worked array-share-prefix-holds slice-aggregate-put-worked-2 array-borrow-prefix-card
-    slice-aggregate-put-worked-3 put-worked-requires (λ c. search needs) (λ c κs. search needs) (λ c κs. search needs)
+    (λ c. let w = rooms (c .before .before .before .before .before .before .read .ensures) in sym (length-take-le _ _ (w .speeds-fit))) (λ c. let w = rooms (c .before .before .before .before .before .before .read .ensures) in w .holds-fit) (λ c. let w = rooms (c .before .before .before .before .before .before .before .read .ensures) in sym (length-take-le _ _ (w .holds-fit))) (λ c. let w = rooms (c .before .before .before .before .before .before .before .read .ensures) in w .few)
+    (λ c. let w = rooms (c .before .before .before .before .before .before .before .before .read .ensures) in sym (length-take-le _ _ (w .few))) put-worked-requires (λ c. search needs) (λ c κs. search needs) (λ c κs. search needs)
     returns returns-2)

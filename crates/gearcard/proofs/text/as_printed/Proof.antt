@@ -5,11 +5,5 @@ use Rattle.gearcard.proofs.Jobs.{as-too-long, as-it-is}
 use Rattle.gearcard.proofs.text.as_printed.Statement.{statement}
 use Rattle.gearcard.proofs.text.as_printed.Tie as tie
 
-returns : tie.Need-returns
-returns c = as-too-long (c .before .before .args .refusal) (sym (c .before .number .ensures) ∙ c .if1 .taken)
-
-returns-2 : tie.Need-returns-2
-returns-2 c = as-it-is (c .before .before .args .refusal) (λ e. c .if1 .left (c .before .number .ensures ∙ e))
-
 pub as-printed-spec : {M : Type 1} → statement M
-as-printed-spec = tie.close (tie.spec (λ c κs. search needs) returns returns-2)
+as-printed-spec = tie.close (tie.spec (λ c κs. search needs) (λ c. as-too-long (c .before .before .args .refusal) (sym (c .before .number .ensures) ∙ c .if1 .taken)) (λ c. as-it-is (c .before .before .args .refusal) (λ e. c .if1 .left (c .before .number .ensures ∙ e))))

@@ -11,20 +11,14 @@ Inv-loop out₀ at src i₀ out i = (i ≤ length src) × Left out₀ at src out
 abbrev μ-loop : tie.MeasureT-loop
 μ-loop out₀ at src i₀ out i = length src - i
 
-loop-holds : tie.Need-loop-holds Inv-loop μ-loop
-loop-holds c = (omega arith, rw add-zero (all-left (c .args .out .now) (c .args .at) (c .args .src .now) (c .pre)))
-
 loop-again : tie.Need-loop-again Inv-loop μ-loop
 loop-again c =
     let l = c .before .before .loop in
     let s = c .before .before .before in
     (omega arith, rw (← add-assoc (s .args .at) (l .i) 1, add-one (l .i)) (fewer-left (said-as (drop-cons (s .args .src .now) (l .i) 0 (omega arith)) (l .inv .1)) (put-byte _ _ _ (omega arith))))
 
-returns : tie.Need-returns Inv-loop μ-loop
-returns c = let l = c .before .loop in none-left (said-as (drop-of-length-le _ {i = l .i} (omega arith)) (l .inv .1))
-
 pub put-spec : {M : Type 1} → statement M
 put-spec =
     tie.close
-    (tie.spec Inv-loop μ-loop loop-holds (λ c. search needs) (λ c. omega arith) (λ c. omega arith) (λ c. search needs)
-    (λ c. search needs) loop-again (λ c. search needs) (λ c. c .before .loop .inv .1 .long) returns)
+    (tie.spec Inv-loop μ-loop (λ c. (omega arith, rw add-zero (all-left (c .args .out .now) (c .args .at) (c .args .src .now) (c .pre)))) (λ c. search needs) (λ c. omega arith) (λ c. omega arith) (λ c. search needs)
+    (λ c. search needs) loop-again (λ c. search needs) (λ c. c .before .loop .inv .1 .long) (λ c. let l = c .before .loop in none-left (said-as (drop-of-length-le _ {i = l .i} (omega arith)) (l .inv .1))))

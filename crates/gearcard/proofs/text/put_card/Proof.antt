@@ -6,10 +6,7 @@ use borrow.Author.Needs.{needs}
 use Rattle.gearcard.proofs.text.put_card.Statement.{statement}
 use Rattle.gearcard.proofs.text.put_card.Tie as tie
 
-returns : tie.Need-returns
-unfolding card-text heading
-returns c = put-both (c .before .before .before .before .before .before .put .ensures) (c .before .before .put-lines .ensures)
-
 pub put-card-spec : {M : Type 1} → statement M
+unfolding card-text heading
 put-card-spec =
-    tie.close (tie.spec (λ c. search needs) (λ c κs. search needs) (λ c κs. search needs) (λ c. search needs) returns)
+    tie.close (tie.spec (λ c. search needs) (λ c κs. search needs) (λ c κs. search needs) (λ c. search needs) (λ c. put-both (c .before .before .before .before .before .before .put .ensures) (c .before .before .put-lines .ensures)))

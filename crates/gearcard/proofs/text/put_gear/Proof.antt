@@ -6,17 +6,11 @@ use Rattle.gearcard.proofs.TextInTurn.{gear-length}
 use Rattle.gearcard.proofs.text.put_gear.Statement.{statement}
 use Rattle.gearcard.proofs.text.put_gear.Tie as tie
 
-put-decimal-requires : tie.Need-put-decimal-requires
-put-decimal-requires c κs = let s = c .before .before .before .before .before .before .before in omega (arith, gear-length (s .args .byte))
-
-put-pedal-requires : tie.Need-put-pedal-requires
-put-pedal-requires c κs = let s = c .before .before .before .before .before .before .before .before .before .before .before in omega (arith, gear-length (s .args .byte))
-
 returns : tie.Need-returns
 returns c = put-both (c .before .before .before .before .before .before .before .before .before .before .put .ensures) (put-both (c .before .before .before .before .before .before .put-decimal .ensures) (c .before .before .put-pedal .ensures))
 
 pub put-gear-spec : {M : Type 1} → statement M
 put-gear-spec =
     tie.close
-    (tie.spec (λ c. search needs) (λ c κs. search needs) (λ c. search needs) put-decimal-requires put-pedal-requires
+    (tie.spec (λ c. search needs) (λ c κs. search needs) (λ c. search needs) (λ c κs. let s = c .before .before .before .before .before .before .before in omega (arith, gear-length (s .args .byte))) (λ c κs. let s = c .before .before .before .before .before .before .before .before .before .before .before in omega (arith, gear-length (s .args .byte)))
     (λ c. search needs) returns)

@@ -6,9 +6,6 @@ use Rattle.gearcard.proofs.TextInTurn.{line-is, line-lengths}
 use Rattle.gearcard.proofs.text.put_line.Statement.{statement}
 use Rattle.gearcard.proofs.text.put_line.Tie as tie
 
-put-decimal-requires : tie.Need-put-decimal-requires
-put-decimal-requires c κs = let s = c .before .before in omega (arith, line-lengths (s .args .i) (s .args .v) (s .args .byte))
-
 put-requires : tie.Need-put-requires
 put-requires c κs =
     let s = c .before .before .before .before .before .before .before in
@@ -37,5 +34,5 @@ returns c =
 pub put-line-spec : {M : Type 1} → statement M
 put-line-spec =
     tie.close
-    (tie.spec put-decimal-requires (λ c. search needs) put-requires put-speed-requires put-gear-requires
+    (tie.spec (λ c κs. let s = c .before .before in omega (arith, line-lengths (s .args .i) (s .args .v) (s .args .byte))) (λ c. search needs) put-requires put-speed-requires put-gear-requires
     (λ c. search needs) returns)

@@ -12,12 +12,6 @@ short-at : (p : tie.After-place) → (length (decimal (p .before .number .result
 unfolding tens
 short-at p = (decimal-short 9 (p .before .number .result) (omega arith), decimal-short 19 (p .place .result) (omega arith))
 
-put-requires-2 : tie.Need-put-requires-2
-put-requires-2 c κs = omega (arith, short-at (c .before .before .before .before .before .before .before .before .before .before .before))
-
-put-decimal-requires-2 : tie.Need-put-decimal-requires-2
-put-decimal-requires-2 c κs = omega (arith, short-at (c .before .before .before .before .before .before .before .before .before .before .before .before .before .before .before))
-
 put-requires-3 : tie.Need-put-requires-3
 put-requires-3 c κs =
     let p = c .before .before .before .before .before .before .before .before .before .before .before .before .before .before .before .before .before .before .before .before in
@@ -41,5 +35,5 @@ put-refusal-spec =
     (tie.spec (λ c κs. search needs) (λ c. search needs) (λ c κs. search needs) (λ c. search needs)
     (λ c κs. search needs)
     (λ c κs. omega (arith, short-at (c .before .before .before .before .before .before)))
-    (λ c. search needs) put-requires-2 put-decimal-requires-2 (λ c. search needs) put-requires-3 (λ c. search needs)
+    (λ c. search needs) (λ c κs. omega (arith, short-at (c .before .before .before .before .before .before .before .before .before .before .before))) (λ c κs. omega (arith, short-at (c .before .before .before .before .before .before .before .before .before .before .before .before .before .before .before))) (λ c. search needs) put-requires-3 (λ c. search needs)
     returns)

@@ -6,12 +6,6 @@ use Rattle.gearcard.proofs.TextInTurn.{speed-length}
 use Rattle.gearcard.proofs.text.put_speed.Statement.{statement}
 use Rattle.gearcard.proofs.text.put_speed.Tie as tie
 
-put-requires : tie.Need-put-requires
-put-requires c κs = let s = c .before .before .before .before .before .before .before in omega (arith, speed-length (s .args .v))
-
-put-decimal-requires-2 : tie.Need-put-decimal-requires-2
-put-decimal-requires-2 c κs = let s = c .before .before .before .before .before .before .before .before .before .before .before in omega (arith, speed-length (s .args .v))
-
 returns : tie.Need-returns
 returns c = put-both (c .before .before .before .before .before .before .before .before .before .before .before .put-decimal .ensures) (put-both (c .before .before .before .before .before .before .put .ensures) (c .before .before .put-decimal2 .ensures))
 
@@ -20,4 +14,4 @@ put-speed-spec =
     tie.close
     (tie.spec (λ c. search needs)
     (λ c κs. let s = c .before .before in omega (arith, speed-length (s .args .v)))
-    (λ c. search needs) put-requires (λ c. search needs) put-decimal-requires-2 (λ c. search needs) returns)
+    (λ c. search needs) (λ c κs. let s = c .before .before .before .before .before .before .before in omega (arith, speed-length (s .args .v))) (λ c. search needs) (λ c κs. let s = c .before .before .before .before .before .before .before .before .before .before .before in omega (arith, speed-length (s .args .v))) (λ c. search needs) returns)

@@ -11,9 +11,6 @@ Inv-loop n digits₀ i₀ rest₀ digits i rest = Spelt n digits i rest
 abbrev μ-loop : tie.MeasureT-loop
 μ-loop n digits₀ i₀ rest₀ digits i rest = rest
 
-same-length : tie.Need-same-length Inv-loop μ-loop
-same-length c = simp length-set (c .before .before .loop .inv .size ∙ sym (c .before .before .before .before .pre))
-
 pub spell-spec : {M : Type 1} → statement M
 spell-spec =
     tie.close
@@ -23,5 +20,5 @@ spell-spec =
     (λ c. omega (arith, spell-place (c .before .before .loop .inv) (omega arith)))
     (λ c. search needs)
     (λ c. spell-more (c .before .before .loop .inv) (c .digit .ensures) (omega arith))
-    (λ c κs. search needs) (λ c. search needs) same-length
+    (λ c κs. search needs) (λ c. search needs) (λ c. simp length-set (c .before .before .loop .inv .size ∙ sym (c .before .before .before .before .pre)))
     (λ c. spell-last (c .before .before .loop .inv) (c .digit2 .ensures) (omega arith)))

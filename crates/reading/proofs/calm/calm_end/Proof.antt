@@ -7,9 +7,6 @@ use Rattle.reading.proofs.Calmness.{row-comes, ends-after}
 use Rattle.reading.proofs.calm.calm_end.Statement.{statement}
 use Rattle.reading.proofs.calm.calm_end.Tie as tie
 
-sub-oddest : tie.Need-sub-oddest
-sub-oddest c = let s = c .before .before .before .before in omega (arith, ends-after (c .before .end-of .ensures (omega arith)) (s .pre .0))
-
 oddest-requires : tie.Need-oddest-requires
 oddest-requires c κs =
     let s = c .before .before .before .before in
@@ -26,4 +23,4 @@ returns-4 c = λ _.
     row-comes job (r .result) (e .closed) (omega arith) n 0 n (s .args .at) (many-begins value job n (s .args .at) (λ vs. true)) (omega arith) (e .start) (e .so-many) (c .before .oddest .ensures (omega arith))
 
 pub calm-end-spec : {M : Type 1} → statement M
-calm-end-spec = tie.close (tie.spec (λ c. λ e. absurd (omega (arith, e))) (λ c κs. search needs) (λ c. λ e. absurd (omega (arith, e))) sub-oddest oddest-requires (λ c. λ e. absurd (omega (arith, e))) returns-4)
+calm-end-spec = tie.close (tie.spec (λ c. λ e. absurd (omega (arith, e))) (λ c κs. search needs) (λ c. λ e. absurd (omega (arith, e))) (λ c. let s = c .before .before .before .before in omega (arith, ends-after (c .before .end-of .ensures (omega arith)) (s .pre .0))) oddest-requires (λ c. λ e. absurd (omega (arith, e))) returns-4)

@@ -13,9 +13,6 @@ Inv-loop job lo hi count₀ i₀ count i = (lo ≤ i) × (i ≤ hi) × (count �
 abbrev μ-loop : tie.MeasureT-loop
 μ-loop job lo hi count₀ i₀ count i = hi - i
 
-loop-holds : tie.Need-loop-holds Inv-loop μ-loop
-loop-holds c = let s = c .before in (omega arith, s .pre .0, sym (ended-none (s .args .job .now) (s .args .lo)))
-
 add-count : tie.Need-add-count Inv-loop μ-loop
 add-count c =
     let s = c .before .before .before .before .before in
@@ -37,5 +34,5 @@ returns c =
 pub lasts-spec : {M : Type 1} → statement M
 lasts-spec =
     tie.close
-    (tie.spec Inv-loop μ-loop loop-holds (λ c. search needs) (λ c κs. search needs) add-count (λ c. search needs)
+    (tie.spec Inv-loop μ-loop (λ c. let s = c .before in (omega arith, s .pre .0, sym (ended-none (s .args .job .now) (s .args .lo)))) (λ c. search needs) (λ c κs. search needs) add-count (λ c. search needs)
     (λ c. search needs) loop-again returns)

@@ -3,8 +3,7 @@
 use Rattle.rules.proofs.Base.{_≤_, _-_, arith, _≡_, refl, length, length-set, length-replicate, needs}
 use Rattle.rules.specs.Job.{put}
 use Rattle.reading.specs.Progress.{hold-row, used}
-use Rattle.reading.proofs.GroupAnswers.{first-there, gear-inside}
-use Rattle.reading.proofs.Loops.{used-comes, Putting, put-begins, put-ends, put-gear, put-fits, put-again, put-short, put-geared}
+use Rattle.reading.proofs.Loops.{Putting, put-begins, put-ends, put-short, gear-there, gear-ends, second-fits, put-again}
 use Rattle.reading.proofs.holds.put_holds.Statement.{statement}
 use Rattle.reading.proofs.holds.put_holds.Tie as tie
 
@@ -14,62 +13,37 @@ Inv-loop job at holds room₀ place₀ i₀ room place i = (i ≤ holds) × (len
 abbrev μ-loop : tie.MeasureT-loop
 μ-loop job at holds room₀ place₀ i₀ room place i = holds - i
 
-short-at-requires : tie.Need-short-at-requires Inv-loop μ-loop
-short-at-requires c κs =
-    let c₁ = c .before in
-    let c₀ = c₁ .before .before .before in
-    let s = c₀ .before .before .before .before in
-    put-short (c₁ .loop .inv .2) (omega arith) (used-comes _ _ _ _ (rw (c₀ .clear .ensures, length-replicate) (s .pre .0))) (rw (c₀ .clear .ensures, length-replicate) (s .pre .1))
-
-shared-slice-read-gear : tie.Need-shared-slice-read-gear Inv-loop μ-loop
-shared-slice-read-gear c =
-    let c₁ = c .before .before .before in
-    let c₀ = c₁ .before .before .before in
-    let s = c₀ .before .before .before .before in
-    first-there (s .args .job .now) (c .before .short-at .result .next)
-    (put-gear (c₁ .loop .inv .2) (omega arith) (used-comes _ _ _ _ (rw (c₀ .clear .ensures, length-replicate) (s .pre .0))) (c .before .short-at .ensures))
+loop-holds : tie.Need-loop-holds Inv-loop μ-loop
+loop-holds c =
+    let c₁ = c .before .before in
+    let s = c₁ .before .before .before .before in
+    (omega arith, refl, put-begins _ _ _ _ _ (rw (c₁ .clear .ensures, length-replicate) (s .pre .0)) (rw (c₁ .clear .ensures, length-replicate) (s .pre .1)))
 
 slice-write-room : tie.Need-slice-write-room Inv-loop μ-loop
 slice-write-room c =
-    let c₁ = c .before .before .before in
-    let c₀ = c₁ .before .before .before in
-    let s = c₀ .before .before .before .before in
-    let e = c .before .short-at .ensures in
-    omega (arith, put-fits (c₁ .loop .inv .2) (omega arith) (used-comes _ _ _ _ (rw (c₀ .clear .ensures, length-replicate) (s .pre .0))) e (put-geared (c₁ .loop .inv .2) (omega arith) (used-comes _ _ _ _ (rw (c₀ .clear .ensures, length-replicate) (s .pre .0))) e (omega (arith, c .shared-slice-known2 .given (c .before .short-at .result .next)))) .below, c₁ .loop .inv .1)
+    let byte = c .shared-slice-known2 .given (c .before .short-at .result .next) in
+    omega (arith, second-fits (c .before .before .before .loop .inv .2) (omega arith) (c .before .short-at .ensures) (omega (arith, byte)))
 
 add-place : tie.Need-add-place Inv-loop μ-loop
 add-place c =
-    let c₁ = c .before .before .before in
-    let c₀ = c₁ .before .before .before in
-    let s = c₀ .before .before .before .before in
-    let j = c .before .short-at .result .next in
-    omega (arith, gear-inside (s .args .job .now) j (put-gear (c₁ .loop .inv .2) (omega arith) (used-comes _ _ _ _ (rw (c₀ .clear .ensures, length-replicate) (s .pre .0))) (c .before .short-at .ensures)) (omega (arith, c .shared-slice-known2 .given j)))
+    let byte = c .shared-slice-known2 .given (c .before .short-at .result .next) in
+    omega (arith, gear-ends (c .before .before .before .loop .inv .2) (omega arith) (c .before .short-at .ensures) (omega (arith, byte)))
 
 add-place-2 : tie.Need-add-place-2 Inv-loop μ-loop
 add-place-2 c =
-    let c₁ = c .before .before .before in
-    let c₀ = c₁ .before .before .before in
-    let s = c₀ .before .before .before .before in
-    let j = c .before .short-at .result .next in
-    omega (arith, gear-inside (s .args .job .now) j (put-gear (c₁ .loop .inv .2) (omega arith) (used-comes _ _ _ _ (rw (c₀ .clear .ensures, length-replicate) (s .pre .0))) (c .before .short-at .ensures)) (omega (arith, c .shared-slice-known2 .given j)))
+    let byte = c .shared-slice-known2 .given (c .before .short-at .result .next) in
+    omega (arith, gear-ends (c .before .before .before .loop .inv .2) (omega arith) (c .before .short-at .ensures) (omega (arith, byte)))
 
 loop-again : tie.Need-loop-again Inv-loop μ-loop
 loop-again c =
     let c₁ = c .before .before .before in
-    let c₀ = c₁ .before .before .before in
-    let s = c₀ .before .before .before .before in
-    let e = c .before .short-at .ensures in
-    (omega arith, simp length-set (c₁ .loop .inv .1), put-again (c₁ .loop .inv .2) (omega arith) (used-comes _ _ _ _ (rw (c₀ .clear .ensures, length-replicate) (s .pre .0))) e (put-geared (c₁ .loop .inv .2) (omega arith) (used-comes _ _ _ _ (rw (c₀ .clear .ensures, length-replicate) (s .pre .0))) e (omega (arith, c .shared-slice-known2 .given (c .before .short-at .result .next)))))
-
-returns : tie.Need-returns Inv-loop μ-loop
-returns c =
-    let c₀ = c .before .before .before .before in
-    rw (c₀ .clear .ensures, length-replicate) at (put-ends (c .before .loop .inv .2) (omega arith))
+    let byte = c .shared-slice-known2 .given (c .before .short-at .result .next) in
+    (omega arith, simp length-set (c₁ .loop .inv .1), put-again (c₁ .loop .inv .2) (omega arith) (c .before .short-at .ensures) (omega (arith, byte)))
 
 pub put-holds-spec : {M : Type 1} → statement M
 put-holds-spec =
     tie.close
-    (tie.spec Inv-loop μ-loop (λ c κs. search needs) (λ c. (omega arith, refl, put-begins _ _ _ _ _)) short-at-requires
-    shared-slice-read-gear slice-write-room add-place
+    (tie.spec Inv-loop μ-loop (λ c κs. search needs) loop-holds (λ c κs. put-short (c .before .loop .inv .2) (omega arith))
+    (λ c. gear-there (c .before .before .before .loop .inv .2) (omega arith) (c .before .short-at .ensures)) slice-write-room add-place
     (λ c. omega (arith, c .shared-slice-known2 .given (c .before .short-at .result .next)))
-    add-place-2 (λ c. search needs) (λ c. search needs) loop-again (λ c. search needs) returns)
+    add-place-2 (λ c. search needs) (λ c. search needs) loop-again (λ c. search needs) (λ c. rw (c .before .before .before .before .clear .ensures, length-replicate) at (put-ends (c .before .loop .inv .2) (omega arith))))

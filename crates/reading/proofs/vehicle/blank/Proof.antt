@@ -5,9 +5,6 @@ use Rattle.rules.specs.Job.{vehicle-of, padded, job-of}
 use Rattle.reading.proofs.vehicle.blank.Statement.{statement}
 use Rattle.reading.proofs.vehicle.blank.Tie as tie
 
-returns : tie.Need-returns
-unfolding job-of vehicle-of padded
-returns c = refl
-
 pub blank-spec : {M : Type 1} → statement M
-blank-spec = tie.close (tie.spec returns)
+unfolding job-of vehicle-of padded
+blank-spec = tie.close (tie.spec (λ c. refl))

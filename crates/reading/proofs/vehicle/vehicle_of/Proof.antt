@@ -4,11 +4,8 @@ use Rattle.rules.proofs.Base.{toZ-ofZ, SFits, w32, needs}
 use Rattle.reading.proofs.vehicle.vehicle_of.Statement.{statement}
 use Rattle.reading.proofs.vehicle.vehicle_of.Tie as tie
 
-returns : tie.Need-returns
-returns c = let f : SFits w32 (c .signed .result) = record { sfits = c .signed .ok } in rw (toZ-ofZ f, c .signed .ensures)
-
 pub vehicle-of-spec : {M : Type 1} → statement M
 vehicle-of-spec =
     tie.close
     (tie.spec (λ c. search needs) (λ c. search needs) (λ c. search needs) (λ c. search needs) (λ c. search needs)
-    (λ c κs. search needs) (λ c. search needs) (λ c. search needs) (λ c. search needs) returns)
+    (λ c κs. search needs) (λ c. search needs) (λ c. search needs) (λ c. search needs) (λ c. let f : SFits w32 (c .signed .result) = record { sfits = c .signed .ok } in rw (toZ-ofZ f, c .signed .ensures)))

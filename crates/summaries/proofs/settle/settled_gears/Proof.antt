@@ -11,13 +11,10 @@ Inv-loop was before after gears₀ k₀ gears k = (k ≤ 10) × Settled was befo
 abbrev μ-loop : tie.MeasureT-loop
 μ-loop was before after gears₀ k₀ gears k = 10 - k
 
-loop-again : tie.Need-loop-again Inv-loop μ-loop
-loop-again c = let l = c .before .before .before .before .before .loop in (omega arith, settled-more _ _ _ (l .k) (omega arith) (l .inv .1) (c .settled .ensures))
-
 pub settled-gears-spec : {M : Type 1} → statement M
 settled-gears-spec =
     tie.close
     (tie.spec Inv-loop μ-loop (λ c. search needs) (λ c. search needs) (λ c. search needs) (λ c. search needs)
     (λ c. search needs) (λ c. search needs) (λ c. search needs) (λ c. search needs) (λ c. search needs)
-    (λ c κs. search needs) (λ c. search needs) (λ c. search needs) (λ c. search needs) (λ c. search needs) loop-again
+    (λ c κs. search needs) (λ c. search needs) (λ c. search needs) (λ c. search needs) (λ c. search needs) (λ c. let l = c .before .before .before .before .before .loop in (omega arith, settled-more _ _ _ (l .k) (omega arith) (l .inv .1) (c .settled .ensures)))
     (λ c. let l = c .before .loop in settled-done _ _ _ (l .k) (l .inv .1) (omega arith)))

@@ -5,9 +5,6 @@ use borrow.Author.Needs.{needs}
 use Rattle.summaries.proofs.settle.updated.Statement.{statement}
 use Rattle.summaries.proofs.settle.updated.Tie as tie
 
-returns : tie.Need-returns
-returns c = updated-is _ _ _ (c .before .settled .ensures) (c .before .before .before .before .settled-gears .ensures) (c .settled2 .ensures)
-
 pub updated-spec : {M : Type 1} → statement M
 updated-spec =
-    tie.close (tie.spec (λ c κs. search needs) (λ c. search needs) (λ c. search needs) (λ c κs. search needs) (λ c κs. search needs) returns)
+    tie.close (tie.spec (λ c κs. search needs) (λ c. search needs) (λ c. search needs) (λ c κs. search needs) (λ c κs. search needs) (λ c. updated-is _ _ _ (c .before .settled .ensures) (c .before .before .before .before .settled-gears .ensures) (c .settled2 .ensures)))

@@ -11,9 +11,6 @@ Inv-loop speeds card span counts₀ i₀ counts i = (i ≤ span .hi) × Filled s
 abbrev μ-loop : tie.MeasureT-loop
 μ-loop speeds card span counts₀ i₀ counts i = span .hi - i
 
-loop-holds : tie.Need-loop-holds Inv-loop μ-loop
-loop-holds c = let s = c .before .before in (s .pre .order, fill-none (s .args .speeds .now) (s .args .card .now) (s .args .span .lo))
-
 add-counts : tie.Need-add-counts Inv-loop μ-loop
 add-counts c =
     let l = c .before .before .before .before .before .loop in
@@ -35,6 +32,6 @@ returns c =
 pub counts-in-spec : {M : Type 1} → statement M
 counts-in-spec =
     tie.close
-    (tie.spec Inv-loop μ-loop loop-holds (λ c. search needs) (λ c. search needs) (λ c. search needs)
+    (tie.spec Inv-loop μ-loop (λ c. let s = c .before .before in (s .pre .order, fill-none (s .args .speeds .now) (s .args .card .now) (s .args .span .lo))) (λ c. search needs) (λ c. search needs) (λ c. search needs)
     (λ c κs. search needs) (λ c. search needs) (λ c. search needs) add-counts (λ c. search needs) (λ c. search needs)
     (λ c. search needs) loop-again returns)

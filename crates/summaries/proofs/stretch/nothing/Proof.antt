@@ -7,9 +7,6 @@ use Rattle.summaries.specs.Tallies.{tallied}
 use Rattle.summaries.proofs.stretch.nothing.Statement.{statement}
 use Rattle.summaries.proofs.stretch.nothing.Tie as tie
 
-returns : tie.Need-returns
-unfolding tallied tally table
-returns c = refl
-
 pub nothing-spec : {M : Type 1} → statement M
-nothing-spec = tie.close (tie.spec returns)
+unfolding tallied tally table
+nothing-spec = tie.close (tie.spec (λ c. refl))

@@ -11,13 +11,6 @@ use Rattle.summaries.proofs.stretch.place_of.Tie as tie
 both : {r : ℕ} (v byte : ℕ) → r ≡ placed v byte → (r ≡ placed v byte) × (r ≤ 16)
 both v byte e = (e, rw e (placed-to v byte))
 
-returns : tie.Need-returns
-unfolding placed
-returns c = both _ _ (rw (sym (c .before .moving .ensures) ∙ c .if1 .taken))
-
-returns-2 : tie.Need-returns-2
-unfolding placed
-returns-2 c = both _ _ (rw (sym (c .before .moving .ensures) ∙ c .if1 .left))
-
 pub place-of-spec : {M : Type 1} → statement M
-place-of-spec = tie.close (tie.spec (λ c κs. search needs) (λ c. search needs) returns returns-2)
+unfolding placed
+place-of-spec = tie.close (tie.spec (λ c κs. search needs) (λ c. search needs) (λ c. both _ _ (rw (sym (c .before .moving .ensures) ∙ c .if1 .taken))) (λ c. both _ _ (rw (sym (c .before .moving .ensures) ∙ c .if1 .left))))
