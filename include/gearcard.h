@@ -248,14 +248,14 @@ struct gearcard_coefficients gearcard_export(const uint8_t *bytes, size_t length
 /* Bytes of stack that a call takes below its arguments and its return address, on x86-64: the most that was measured over the benchmark's inputs and 6,000
    random cars and traces, of up to 16,384 seconds (./bench --stack).
 
-     gearcard_read        1,816
+     gearcard_read        1,832
      gearcard_write       1,232
-     gearcard_work        1,688
+     gearcard_work        1,704
      gearcard_summary_of     56
-     gearcard_hold        2,216
-     gearcard_release     2,216
-     gearcard_mend        2,216
-     gearcard_why        18,968
+     gearcard_hold        2,232
+     gearcard_release     2,232
+     gearcard_mend        2,232
+     gearcard_why        18,952
      gearcard_cycle          32
      gearcard_cycle_part      0
      gearcard_downscale      64
