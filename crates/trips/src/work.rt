@@ -172,8 +172,8 @@ fn go_on<'a>(
 }
 
 // First choices of some seconds in a row, from left to right, whatever the slice held before. `begins` says whether the trip begins with them, `run` where
-// among them the closing run begins, `last` is the first choice before them. The working goes through a whole trip so; the check for want of a gear goes
-// second by second.
+// among them the closing run begins, `last` is the first choice before them. The check for want of a gear goes through a trip so, part by part, and `reasons`
+// through a whole one; the working goes through its trips by `begin` and `go_on`.
 pub fn first_choices<'a>(
     k: Numbers,
     ratio: &'a [u16; 10],
