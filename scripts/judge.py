@@ -123,8 +123,8 @@ def _by_first(found: list[Error]) -> Verdict:
 def in_batch(run: Run, functions: list[str], crate: str, contracts: frozenset[str] = frozenset(), reads: Reads = lambda file, name: None) -> dict[str, Verdict]:
     """On edits of several functions that were tried in one check, of their bodies or, of those in `contracts`, of their contracts: the functions whose edit
     it shows refused. A function is judged by its own body and the contracts of those that it calls, of which none is edited here; so an error in its own
-    proof is its own edit's. An error of any other theorem is the edit's of the one contract here that it reads. Where an error stands anywhere else, the
-    check shows nothing."""
+    proof is its own edit's. An error of any other theorem, or in the proof of a function that is not edited, is the edit's of the one contract here that it
+    reads. Where an error stands anywhere else, the check shows nothing."""
     found = errors(run)
     owners = [_owner(error, functions, contracts, reads) for error in found]
     if run.status != 1 or not REFUSED.search(run.log) or None in owners:
@@ -141,7 +141,7 @@ def _owner(error: Error, functions: list[str], contracts: frozenset[str], reads:
         if file == _proof(function):
             return function
     name = re.match(r"error(?:\[[\w-]+\])?: `([^`]+)`:", error.message)
-    read = reads(file, name[1]) if name and contracts else None
+    read = reads(file, name[1] if name else "") if contracts else None
     owners = (read or set()) & contracts
     return owners.pop() if len(owners) == 1 else None
 

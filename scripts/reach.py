@@ -27,13 +27,26 @@ class Reach:
 
     def of_function(self, function: str) -> set[str]:
         """The other functions whose contracts its proof may read."""
-        proof = f"proofs/{function}/Proof.antt"
-        named = {word for text in self._bodies(function) for word in re.findall(r"\w+", text)}
-        called = {other for other in self.functions if other.rsplit("/", 1)[-1] in named}
-        return (called | self._of_file(proof)) - {function}
+        return (self._called(function) | self._of_file(_proof(function))) - {function}
+
+    def rests_on(self, function: str) -> set[str]:
+        """The functions without whose theorems it has none: those that it calls, one above the other."""
+        below, todo = set(), [function]
+        while todo:
+            called = self._called(todo.pop()) - below
+            below |= called
+            todo += called
+        return below - {function}
+
+    def has_proof(self, function: str) -> bool:
+        """Whether its proof is written, and not searched for."""
+        return (self.crate / _proof(function)).exists()
 
     def of_declaration(self, file: str, name: str) -> set[str] | None:
-        """The functions whose contracts a declaration of a file of proofs/ reads; None where the file has no such declaration."""
+        """The functions whose contracts a declaration of a file of proofs/ reads: in a function's own proof, all that this may read. None where the file has
+        no such declaration."""
+        if function := next((each for each in self.functions if _proof(each) == file), None):
+            return self.of_function(function) | {function}
         text = self._text(file)
         blocks, imported = _blocks(text), self._imported(text)
         if name not in blocks:
@@ -53,6 +66,10 @@ class Reach:
     def _text(self, file: str) -> str:
         path = self.crate / file
         return path.read_text() if path.exists() else ""
+
+    def _called(self, function: str) -> set[str]:
+        named = {word for text in self._bodies(function) for word in re.findall(r"\w+", text)}
+        return {other for other in self.functions if other.rsplit("/", 1)[-1] in named}
 
     def _bodies(self, function: str):
         for path in self.crate.glob("src/**/*.rt"):
@@ -86,6 +103,10 @@ class Reach:
             self._files[file] = frozenset()
             self._files[file] = frozenset().union(*self._imported(self._text(file)).values())
         return self._files[file]
+
+
+def _proof(function: str) -> str:
+    return f"proofs/{function}/Proof.antt"
 
 
 def _blocks(text: str) -> dict[str, str]:

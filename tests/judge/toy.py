@@ -105,17 +105,8 @@ use borrow.Author.Needs.{needs}
 use Rattle.toy.proofs.largest.Statement.{statement}
 use Rattle.toy.proofs.largest.Tie as tie
 
-larger-requires : tie.Need-larger-requires
-larger-requires c κs = search needs
-
-larger-requires-2 : tie.Need-larger-requires-2
-larger-requires-2 c κs = search needs
-
-returns : tie.Need-returns
-returns c = rw (c .larger2 .ensures, c .before .larger .ensures)
-
 pub largest-spec : {M : Type 1} → statement M
-largest-spec = tie.close (tie.spec larger-requires larger-requires-2 returns)
+largest-spec = let answers = tie.spec (λ c κs. search needs) (λ c κs. search needs) (λ c. rw (c .larger2 .ensures, c .before .larger .ensures)) in tie.close answers
 """,
 }
 
@@ -126,6 +117,15 @@ pub both-say : (κs : Lfts 0) (a : Dens κs seven-kinds.ps) (z : resT seven-kind
     → seven-reads.Learnt κs a z (atExit (endedOf 0 seven-kinds.ps seven-kinds.r) κs a ws)
     → nine-reads.Learnt κs b y (atExit (endedOf 0 nine-kinds.ps nine-kinds.r) κs b us) → (z ≡ 7) × (y ≡ 9)
 both-say κs a z ws b y us p q = (p, q)
+"""
+
+# A function without a proof file that calls another.
+CALLS = """
+pub fn nothing() -> u16
+    ensures { λ r. ⌜ r ≡ 0 ⌝ }
+{
+    seven() - 7
+}
 """
 
 CODE, DEFINITION, SAYS = "src/lib.rt", "specs/Toy.antt", "proofs/Says.antt"

@@ -1,18 +1,8 @@
 -- Demand 1 of the other C functions: the reader, the writer, the summary, the cycle, downscaling, the export, the reasons of a second. Each answers as the function behind it, so all
 -- that this function's Demands have holds of it too; number 0 exactly where nothing is refused, and any other number changes no byte.
--- Assumes nothing.
-use Rattle.rules.proofs.Base.{ℕ, _≤_, _≡_, refl, _∙_, _≢_, _↔_, none, List, length}
+use Rattle.rules.proofs.Offered.{ℕ, _≤_, _≡_, refl, _∙_, _≢_, _↔_, none, List, length, at, card, said, job-read, read-fault, write-fault, summary, summary-fault, counted-summary, why-fault, why, Told, told-or, told-when, summary-told, write-told, job-told}
 use Rattle.rules.specs.declared.Vehicle.{Vehicle}
 use Rattle.rules.specs.declared.Refusal.the-variants.{RoomLength, BadPart, BadFactor}
-use Rattle.rules.specs.Words.{at}
-use Rattle.rules.specs.Corrections.{card}
-use Rattle.rules.specs.Refusals.{said}
-use Rattle.rules.specs.Job.{job-read, read-fault}
-use Rattle.rules.specs.Write.{write-fault}
-use Rattle.rules.specs.Summary.{summary, summary-fault, counted-summary}
-use Rattle.rules.specs.Why.{why-fault, why}
-use Rattle.rules.proofs.Laws.Told.{Told, told-or, told-when, summary-told, write-told}
-use Rattle.rules.proofs.Laws.ToldReading.{job-told}
 use Rattle.reading.specs.declared.Reading.{Reading}
 use Rattle.reading.specs.Reader.{reading, ReadAs}
 use Rattle.reading.proofs.Demands as reading-says

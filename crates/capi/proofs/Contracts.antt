@@ -1,10 +1,7 @@
 -- What the contracts of the C functions say, as the check reads them: of the working and of the edits what Demands has the demands of, of the others what
 -- Answers has.
--- Assumes nothing.
-use Rattle.rules.proofs.Base.{_≡_, sym, now, Lasts, atExit, Lfts, Dens, endedOf, resT}
+use Rattle.rules.proofs.Offered.{_≡_, sym, now, Lasts, atExit, Lfts, Dens, endedOf, resT, showing, hold-no-speed, release-no-speed, mend-no-hold}
 use Rattle.rules.specs.declared.Edit.the-variants.{Hold, Release, Mend}
-use Rattle.rules.specs.Edit.{showing}
-use Rattle.rules.proofs.Laws.Edits.{hold-no-speed, release-no-speed, mend-no-hold}
 use Rattle.capi.specs.Verdicts.{JobRead, JobWritten, ExportRead}
 use Rattle.capi.proofs.Demands.{CWorked, CEdited}
 use Rattle.capi.proofs.Answers.{CCounted, CFilled, CScaled, CWhy}

@@ -1,23 +1,14 @@
 -- The demands on the C functions, over their contracts as the check reads them. A C caller sees a number and a place: number 0 exactly where nothing is
 -- refused. What the working and the edits promise stands in the Demands of `cards` and of `rules`, and is cited.
--- Assumes nothing.
-use Rattle.rules.proofs.Base.{ℕ, _<_, _≤_, arith, _≡_, refl, sym, ap, _∙_, _≢_, _↔_, false, Option, none, some, List, [], length}
+use Rattle.rules.proofs.Offered.{ℕ, _<_, _≤_, arith, _≡_, refl, sym, ap, _∙_, _≢_, _↔_, false, Option, none, some, List, [], length, at, card, card-at, shown, Fault, said, work-fault, work-card, Screen, showing, second, asked-speeds, asked-holds, span, edit-fault, edited, Wanting, PassesOthers, Right, Spares, Out, none-held, Told, told-from-1, work-told, edit-told, summary}
+use Rattle.rules.proofs.Demands.{Worked, EditedBy, EditedWith}
+use Rattle.rules.proofs.Theorems.Cards.{want-of-a-gear}
+use Rattle.rules.proofs.Theorems.Edits.{edit-as-whole, zero-held-by-7}
 use Rattle.rules.specs.declared.Vehicle.{Vehicle}
 use Rattle.rules.specs.declared.Summary.{Summary}
 use Rattle.rules.specs.declared.Edit.{Edit}
 use Rattle.rules.specs.declared.Edit.the-variants.{Hold}
-use Rattle.rules.specs.Words.{at}
-use Rattle.rules.specs.Corrections.{card, card-at, shown}
-use Rattle.rules.specs.Refusals.{Fault, said, work-fault, work-card}
-use Rattle.rules.specs.Edit.{Screen, showing, second, asked-speeds, asked-holds, span, edit-fault, edited}
-use Rattle.rules.specs.Vocabulary.Choosing.{Wanting, PassesOthers}
-use Rattle.rules.specs.Vocabulary.Edits.{Right, Spares, Out, none-held}
-use Rattle.rules.proofs.Laws.Told.{Told, told-from-1, work-told, edit-told}
-use Rattle.rules.specs.Summary.{summary}
-use Rattle.rules.proofs.Theorems.Cards.{want-of-a-gear}
-use Rattle.rules.proofs.Theorems.Edits.{edit-as-whole, zero-held-by-7}
 use Rattle.rules.proofs.Demands as rules-says
-use Rattle.rules.proofs.Demands.{Worked, EditedBy, EditedWith}
 use Rattle.cards.proofs.Demands as cards-says
 use Rattle.capi.specs.declared.Verdict.{Verdict}
 use Rattle.capi.specs.Verdicts.{as-verdict}

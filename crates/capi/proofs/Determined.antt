@@ -1,7 +1,6 @@
 -- Each public function's contract allows one outcome. `Reads` is the contract's own reading, which the check makes of the clauses.
--- Assumes nothing.
 use mathlib.Core.Path.{_≡_, refl, sym, _∙_}
-use Rattle.once.specs.Determined.{Determined}
+use Rattle.rules.specs.Determined.{Determined}
 use Rattle.exports.proofs.Determined.{one-number}
 use Rattle.capi.proofs.gearcard_read.Kinds as read-kinds
 use Rattle.capi.proofs.gearcard_read.Reads as read-reads

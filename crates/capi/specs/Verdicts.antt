@@ -1,11 +1,5 @@
 -- What the C functions answer: the refusal's number and place, number 0 where there is none.
--- Assumes nothing.
-use Prim.Native.Nat.{ℕ}
-use mathlib.Core.Path.{_≡_, refl, sym, ap, _∙_}
-use mathlib.Core.Option.{Option, none, some}
-use mathlib.Core.List.{List}
-use lib.ListN.{length}
-use lib.IntN.{pos}
+use Rattle.rules.specs.Words.{ℕ, _≡_, refl, sym, ap, _∙_, Option, none, some, List, length, pos}
 use Rattle.rules.specs.declared.Answer.{Answer}
 use Rattle.rules.specs.declared.Answer.the-variants.{Done, Refused}
 use Rattle.rules.specs.Refusals.{Fault, said, told, left}

@@ -1,12 +1,11 @@
 // The C functions: thin wrappers over the readers, the writer, the working, the summary, the edits of one second, its reasons and the built-in cycle.
 // include/gearcard.h declares them.
-ghost use mathlib.Core.Path.{_≡_};
+ghost use Rattle.rules.specs.Words.{_≡_, length};
 ghost use Rattle.rules.specs.Refusals.{work-fault, work-card};
 ghost use Rattle.rules.specs.declared.Edit.the-variants.{Hold, Release, Mend};
 ghost use Rattle.rules.specs.Summary.{summary-fault, counted-summary};
 ghost use Rattle.rules.specs.Edit.{showing, edit-fault, edited};
 ghost use Rattle.rules.specs.Why.{why-fault, why};
-ghost use lib.ListN.{length};
 ghost use Rattle.cycles.specs.Parts.{fill-fault, fill-room, stretch};
 ghost use Rattle.downscale.specs.Steps.{down-fault, down-room};
 ghost use Rattle.capi.specs.Verdicts.{says, as-verdict, JobRead, JobWritten, ExportRead};

@@ -1,22 +1,12 @@
 -- The demands on the whole working, over the contract of `work` as the check reads it, and document 01's definitions. Those on the edits stand in
 -- rules/proofs/Demands, once for all.
--- Assumes nothing.
-use Rattle.rules.proofs.Base.{ℕ, _<_, zero-add, _≡_, sym, ap, _∙_, _↔_, none, some, List, length, now, Lasts, atExit, Lfts, Dens, endedOf, resT}
+use Rattle.rules.proofs.Offered.{ℕ, _<_, zero-add, _≡_, sym, ap, _∙_, _↔_, none, some, List, length, now, Lasts, atExit, Lfts, Dens, endedOf, resT, at, card-at, card, Fault, said, work-fault, left, work-card, showing, Wanting, PassesOthers, Right, Spares, at-table, left-some, anew}
+use Rattle.rules.proofs.Demands.{Worked}
+use Rattle.rules.proofs.Theorems.Cards.{want-of-a-gear}
+use Rattle.rules.proofs.Theorems.Edits.{right-card-spares}
 use Rattle.rules.specs.declared.Vehicle.{Vehicle}
 use Rattle.rules.specs.declared.Answer.{Answer}
 use Rattle.rules.specs.declared.Summary.{Summary}
-use Rattle.rules.specs.Words.{at}
-use Rattle.rules.specs.Corrections.{card-at, card}
-use Rattle.rules.specs.Refusals.{Fault, said, work-fault, left, work-card}
-use Rattle.rules.specs.Edit.{showing}
-use Rattle.rules.specs.Vocabulary.Choosing.{Wanting, PassesOthers}
-use Rattle.rules.specs.Vocabulary.Edits.{Right, Spares}
-use Rattle.rules.proofs.Laws.Words.{at-table}
-use Rattle.rules.proofs.Laws.Checks.{left-some}
-use Rattle.rules.proofs.Laws.Edits.{anew}
-use Rattle.rules.proofs.Theorems.Cards.{want-of-a-gear}
-use Rattle.rules.proofs.Theorems.Edits.{right-card-spares}
-use Rattle.rules.proofs.Demands.{Worked}
 use Rattle.cards.proofs.whole.work.Kinds as work-kinds
 use Rattle.cards.proofs.whole.work.Reads as work-reads
 

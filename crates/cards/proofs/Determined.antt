@@ -1,8 +1,6 @@
 -- Each public function's contract allows one outcome. `Reads` is the contract's own reading, which the check makes of the clauses.
--- Assumes nothing.
-use Rattle.rules.proofs.Base.{_≡_, refl, sym, _∙_, ap, List, ℕ}
-use Rattle.rules.proofs.Laws.Refusals.{said-once}
-use Rattle.once.specs.Determined.{Determined}
+use Rattle.rules.proofs.Offered.{_≡_, refl, sym, _∙_, ap, List, ℕ, said-once}
+use Rattle.rules.specs.Determined.{Determined}
 use Rattle.cards.proofs.whole.work.Kinds as work-kinds
 use Rattle.cards.proofs.whole.work.Reads as work-reads
 use Rattle.cards.proofs.rework.sweep.Kinds as sweep-kinds

@@ -1,13 +1,6 @@
 -- Lists of which a stretch has been worked.
--- Assumes nothing.
-use Rattle.rules.proofs.Base.{ℕ, zero, suc, _+_, _-_, _≤_, _<_, _%_, zero-add, arith, _≡_, refl, sym, ap, _∙_, _≢_, _⊎_, inl, inr, Bool, true, false, List, [], _∷_, _++_, leb, ltb, length, set, take, drop, length-set, length-drop, List·getD-eq-default, ext-getD, take-all, getD-set-same, getD-set-other, lt-leb, le-leb, lt-ltb, le-ltb}
+use Rattle.rules.proofs.Offered.{ℕ, zero, suc, _+_, _-_, _≤_, _<_, _%_, zero-add, arith, _≡_, refl, sym, ap, _∙_, _≢_, _⊎_, inl, inr, Bool, true, false, List, [], _∷_, _++_, leb, ltb, length, set, take, drop, length-set, length-drop, List·getD-eq-default, ext-getD, take-all, getD-set-same, getD-set-other, lt-leb, le-leb, lt-ltb, le-ltb, if_then_else_, _and_, at, part, table, patch, moving, rise, start, stop, gears, trip-speeds, trip-holds, gear-at, clutch, byte, card-at, card, IsTrip, by-order, at-part, length-part, at-table, length-table, table-ext, table-add, table-at, patch-in, patch-out, trip-start, trip-stop, of₃}
 use Rattle.rules.specs.declared.Vehicle.{Vehicle}
-use Rattle.rules.specs.Words.{if_then_else_, _and_, at, part, table, patch}
-use Rattle.rules.specs.Units.{moving, rise, start, stop}
-use Rattle.rules.specs.Corrections.{gears, trip-speeds, trip-holds, gear-at, clutch, byte, card-at, card}
-use Rattle.rules.specs.Vocabulary.Choosing.{IsTrip}
-use Rattle.rules.proofs.Laws.Words.{by-order, at-part, length-part, at-table, length-table, table-ext, table-add, table-at, patch-in, patch-out}
-use Rattle.rules.proofs.Laws.Trips.{trip-start, trip-stop}
 
 -- ---- a list of which a stretch has been worked
 
@@ -64,7 +57,7 @@ module _ (f : ℕ → ℕ) where
       (λ a. getD-set-other old i j (f i) 0 (λ e. omega arith) ∙ sym (patch-out old i (suc i) f j (inl a)))
       (λ a. by-order i j
       (λ b. getD-set-other old i j (f i) 0 (λ e. omega arith) ∙ sym (patch-out old i (suc i) f j (inr b)))
-      (λ b. let e : j ≡ i = omega arith in rw e (getD-set-same old i (f i) 0 (omega arith) ∙ sym (patch-in old i (suc i) f i (omega arith) (omega arith) (omega arith))))))
+      (λ b. let e : j ≡ i = omega arith in rw e (getD-set-same old i (f i) 0 (omega arith) ∙ sym (of₃ (patch-in old i (suc i) f i) (omega arith))))))
 
   -- all places
   pub patch-all : (old : List ℕ) → patch old 0 (length old) f ≡ table f 0 (length old)

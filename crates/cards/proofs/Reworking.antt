@@ -1,20 +1,6 @@
 -- The card worked in place, stretch by stretch.
--- Assumes nothing.
-use Rattle.rules.proofs.Base.{ℕ, zero, suc, _+_, _-_, _≤_, _<_, _%_, min, add-zero, add-one, arith, _≡_, refl, sym, ap, _∙_, _⊎_, inl, inr, Bool, true, false, none, List, _++_, ltb, eqb, natAbs, length, set, take, drop, lt-ltb, ltb-false, eq-eqb, ne-eqb}
+use Rattle.rules.proofs.Offered.{ℕ, zero, suc, _+_, _-_, _≤_, _<_, _%_, min, add-zero, add-one, arith, _≡_, refl, sym, ap, _∙_, _⊎_, inl, inr, Bool, true, false, none, List, _++_, ltb, eqb, natAbs, length, set, take, drop, lt-ltb, ltb-false, eq-eqb, ne-eqb, if_then_else_, _and_, _or_, at, part, table, patch, steepest, moving, rise, start, stop, gear-at, card-at, card, Check, speed, step, ends, over-ng, bad, span-fault, IsTrip, patch-in, clash, by-test, by-order, both, or-left, or-right, at-part, length-part, natAbs-gap, trip-of, stop-le, stop-to, stop-after, stop-in, stop-standing, standing-past, passed, driven, floor-low, low-from, fit-of, gear-in-range, byte-gear, InBounds}
 use Rattle.rules.specs.declared.Vehicle.{Vehicle}
-use Rattle.rules.specs.Words.{if_then_else_, _and_, _or_, at, part, table, patch}
-use Rattle.rules.specs.Units.{steepest, moving, rise, start, stop}
-use Rattle.rules.specs.Corrections.{gear-at, card-at, card}
-use Rattle.rules.specs.Refusals.{Check, speed, step, ends, over-ng, bad, span-fault}
-use Rattle.rules.specs.Vocabulary.Choosing.{IsTrip}
-use Rattle.rules.proofs.Laws.Words.{patch-in, clash, by-test, by-order, both, or-left, or-right, at-part, length-part}
-use Rattle.rules.proofs.Laws.Range.{natAbs-gap}
-use Rattle.rules.proofs.Laws.Trips.{trip-of, stop-le, stop-to, stop-after, stop-in, stop-standing, standing-past}
-use Rattle.rules.proofs.Laws.Checks.{passed, driven}
-use Rattle.rules.proofs.Laws.Limits.{floor-low}
-use Rattle.rules.proofs.Laws.Vehicle.{low-from}
-use Rattle.rules.proofs.Laws.Cards.{fit-of, gear-in-range, byte-gear}
-use Rattle.rules.specs.Inside.{InBounds}
 use Rattle.gears.specs.declared.Numbers.{Numbers}
 use Rattle.gears.specs.Parts.{Counts}
 use Rattle.gears.proofs.Parts.{ng-of}

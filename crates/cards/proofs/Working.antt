@@ -1,16 +1,9 @@
 -- Each way out of the whole working.
--- Assumes nothing.
-use Rattle.rules.proofs.Base.{ℕ, suc, min, arith, _≡_, refl, sym, ap, _∙_, inl, Option, List, length, set, length-set, set-out, set-getD}
+use Rattle.rules.proofs.Offered.{ℕ, suc, min, arith, _≡_, refl, sym, ap, _∙_, inl, Option, List, length, set, length-set, set-out, set-getD, at, patch, card-at, card, Fault, said, span-fault, work-fault, work-card, by-order, standing-past, trace-in}
 use Rattle.rules.specs.declared.Vehicle.{Vehicle}
 use Rattle.rules.specs.declared.Refusal.{Refusal}
 use Rattle.rules.specs.declared.Answer.{Answer}
 use Rattle.rules.specs.declared.Answer.the-variants.{Done, Refused}
-use Rattle.rules.specs.Words.{at, patch}
-use Rattle.rules.specs.Corrections.{card-at, card}
-use Rattle.rules.specs.Refusals.{Fault, said, span-fault, work-fault, work-card}
-use Rattle.rules.proofs.Laws.Words.{by-order}
-use Rattle.rules.proofs.Laws.Trips.{standing-past}
-use Rattle.rules.proofs.Laws.Checks.{trace-in}
 use Rattle.checks.specs.Want.{Resting}
 use Rattle.checks.proofs.Rows.{opening, Opened, after-opening, opening-first, said-none, left-old, left-new}
 use Rattle.cards.specs.Rework.{Range, Passes}

@@ -1,14 +1,6 @@
 -- What working the card in place asks.
--- Assumes nothing.
-use Prim.Native.Nat.{ℕ, suc, _-_, _≤_, _<_, min}
-use mathlib.Core.Path.{_≡_}
-use mathlib.Core.Bool.{false}
-use mathlib.Core.List.{List}
-use mathlib.Core.Option.{none}
-use lib.IntN.{natAbs}
-use lib.ListN.{length}
+use Rattle.rules.specs.Words.{ℕ, suc, _-_, _≤_, _<_, min, _≡_, false, List, none, natAbs, length, at}
 use Rattle.rules.specs.declared.Vehicle.{Vehicle}
-use Rattle.rules.specs.Words.{at}
 use Rattle.rules.specs.Units.{fastest, steepest, moving, rise}
 use Rattle.rules.specs.Refusals.{span-fault}
 use Rattle.rules.specs.Vocabulary.Choosing.{IsTrip}

@@ -1,8 +1,6 @@
 // The card, worked in place.
-ghost use mathlib.Core.Path.{_≡_};
-ghost use Prim.Native.Nat.{_+_, _-_};
+ghost use Rattle.rules.specs.Words.{_≡_, _+_, _-_, patch};
 ghost use Rattle.rules.specs.declared.Vehicle.{Vehicle};
-ghost use Rattle.rules.specs.Words.{patch};
 ghost use Rattle.rules.specs.Units.{stop};
 ghost use Rattle.rules.specs.Corrections.{card-at};
 ghost use Rattle.gears.specs.Parts.{Lent, Parts};

@@ -1,11 +1,6 @@
 -- What the cheap test of a span finds is enough: no second of it fails one of the checks 4 to 9.
--- Assumes nothing.
-use Rattle.rules.proofs.Base.{ℕ, zero, suc, _+_, _-_, _≤_, _<_, add-zero, le-trans, arith, _≡_, refl, sym, true, false, List, none, eqb, length, eqb-true, eqb-false}
+use Rattle.rules.proofs.Offered.{ℕ, zero, suc, _+_, _-_, _≤_, _<_, add-zero, le-trans, arith, _≡_, refl, sym, true, false, List, none, eqb, length, eqb-true, eqb-false, at, fastest, moving, step, ends, checks, bad, seconds-fault, clash, by-test, by-eq}
 use Rattle.rules.specs.declared.Vehicle.{Vehicle}
-use Rattle.rules.specs.Words.{at}
-use Rattle.rules.specs.Units.{fastest, moving}
-use Rattle.rules.specs.Refusals.{step, ends, checks, bad, seconds-fault}
-use Rattle.rules.proofs.Laws.Words.{clash, by-test, by-eq}
 use Rattle.gears.specs.declared.Numbers.{Numbers}
 use Rattle.gears.specs.Parts.{Has}
 use Rattle.gears.proofs.Parts.{built, built-has}

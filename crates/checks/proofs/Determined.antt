@@ -1,9 +1,7 @@
 -- Each public function's contract allows one outcome. `Reads` is the contract's own reading, which the check makes of the clauses.
--- Assumes nothing.
-use Rattle.rules.proofs.Base.{ℕ, _≡_, refl, sym, _∙_, length, replicate, length-replicate, now}
-use Rattle.rules.proofs.Laws.Refusals.{said-once}
+use Rattle.rules.proofs.Offered.{ℕ, _≡_, refl, sym, _∙_, length, replicate, length-replicate, now, said-once}
 use Rattle.gears.proofs.Parts.{built-has}
-use Rattle.once.specs.Determined.{Determined}
+use Rattle.rules.specs.Determined.{Determined}
 use Rattle.checks.proofs.opening.check_lengths.Kinds as check-lengths-kinds
 use Rattle.checks.proofs.opening.check_lengths.Reads as check-lengths-reads
 use Rattle.checks.proofs.opening.check_opening.Kinds as check-opening-kinds

@@ -1,16 +1,6 @@
 -- The dry run of first choices: a span that it can go through, a trip part by part, and the trips of the span one after the other.
--- Assumes nothing.
-use Rattle.rules.proofs.Base.{ℕ, zero, suc, _+_, _-_, _≤_, _<_, add-one, arith, _≡_, refl, sym, ap, _∙_, _≢_, _⊎_, inl, inr, Bool, true, false, Option, none, some, List, eqb, lit<, natAbs, length, ltb-false, lt-ltb, eq-eqb, eqb-true, eqb-false}
+use Rattle.rules.proofs.Offered.{ℕ, zero, suc, _+_, _-_, _≤_, _<_, add-one, arith, _≡_, refl, sym, ap, _∙_, _≢_, _⊎_, inl, inr, Bool, true, false, Option, none, some, List, eqb, lit<, natAbs, length, ltb-false, lt-ltb, eq-eqb, eqb-true, eqb-false, _and_, _or_, at, part, first, fastest, steepest, moving, rise, start, stop, first-at, speed, step, ends, no-gear, checks, bad, seconds-fault, clash, by-test, by-order, by-eq, both, and-no, or-left, or-right, at-part, length-part, natAbs-gap, Left, again, trip-of, start-le, stop-le, stop-after, stop-standing, listed, step-passed}
 use Rattle.rules.specs.declared.Vehicle.{Vehicle}
-use Rattle.rules.specs.Words.{_and_, _or_, at, part, first}
-use Rattle.rules.specs.Units.{fastest, steepest, moving, rise, start, stop}
-use Rattle.rules.specs.Corrections.{first-at}
-use Rattle.rules.specs.Refusals.{speed, step, ends, no-gear, checks, bad, seconds-fault}
-use Rattle.rules.proofs.Laws.Words.{clash, by-test, by-order, by-eq, both, and-no, or-left, or-right, at-part, length-part}
-use Rattle.rules.proofs.Laws.Range.{natAbs-gap}
-use Rattle.rules.proofs.Laws.Walk.{Left, again}
-use Rattle.rules.proofs.Laws.Trips.{trip-of, start-le, stop-le, stop-after, stop-standing}
-use Rattle.rules.proofs.Laws.Checks.{listed, step-passed}
 use Rattle.trips.specs.Trip.{AllMoving}
 use Rattle.trips.proofs.Closing.{Closing, run-start}
 use Rattle.checks.specs.Calm.{Stands}

@@ -1,11 +1,7 @@
 -- The checks of a span in one pass from left to right, where the table has one search a number: what a pass has to keep, and that it is enough.
--- Assumes nothing.
-use Rattle.rules.proofs.Base.{ℕ, zero, suc, _+_, _-_, _≤_, _<_, suc-add, add-suc, add-zero, sub-self, add-one, arith, _≡_, refl, sym, _∙_, Bool, true, false, Option, none, some, List, [], _∷_, ltb, ltb-true, ltb-false, lt-ltb, le-ltb}
+use Rattle.rules.proofs.Offered.{ℕ, zero, suc, _+_, _-_, _≤_, _<_, suc-add, add-suc, add-zero, sub-self, add-one, arith, _≡_, refl, sym, _∙_, Bool, true, false, Option, none, some, List, [], _∷_, ltb, ltb-true, ltb-false, lt-ltb, le-ltb, if_then_else_, _and_, first, Fault, refuse-at, _orelse_, when, Check, check-number, checks, bad, fault-of, by-test, if-ind, and-left, and-right}
 use Rattle.rules.specs.declared.Vehicle.{Vehicle}
-use Rattle.rules.specs.Words.{if_then_else_, _and_, first}
-use Rattle.rules.specs.Refusals.{Fault, refuse-at, _orelse_, when, Check, check-number, checks, bad, fault-of}
 use Rattle.checks.specs.Checks.{fault-no, kept}
-use Rattle.rules.proofs.Laws.Words.{by-test, if-ind, and-left, and-right}
 
 -- ---- what a pass keeps
 

@@ -1,11 +1,6 @@
 -- A span with what is asked for at one second: what is found of the pieces before and after it, and of the second itself, is found of the span.
--- Assumes nothing.
-use Rattle.rules.proofs.Base.{ℕ, suc, _+_, _-_, _≤_, _<_, le-trans, arith, _≡_, sym, _∙_, _≢_, false, none, List, eqb, length, eqb-true, eqb-false}
+use Rattle.rules.proofs.Offered.{ℕ, suc, _+_, _-_, _≤_, _<_, le-trans, arith, _≡_, sym, _∙_, _≢_, false, none, List, eqb, length, eqb-true, eqb-false, at, fastest, steepest, step, bad, seconds-fault, by-test, by-order, by-eq}
 use Rattle.rules.specs.declared.Vehicle.{Vehicle}
-use Rattle.rules.specs.Words.{at}
-use Rattle.rules.specs.Units.{fastest, steepest}
-use Rattle.rules.specs.Refusals.{step, bad, seconds-fault}
-use Rattle.rules.proofs.Laws.Words.{by-test, by-order, by-eq}
 use Rattle.gears.specs.declared.Numbers.{Numbers}
 use Rattle.gears.specs.Parts.{Has}
 use Rattle.checks.specs.declared.Asked.{Asked}

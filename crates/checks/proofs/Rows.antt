@@ -1,16 +1,10 @@
 -- The checks in a row, and the opening, 1 to 3: each way out of them.
--- Assumes nothing.
-use Rattle.rules.proofs.Base.{ℕ, _≤_, _<_, arith, _≡_, refl, sym, ap, _∙_, Option, none, List, length, le-leb, lt-leb, eq-eqb, ne-eqb}
+use Rattle.rules.proofs.Offered.{ℕ, _≤_, _<_, arith, _≡_, refl, sym, ap, _∙_, Option, none, List, length, le-leb, lt-leb, eq-eqb, ne-eqb, _and_, within, longest, Fault, said, refuse-at, _orelse_, when, trace-fault, room-fault, vehicle-fault, left, InBounds, orelse-none, none-orelse, orelse-assoc, rooms-in, vehicle-in}
 use Rattle.rules.specs.declared.Vehicle.{Vehicle}
 use Rattle.rules.specs.declared.Refusal.{Refusal}
 use Rattle.rules.specs.declared.Refusal.the-variants.{TraceLength, RoomLength}
 use Rattle.rules.specs.declared.Answer.{Answer}
 use Rattle.rules.specs.declared.Answer.the-variants.{Done, Refused}
-use Rattle.rules.specs.Words.{_and_, within}
-use Rattle.rules.specs.Units.{longest}
-use Rattle.rules.specs.Refusals.{Fault, said, refuse-at, _orelse_, when, trace-fault, room-fault, vehicle-fault, left}
-use Rattle.rules.specs.Inside.{InBounds}
-use Rattle.rules.proofs.Laws.Checks.{orelse-none, none-orelse, orelse-assoc, rooms-in, vehicle-in}
 use Rattle.gears.specs.declared.Numbers.{Numbers}
 use Rattle.gears.specs.Parts.{whole, Counts}
 use Rattle.gears.proofs.Parts.{ng-of, idle-of, rated-of, whole-of}

@@ -1,8 +1,5 @@
 -- The two scans of a trip, as a loop meets them: here, one second further, and at the end of the trace.
--- Assumes nothing.
-use Rattle.rules.proofs.Base.{ℕ, zero, suc, _+_, _-_, _≤_, _<_, add-zero, add-suc, suc-add, add-one, arith, _≡_, sym, ap, _∙_, Bool, true, false, not, List, length, drop, drop-of-length-le, drop-cons, not-true, not-false}
-use Rattle.rules.specs.Words.{at}
-use Rattle.rules.specs.Units.{moving, start, run, stop}
+use Rattle.rules.proofs.Offered.{ℕ, zero, suc, _+_, _-_, _≤_, _<_, add-zero, add-suc, suc-add, add-one, arith, _≡_, sym, ap, _∙_, Bool, true, false, not, List, length, drop, drop-of-length-le, drop-cons, not-true, not-false, at, moving, start, run, stop}
 
 -- what the code found not to be so is not, and what it did not find not to be so is
 pub not-so : {r t : Bool} → r ≡ t → not r ≡ true → t ≡ false

@@ -1,15 +1,6 @@
 -- Each check of a second as the code compares it, and the number of the first that fails.
--- Assumes nothing.
-use Rattle.rules.proofs.Base.{ℕ, suc, _+_, _-_, _*_, _≤_, _<_, arith, _≡_, refl, sym, ap, _∙_, Bool, true, false, not, List, eqb, length, lt-ltb, le-ltb, le-leb, lt-leb, eq-eqb, ne-eqb}
+use Rattle.rules.proofs.Offered.{ℕ, suc, _+_, _-_, _*_, _≤_, _<_, arith, _≡_, refl, sym, ap, _∙_, Bool, true, false, not, List, eqb, length, lt-ltb, le-ltb, le-leb, lt-leb, eq-eqb, ne-eqb, if_then_else_, _and_, _or_, at, highest, fastest, steepest, moving, engine, under-nmax, fits, role-at, not-driven, speed, step, ends, over-ng, at-rest, over-rev, no-gear, check-number, checks, bad, by-order, and-no, first-at-is, choice-none-fits}
 use Rattle.rules.specs.declared.Vehicle.{Vehicle}
-use Rattle.rules.specs.Words.{if_then_else_, _and_, _or_, at, highest}
-use Rattle.rules.specs.Units.{fastest, steepest, moving}
-use Rattle.rules.specs.Gears.{engine, under-nmax, fits}
-use Rattle.rules.specs.Vocabulary.Choosing.{role-at}
-use Rattle.rules.specs.Refusals.{not-driven, speed, step, ends, over-ng, at-rest, over-rev, no-gear, check-number, checks, bad}
-use Rattle.rules.proofs.Laws.Words.{by-order, and-no}
-use Rattle.rules.proofs.Laws.Cards.{first-at-is}
-use Rattle.rules.proofs.Laws.Choice.{choice-none-fits}
 use Rattle.gears.specs.declared.Numbers.{Numbers}
 use Rattle.gears.specs.Parts.{Has}
 use Rattle.gears.proofs.Parts.{nmax-of, engine-of}

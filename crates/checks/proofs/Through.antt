@@ -1,7 +1,5 @@
 -- What is asked for changes its own second and no other, and no length.
--- Assumes nothing.
-use Rattle.rules.proofs.Base.{ℕ, _<_, _≡_, _≢_, List, length, length-set, getD-set-same, getD-set-other}
-use Rattle.rules.specs.Words.{at}
+use Rattle.rules.proofs.Offered.{ℕ, _<_, _≡_, _≢_, List, length, length-set, getD-set-same, getD-set-other, at}
 use Rattle.checks.specs.declared.Asked.{Asked}
 use Rattle.checks.specs.Asked.{speeds-with, holds-with}
 

@@ -1,22 +1,9 @@
 -- No gap between two gears' speeds is enough: no second of a span that passes the checks before wants a gear.
--- Assumes nothing.
-use Rattle.rules.proofs.Base.{ℕ, zero, suc, _+_, _-_, _*_, _≤_, _<_, mul-comm, mul-assoc, mul-le-mul-left, mul-le-mul-right, le-of-mul-le-mul-right, le-trans, le-of-eq, le-of-lt, zero-mul, arith, _≡_, refl, sym, ap, _∙_, Bool, true, false, not, List, Option, none, some, eqb, length, drop, le-leb, leb-false, eqb-true, eqb-false, ne-eqb, not-true, eq-eqb}
+use Rattle.rules.proofs.Offered.{ℕ, zero, suc, _+_, _-_, _*_, _≤_, _<_, mul-comm, mul-assoc, mul-le-mul-left, mul-le-mul-right, le-of-mul-le-mul-right, le-trans, le-of-eq, le-of-lt, zero-mul, arith, _≡_, refl, sym, ap, _∙_, Bool, true, false, not, List, Option, none, some, eqb, length, drop, le-leb, leb-false, eqb-true, eqb-false, ne-eqb, not-true, eq-eqb, if_then_else_, _and_, _or_, at, first, highest, low, fastest, steepest, moving, start, is-first, minimum, engine, under-nmax, over-minimum, allowed, fits, closing, role-of, first-at, Fault, refuse-at, _orelse_, step, no-gear, bad, seconds-fault, clash, by-test, by-order, by-eq, first-none, one-holds, start-le, step-passed, role-at, gear-fault}
+use Rattle.rules.proofs.Theorems.Choosing.{fits-at-any}
 use Rattle.rules.specs.declared.Vehicle.{Vehicle}
 use Rattle.rules.specs.declared.Role.{Role}
 use Rattle.rules.specs.declared.Role.the-variants.{AfterLow}
-use Rattle.rules.specs.Words.{if_then_else_, _and_, _or_, at, first, highest}
-use Rattle.rules.specs.Units.{low, fastest, steepest, moving, start}
-use Rattle.rules.specs.Gears.{is-first, minimum, engine, under-nmax, over-minimum, allowed, fits}
-use Rattle.rules.specs.Corrections.{closing, role-of, first-at}
-use Rattle.rules.specs.Refusals.{Fault, refuse-at, _orelse_, step, no-gear, bad, seconds-fault}
-use Rattle.rules.proofs.Laws.Words.{clash, by-test, by-order, by-eq}
-use Rattle.rules.proofs.Laws.Searches.{first-none}
-use Rattle.rules.proofs.Laws.Walk.{one-holds}
-use Rattle.rules.proofs.Laws.Trips.{start-le}
-use Rattle.rules.proofs.Laws.Checks.{step-passed}
-use Rattle.rules.proofs.Theorems.Choosing.{fits-at-any}
-use Rattle.rules.specs.Vocabulary.Choosing.{role-at}
-use Rattle.rules.specs.Inside.{gear-fault}
 use Rattle.gears.specs.declared.Numbers.{Numbers}
 use Rattle.gears.specs.Parts.{Has, low-in}
 use Rattle.gears.proofs.Parts.{low-of, ng-of, nmax-of, engine-of}

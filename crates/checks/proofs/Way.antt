@@ -1,15 +1,6 @@
 -- A part of a trip on the way through it: going through its seconds with the speed that follows gives their first choices.
--- Assumes nothing.
-use Rattle.rules.proofs.Base.{ℕ, zero, suc, _+_, _-_, _≤_, _<_, arith, _≡_, refl, sym, ap, _∙_, Bool, true, false, List, [], _∷_, leb, eqb, length, take, drop, length-take-le, le-leb, lt-leb, eq-eqb, ne-eqb}
+use Rattle.rules.proofs.Offered.{ℕ, zero, suc, _+_, _-_, _≤_, _<_, arith, _≡_, refl, sym, ap, _∙_, Bool, true, false, List, [], _∷_, leb, eqb, length, take, drop, length-take-le, le-leb, lt-leb, eq-eqb, ne-eqb, _and_, at, part, pass, rise, start, closing, role-of, first-at, IsTrip, role-at, by-order, and-no, at-part, length-part, pass-at, pass-done, trip-start, closing-part, first-at-is, of₃}
 use Rattle.rules.specs.declared.Vehicle.{Vehicle}
-use Rattle.rules.specs.Words.{_and_, at, part, pass}
-use Rattle.rules.specs.Units.{rise, start}
-use Rattle.rules.specs.Corrections.{closing, role-of, first-at}
-use Rattle.rules.specs.Vocabulary.Choosing.{IsTrip, role-at}
-use Rattle.rules.proofs.Laws.Words.{by-order, and-no, at-part, length-part, pass-at, pass-done}
-use Rattle.rules.proofs.Laws.Trips.{trip-start}
-use Rattle.rules.proofs.Laws.Closing.{closing-part}
-use Rattle.rules.proofs.Laws.Cards.{first-at-is}
 use Rattle.gears.specs.Choosing.{first-of}
 use Rattle.trips.specs.Ready.{Aligned, Paced}
 use Rattle.trips.specs.Trip.{on-way}
@@ -129,7 +120,7 @@ module _ {vs ns : List ℕ} {a b run i : ℕ} (W : OnWay vs ns a b run i) {ks us
           let x : i + suc j - 1 ≡ i + j = omega arith in
           let y : suc j - 1 ≡ j = omega arith in
           let prev : at (pass f (suc j) gs₀) j ≡ first-at car vs ks (i + j) =
-          pass-done f gs₀ (suc j) (length hs) j (omega arith) (omega arith) (omega arith) ∙ ap (λ (z : List ℕ). at z j) (sym e) ∙ each-first e j (omega arith) in
+          of₃ (pass-done f gs₀ (suc j) (length hs) j) (omega arith) ∙ ap (λ (z : List ℕ). at z j) (sym e) ∙ each-first e j (omega arith) in
           rw e (pass-at f gs₀ (length hs) (suc j) l (omega arith) ∙ each-choice (suc j) l (λ z. rw (ne-eqb (suc j) 0 (λ y. omega arith), y, x) prev))
 
       -- with the way that is left to the closing run by name

@@ -1,8 +1,5 @@
 -- What is asked for and not yet written, as the checks look through it.
--- Assumes nothing.
-use Prim.Native.Nat.{ℕ}
-use mathlib.Core.List.{List}
-use lib.ListN.{set}
+use Rattle.rules.specs.Words.{ℕ, List, set}
 use Rattle.checks.specs.declared.Asked.{Asked}
 
 -- the speeds, were it written

@@ -1,14 +1,7 @@
 -- What the cheap tests of a span ask and find.
--- Assumes nothing.
-use Prim.Native.Nat.{ℕ, _+_, _-_, _*_, _≤_, _<_}
-use mathlib.Core.Path.{_≡_}
-use mathlib.Core.Logic.{_≢_}
-use mathlib.Core.Bool.{false}
-use mathlib.Core.List.{List}
-use lib.ListN.{length}
+use Rattle.rules.specs.Words.{ℕ, _+_, _-_, _*_, _≤_, _<_, _≡_, _≢_, false, List, length, at}
 use Rattle.rules.specs.declared.Vehicle.{Vehicle}
 use Rattle.rules.specs.declared.Role.the-variants.{AfterLow}
-use Rattle.rules.specs.Words.{at}
 use Rattle.rules.specs.Units.{fastest, steepest, moving}
 use Rattle.rules.specs.Gears.{minimum}
 use Rattle.rules.specs.Refusals.{step, checks, bad}

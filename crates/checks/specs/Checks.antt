@@ -1,13 +1,6 @@
 -- What the checks of a span ask of their arguments and answer, and which checks look at a hold.
--- Assumes nothing.
-use Prim.Native.Nat.{ℕ, _≤_, _<_}
-use mathlib.Core.Path.{_≡_}
-use mathlib.Core.List.{List, [], _∷_}
-use mathlib.Core.Option.{Option, none, some}
-use lib.Dec.{ltb}
-use lib.ListN.{length}
+use Rattle.rules.specs.Words.{ℕ, _≤_, _<_, _≡_, List, [], _∷_, Option, none, some, ltb, length, if_then_else_, at}
 use Rattle.rules.specs.declared.Vehicle.{Vehicle}
-use Rattle.rules.specs.Words.{if_then_else_, at}
 use Rattle.rules.specs.Refusals.{Fault, Check, over-ng, at-rest, over-rev, check-number, bad}
 use Rattle.gears.specs.declared.Numbers.{Numbers}
 

@@ -1,15 +1,6 @@
 -- What the check for want of a gear asks and finds.
--- Assumes nothing.
-use Prim.Native.Nat.{ℕ, suc, _+_, _-_, _≤_, _<_}
-use mathlib.Core.Path.{_≡_}
-use mathlib.Core.Logic.{_≢_}
-use mathlib.Core.Bool.{Bool, true, false}
-use mathlib.Core.List.{List}
-use lib.Dec.{eqb}
-use lib.IntN.{natAbs}
-use lib.ListN.{length}
+use Rattle.rules.specs.Words.{ℕ, suc, _+_, _-_, _≤_, _<_, _≡_, _≢_, Bool, true, false, List, eqb, natAbs, length, at, part}
 use Rattle.rules.specs.declared.Vehicle.{Vehicle}
-use Rattle.rules.specs.Words.{at, part}
 use Rattle.rules.specs.Units.{fastest, steepest, moving, rise}
 use Rattle.rules.specs.Corrections.{first-at}
 use Rattle.trips.specs.Trip.{RunFrom}

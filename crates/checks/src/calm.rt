@@ -1,11 +1,7 @@
 // A cheap test of a span: what it lets through passes checks 4 to 9, and what it does not is judged second by second. It is of the seconds as they are
 // written, but for the one that is asked for, which is judged. Its loops neither branch nor leave early, so that several seconds are looked at at once.
-ghost use mathlib.Core.Path.{_≡_};
-ghost use mathlib.Core.Bool.{true};
-ghost use mathlib.Core.Option.{none};
-ghost use Prim.Native.Nat.{_≤_};
+ghost use Rattle.rules.specs.Words.{_≡_, true, none, _≤_, at};
 ghost use Rattle.rules.specs.declared.Vehicle.{Vehicle};
-ghost use Rattle.rules.specs.Words.{at};
 ghost use Rattle.rules.specs.Refusals.{seconds-fault};
 ghost use Rattle.gears.specs.Parts.{Has};
 ghost use Rattle.checks.specs.Asked.{speeds-with, holds-with};

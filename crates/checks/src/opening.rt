@@ -1,8 +1,5 @@
 // The refusals that come before the seconds are looked at.
-ghost use mathlib.Core.Path.{_≡_};
-ghost use mathlib.Core.List.{List};
-ghost use Prim.Native.Nat.{ℕ};
-ghost use lib.ListN.{length};
+ghost use Rattle.rules.specs.Words.{_≡_, List, ℕ, length};
 ghost use Rattle.rules.specs.Refusals.{said, _orelse_, trace-fault, room-fault, vehicle-fault};
 ghost use Rattle.gears.specs.Parts.{whole};
 use gears::NEWEST;

@@ -1,6 +1,5 @@
 // Checks 4 to 10 on the seconds of a span.
-ghost use mathlib.Core.Path.{_≡_};
-ghost use Prim.Native.Nat.{_≤_};
+ghost use Rattle.rules.specs.Words.{_≡_, _≤_};
 ghost use Rattle.rules.specs.declared.Vehicle.{Vehicle};
 ghost use Rattle.rules.specs.Refusals.{said, span-fault};
 ghost use Rattle.gears.specs.Parts.{Lent, Parts};

@@ -1,10 +1,6 @@
 // Checks 4 to 9 of the seconds of a span, in one pass: a trace is as long as it is, and six passes over it would look at each second six times.
-ghost use mathlib.Core.Path.{_≡_};
-ghost use mathlib.Core.List.{List};
-ghost use Prim.Native.Nat.{ℕ, _+_, _-_, _≤_, _<_};
-ghost use lib.ListN.{length};
+ghost use Rattle.rules.specs.Words.{_≡_, List, ℕ, _+_, _-_, _≤_, _<_, length, at};
 ghost use Rattle.rules.specs.declared.Vehicle.{Vehicle};
-ghost use Rattle.rules.specs.Words.{at};
 ghost use Rattle.rules.specs.Refusals.{step, ends, checks, bad, said, seconds-fault};
 ghost use Rattle.gears.specs.Parts.{Has};
 ghost use Rattle.checks.specs.Asked.{speeds-with, holds-with};

@@ -1,8 +1,5 @@
 // Where a trip ends and where its closing run begins, of the speeds as they would be with what is asked for.
-ghost use mathlib.Core.Path.{_≡_};
-ghost use Prim.Native.Nat.{suc, _+_, _≤_, _<_};
-ghost use lib.ListN.{length};
-ghost use Rattle.rules.specs.Words.{at, part};
+ghost use Rattle.rules.specs.Words.{_≡_, suc, _+_, _≤_, _<_, length, at, part};
 ghost use Rattle.rules.specs.Units.{stop};
 ghost use Rattle.trips.specs.Trip.{RunFrom};
 ghost use Rattle.checks.specs.Asked.{speeds-with};

@@ -1,7 +1,5 @@
 // Where the trip of a second lies: two scans, one to each side, that stop at the first standing second.
-ghost use mathlib.Core.Path.{_≡_};
-ghost use Prim.Native.Nat.{_≤_};
-ghost use lib.ListN.{length};
+ghost use Rattle.rules.specs.Words.{_≡_, _≤_, length};
 ghost use Rattle.rules.specs.Units.{start, stop};
 use rules::moving;
 

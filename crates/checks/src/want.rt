@@ -1,13 +1,7 @@
 // Check 10, for want of a gear, of the seconds of a span that passes the checks before it. Where the vehicle's gears leave no speed between them, by
 // engine speed alone; elsewhere by a dry run of the first choices. All of it is of what is asked for and not yet written.
-ghost use mathlib.Core.Path.{_≡_};
-ghost use mathlib.Core.Bool.{true};
-ghost use mathlib.Core.Option.{none};
-ghost use Prim.Native.Nat.{ℕ, _+_, _-_, _*_, _≤_, _<_};
-ghost use lib.Dec.{eqb};
-ghost use lib.ListN.{length};
+ghost use Rattle.rules.specs.Words.{_≡_, true, none, ℕ, _+_, _-_, _*_, _≤_, _<_, eqb, length, at};
 ghost use Rattle.rules.specs.declared.Vehicle.{Vehicle};
-ghost use Rattle.rules.specs.Words.{at};
 ghost use Rattle.rules.specs.Corrections.{first-at};
 ghost use Rattle.rules.specs.Refusals.{no-gear, bad, said, seconds-fault};
 ghost use Rattle.rules.specs.Inside.{gear-fault};

@@ -1,7 +1,5 @@
 -- A list copied into the front of a room, one place a turn.
--- Assumes nothing.
-use Rattle.rules.proofs.Base.{_≡_, refl, _∙_, List, _++_, ℕ, suc, _+_, _<_, _≤_, add-one, arith, length, take, drop, set, getD, length-set, take-suc, drop-cons, take-all, append-snoc, set-at, length-take-le}
-use Rattle.rules.specs.Job.{filled}
+use Rattle.rules.proofs.Offered.{_≡_, refl, _∙_, List, _++_, ℕ, suc, _+_, _<_, _≤_, add-one, arith, length, take, drop, set, getD, length-set, take-suc, drop-cons, take-all, append-snoc, set-at, length-take-le, filled}
 
 -- the first i places are the list's, those behind them as they were
 pub record Copied (src room₀ : List ℕ) (i : ℕ) (room : List ℕ) : Type 0 where

@@ -1,10 +1,6 @@
 -- The demands on the functions of the built-in cycle, over their contracts as the check reads them.
--- Assumes nothing.
-use Rattle.rules.proofs.Base.{ℕ, _≡_, sym, _∙_, none, some, List, length, now, Lasts, atExit, Lfts, Dens, endedOf, resT}
+use Rattle.rules.proofs.Offered.{ℕ, _≡_, sym, _∙_, none, some, List, length, now, Lasts, atExit, Lfts, Dens, endedOf, resT, Fault, said, filled, left-none, left-some}
 use Rattle.rules.specs.declared.Answer.{Answer}
-use Rattle.rules.specs.Refusals.{Fault, said}
-use Rattle.rules.specs.Job.{filled}
-use Rattle.rules.proofs.Laws.Checks.{left-none, left-some}
 use Rattle.cycles.specs.Cycle.{cycle}
 use Rattle.cycles.specs.Parts.{fill-fault, fill-room}
 use Rattle.cycles.proofs.filling.fill.Kinds as fill-kinds

@@ -1,8 +1,6 @@
 -- Each public function's contract allows one outcome. `Reads` is the contract's own reading, which the check makes of the clauses.
--- Assumes nothing.
-use Rattle.rules.proofs.Base.{refl, sym, _∙_, List, ℕ, now}
-use Rattle.rules.proofs.Laws.Refusals.{said-once}
-use Rattle.once.specs.Determined.{Determined, DeterminedAs}
+use Rattle.rules.proofs.Offered.{refl, sym, _∙_, List, ℕ, now, said-once}
+use Rattle.rules.specs.Determined.{Determined, DeterminedAs}
 use Rattle.cycles.proofs.filling.fill.Kinds as fill-kinds
 use Rattle.cycles.proofs.filling.fill.Reads as fill-reads
 use Rattle.cycles.proofs.parts.stretch_of.Kinds as stretch-kinds

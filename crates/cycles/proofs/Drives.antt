@@ -1,14 +1,7 @@
 -- A trace that is no longer than the longest, never too fast or too steep, and at rest at both ends, passes the checks that look at the trace alone; so
 -- does a part of it that begins and ends at rest.
--- Assumes nothing.
-use Rattle.rules.proofs.Base.{ℕ, zero, suc, _+_, _-_, _≤_, _<_, add-zero, add-suc, arith, _≡_, refl, ap, _∙_, true, false, not, none, List, eqb, length, lt-ltb, le-ltb, le-leb, eqb-true}
+use Rattle.rules.proofs.Offered.{ℕ, zero, suc, _+_, _-_, _≤_, _<_, add-zero, add-suc, arith, _≡_, refl, ap, _∙_, true, false, not, none, List, eqb, length, lt-ltb, le-ltb, le-leb, eqb-true, _and_, _or_, within, at, part, first, longest, moving, refuse-at, trace-fault, Check, speed, step, ends, check-number, bad, fault-of, by-test, and-no, length-part, at-part, first-none, none-orelse, none-when}
 use Rattle.rules.specs.declared.Vehicle.{Vehicle}
-use Rattle.rules.specs.Words.{_and_, _or_, within, at, part, first}
-use Rattle.rules.specs.Units.{longest, moving}
-use Rattle.rules.specs.Refusals.{refuse-at, trace-fault, Check, speed, step, ends, check-number, bad, fault-of}
-use Rattle.rules.proofs.Laws.Words.{by-test, and-no, length-part, at-part}
-use Rattle.rules.proofs.Laws.Searches.{first-none}
-use Rattle.rules.proofs.Laws.Checks.{none-orelse, none-when}
 use Rattle.cycles.specs.Parts.{trace-checks}
 use Rattle.cycles.proofs.Table.{Near}
 

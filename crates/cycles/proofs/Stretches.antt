@@ -1,9 +1,5 @@
 -- What the refusals and the parts of the cycle come to.
--- Assumes nothing.
-use Rattle.rules.proofs.Base.{ℕ, zero, suc, _+_, _-_, _≤_, _<_, arith, _≡_, refl, _≢_, Option, none, some, List, [], length, ltb, lit≤, lt-ltb, le-ltb, ltb-false}
-use Rattle.rules.specs.Words.{part}
-use Rattle.rules.specs.Refusals.{Fault, refuse-at, _orelse_, when, left}
-use Rattle.rules.proofs.Laws.Checks.{orelse-none, when-none}
+use Rattle.rules.proofs.Offered.{ℕ, zero, suc, _+_, _-_, _≤_, _<_, arith, _≡_, refl, _≢_, Option, none, some, List, [], length, ltb, lit≤, lt-ltb, le-ltb, ltb-false, part, Fault, refuse-at, _orelse_, when, left, orelse-none, when-none}
 use Rattle.cycles.specs.Parts.{cycle-seconds, first-second, last-second, fill-fault, places, stretch, part-seconds}
 
 -- ---- the refusals

@@ -1,9 +1,5 @@
 -- The cycle's rules at each second, by one test that is computed over the whole table, one second after the other.
--- Assumes nothing.
-use Rattle.rules.proofs.Base.{ℕ, zero, suc, _+_, _≤_, _<_, add-zero, zero-add, add-suc, suc-add, le-of-suc-le-suc, not-suc-le-zero, _≡_, refl, sym, _∙_, subst, Bool, true, false, not, List, [], _∷_, leb, eqb, length, leb-true, not-true}
-use Rattle.rules.specs.Words.{if_then_else_, _and_, _or_, at}
-use Rattle.rules.specs.Units.{moving}
-use Rattle.rules.proofs.Laws.Words.{and-left, and-right}
+use Rattle.rules.proofs.Offered.{ℕ, zero, suc, _+_, _≤_, _<_, add-zero, zero-add, add-suc, suc-add, le-of-suc-le-suc, not-suc-le-zero, _≡_, refl, sym, _∙_, subst, Bool, true, false, not, List, [], _∷_, leb, eqb, length, leb-true, not-true, if_then_else_, _and_, _or_, at, moving, and-left, and-right}
 use Rattle.cycles.specs.Cycle.{cycle, low, medium, high, extra-high}
 
 -- ---- a test of a list, from left to right

@@ -1,12 +1,7 @@
 -- What a reader of request Three may conclude of the cycle and of the two calls, each by name.
--- Assumes nothing.
-use Rattle.rules.proofs.Base.{ℕ, suc, _+_, _-_, _≤_, _<_, arith, _≡_, refl, sym, ap, _∙_, false, none, some, List, [], _++_, lit<, lit≤, length, drop, length-append, length-drop, take-append-le, drop-append-le, drop-append-seam, now, Lasts, atExit, Lfts, Dens, endedOf, resT}
+use Rattle.rules.proofs.Offered.{ℕ, suc, _+_, _-_, _≤_, _<_, arith, _≡_, refl, sym, ap, _∙_, false, none, some, List, [], _++_, lit<, lit≤, length, drop, length-append, length-drop, take-append-le, drop-append-le, drop-append-seam, now, Lasts, atExit, Lfts, Dens, endedOf, resT, _or_, at, part, longest, moving, filled, Fault, said, left}
 use Rattle.rules.specs.declared.Vehicle.{Vehicle}
 use Rattle.rules.specs.declared.Answer.{Answer}
-use Rattle.rules.specs.Words.{_or_, at, part}
-use Rattle.rules.specs.Units.{longest, moving}
-use Rattle.rules.specs.Job.{filled}
-use Rattle.rules.specs.Refusals.{Fault, said, left}
 use Rattle.cycles.specs.Cycle.{cycle, low, medium, high, extra-high, speed-sum}
 use Rattle.cycles.specs.Parts.{trace-checks, first-second, last-second, fill-fault, fill-room, part-seconds}
 use Rattle.cycles.proofs.Stretches.{by-fault, ordered, at-ends, accepted, accepted-part, accepted-room}

@@ -1,7 +1,5 @@
 -- Document 000, Annex 1: the Class 3 cycle for top speeds of 120 km/h and over, in tenths of km/h, 20 seconds a line. docs/CYCLES.md says how the print was read.
--- Assumes nothing.
-use Prim.Native.Nat.{ℕ, _+_}
-use mathlib.Core.List.{List, [], _∷_, _++_}
+use Rattle.rules.specs.Words.{ℕ, _+_, List, [], _∷_, _++_}
 
 -- Low3: seconds 0 to 589
 unfoldable pub low : List ℕ

@@ -1,12 +1,6 @@
 -- Document 02, request Three: the parts of the cycle, and what filling a room and taking a part of it refuse and give.
--- Assumes nothing.
-use Prim.Native.Nat.{ℕ, _+_, _-_}
-use mathlib.Core.Option.{Option, none, some}
-use mathlib.Core.List.{List, [], _∷_}
-use lib.ListN.{length}
-use lib.Dec.{ltb}
+use Rattle.rules.specs.Words.{ℕ, _+_, _-_, Option, none, some, List, [], _∷_, length, ltb, at, part}
 use Rattle.rules.specs.declared.Vehicle.{Vehicle}
-use Rattle.rules.specs.Words.{at, part}
 use Rattle.rules.specs.Job.{filled}
 use Rattle.rules.specs.Refusals.{Fault, refuse-at, _orelse_, when, left, trace-fault, bad, fault-of, speed, step, ends}
 use Rattle.cycles.specs.declared.parts.Stretch.{Stretch}

@@ -1,7 +1,5 @@
 // A room filled with the cycle.
-ghost use mathlib.Core.Path.{_≡_};
-ghost use Prim.Native.Nat.{_≤_};
-ghost use lib.ListN.{length};
+ghost use Rattle.rules.specs.Words.{_≡_, _≤_, length};
 ghost use Rattle.rules.specs.Job.{filled};
 ghost use Rattle.rules.specs.Refusals.{said};
 ghost use Rattle.cycles.specs.Parts.{fill-fault, fill-room};

@@ -1,7 +1,5 @@
 -- A stretch of a room that is changed from left to right, one place a turn.
--- Assumes nothing.
-use Rattle.rules.proofs.Base.{ℕ, _+_, _≤_, _<_, arith, _≡_, refl, subst, _∙_, List, length, set, length-set, getD-set-same, getD-set-other}
-use Rattle.rules.proofs.Laws.Words.{by-eq}
+use Rattle.rules.proofs.Offered.{ℕ, _+_, _≤_, _<_, arith, _≡_, refl, subst, _∙_, List, length, set, length-set, getD-set-same, getD-set-other, by-eq}
 use Rattle.downscale.specs.Closed.{Changed}
 
 pub begin : (g : ℕ → ℕ) (lo : ℕ) (room : List ℕ) → Changed g lo lo room room

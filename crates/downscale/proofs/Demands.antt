@@ -1,9 +1,6 @@
 -- The demands on downscaling, over the contracts of its two functions as the check reads them.
--- Assumes nothing.
-use Rattle.rules.proofs.Base.{ℕ, _≡_, sym, _∙_, none, some, List, length, now, Lasts, atExit, Lfts, Dens, endedOf, resT}
+use Rattle.rules.proofs.Offered.{ℕ, _≡_, sym, _∙_, none, some, List, length, now, Lasts, atExit, Lfts, Dens, endedOf, resT, Fault, said, left-none, left-some}
 use Rattle.rules.specs.declared.Answer.{Answer}
-use Rattle.rules.specs.Refusals.{Fault, said}
-use Rattle.rules.proofs.Laws.Checks.{left-none, left-some}
 use Rattle.downscale.specs.Steps.{scaled, down-fault, down-room}
 use Rattle.downscale.proofs.closed.downscale.Kinds as closed-kinds
 use Rattle.downscale.proofs.closed.downscale.Reads as closed-reads

@@ -1,8 +1,5 @@
 -- Annex 1's steps in closed form, as fractions: one law for both stretches.
--- Assumes nothing.
-use Rattle.rules.proofs.Base.{ℕ, zero, suc, _+_, _-_, _*_, _≤_, add-zero, add-comm, add-mul, arith, _≡_, refl, sym, ap, _∙_, ℤ, pos, negℤ, _+ℤ_, _-ℤ_, _*ℤ_, +ℤ-assoc}
-use Rattle.rules.specs.Words.{at}
-use Rattle.rules.proofs.Laws.Integers.{*ℤ-+ℤ, *ℤ-neg, add-back, pos-sub}
+use Rattle.rules.proofs.Offered.{ℕ, zero, suc, _+_, _-_, _*_, _≤_, add-zero, add-comm, add-mul, arith, _≡_, refl, sym, ap, _∙_, ℤ, pos, negℤ, _+ℤ_, _-ℤ_, _*ℤ_, +ℤ-assoc, at, *ℤ-+ℤ, *ℤ-neg, add-back, pos-sub}
 use Rattle.cycles.specs.Cycle.{cycle, low, medium, high, extra-high}
 use Rattle.downscale.specs.Steps.{own, steps, rise, peak, correction, fall}
 use Rattle.downscale.specs.Closed.{drawn}

@@ -1,7 +1,5 @@
 -- Rounding: how far it can go, that it does not go apart, and when it is exact.
--- Assumes nothing.
-use Rattle.rules.proofs.Base.{ℕ, _+_, _-_, _*_, _/_, _≤_, _<_, sub-zero, add-zero, zero-mul, mul-comm, mul-left-comm, mul-add, add-mul, one-mul, mul-le-mul-left, mul-le-mul-right, le-div-iff-mul-le, div-lt-iff-lt-mul, div-mul-le-self, div-eq-of-lt-le, add-mul-div-right, mul-div-mul-left, le-trans, arith, _≡_, sym, ap, _∙_}
-use Rattle.rules.specs.Words.{nearest}
+use Rattle.rules.proofs.Offered.{ℕ, _+_, _-_, _*_, _/_, _≤_, _<_, sub-zero, add-zero, zero-mul, mul-comm, mul-left-comm, mul-add, add-mul, one-mul, mul-le-mul-left, mul-le-mul-right, le-div-iff-mul-le, div-lt-iff-lt-mul, div-mul-le-self, div-eq-of-lt-le, add-mul-div-right, mul-div-mul-left, le-trans, arith, _≡_, sym, ap, _∙_, nearest}
 use Rattle.downscale.specs.Closed.{drawn}
 use Rattle.downscale.proofs.Fractions.{drawn-rest}
 

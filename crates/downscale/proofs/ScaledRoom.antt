@@ -1,12 +1,5 @@
 -- The room as both ways leave it is the scaled cycle.
--- Assumes nothing.
-use Rattle.rules.proofs.Base.{ℕ, _+_, _-_, _*_, _≤_, _<_, zero-add, arith, _≡_, refl, sym, ap, _∙_, not, none, List, append-nil, length, drop-length, ext-getD, ltb, eqb, lit≤, pos, natAbs, ltb-false, eqb-true, not-false, le-leb, lt-leb}
-use Rattle.rules.specs.Words.{_and_, within, nearest, at}
-use Rattle.rules.specs.Job.{filled}
-use Rattle.rules.specs.Refusals.{left}
-use Rattle.rules.proofs.Laws.Words.{by-order, by-eq, length-table, at-table}
-use Rattle.rules.proofs.Laws.Checks.{orelse-none, when-none}
-use Rattle.rules.proofs.Laws.Integers.{pos-sub}
+use Rattle.rules.proofs.Offered.{ℕ, _+_, _-_, _*_, _≤_, _<_, zero-add, arith, _≡_, refl, sym, ap, _∙_, not, none, List, append-nil, length, drop-length, ext-getD, ltb, eqb, lit≤, pos, natAbs, ltb-false, eqb-true, not-false, le-leb, lt-leb, _and_, within, nearest, at, filled, left, by-order, by-eq, length-table, at-table, orelse-none, when-none, pos-sub}
 use Rattle.cycles.specs.Cycle.{cycle}
 use Rattle.cycles.specs.Parts.{fill-room}
 use Rattle.cycles.proofs.Stretches.{accepted}

@@ -1,7 +1,5 @@
 -- Annex 1's steps as the code takes them: at each second the sum is the numerator of the definition.
--- Assumes nothing.
-use Rattle.rules.proofs.Base.{ℕ, suc, _+_, _-_, _*_, _≤_, _<_, le-refl, arith, _≡_, sym, ap, _∙_, List, length, set, pos, natAbs}
-use Rattle.rules.specs.Words.{nearest, at}
+use Rattle.rules.proofs.Offered.{ℕ, suc, _+_, _-_, _*_, _≤_, _<_, le-refl, arith, _≡_, sym, ap, _∙_, List, length, set, pos, natAbs, nearest, at}
 use Rattle.cycles.specs.Cycle.{cycle}
 use Rattle.cycles.proofs.Theorems.{never-fast}
 use Rattle.downscale.specs.Steps.{steps}
@@ -64,11 +62,7 @@ module _ {first end w k n : ℕ} {room₀ : List ℕ} {i before total : ℕ} {ro
   pub asks : (k ≤ 487000) × (k * before ≤ total) × (total ≤ 487000 * 65535)
   unfolding drawn
   asks =
-      let e : k * before ≡ (w - h .p) * before = ap (λ (m : ℕ). m * before) (h .factor-is) in (
-        omega (arith, h .factor-is, h .draws .to),
-        omega (arith, h .total-is),
-        omega (arith, h .total-is, drawn-most w (h .p) (h .r) (h .draws .parts) before 65535 before-most (h .draws .speed), h .draws .to),
-      )
+      let e : k * before ≡ (w - h .p) * before = ap (λ (m : ℕ). m * before) (h .factor-is) in omega (arith, h .factor-is, h .draws .to, h .total-is, drawn-most w (h .p) (h .r) (h .draws .parts) before 65535 before-most (h .draws .speed))
 
   module _ (l : i < end) {s t : ℕ} (e : s ≡ at room i) (q : t ≡ total + k * s - k * before) where
     speed-is : s ≡ at cycle i

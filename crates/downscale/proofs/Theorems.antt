@@ -1,13 +1,7 @@
 -- What a reader of request Eleven may conclude of the scaled cycle and of the two ways, each by name.
--- Assumes nothing.
-use Rattle.rules.proofs.Base.{ℕ, suc, _+_, _-_, _*_, _≤_, _<_, arith, _≡_, sym, _∙_, none, some, List, lit<, lit≤, length, ext-getD, pos, _-ℤ_, now, Lasts, atExit, Lfts, Dens, endedOf, resT}
+use Rattle.rules.proofs.Offered.{ℕ, suc, _+_, _-_, _*_, _≤_, _<_, arith, _≡_, sym, _∙_, none, some, List, lit<, lit≤, length, ext-getD, pos, _-ℤ_, now, Lasts, atExit, Lfts, Dens, endedOf, resT, Fault, said, left, said-once, at, part, longest, by-order, by-eq}
 use Rattle.rules.specs.declared.Vehicle.{Vehicle}
 use Rattle.rules.specs.declared.Answer.{Answer}
-use Rattle.rules.specs.Refusals.{Fault, said, left}
-use Rattle.rules.proofs.Laws.Refusals.{said-once}
-use Rattle.rules.specs.Words.{at, part}
-use Rattle.rules.specs.Units.{longest}
-use Rattle.rules.proofs.Laws.Words.{by-order, by-eq}
 use Rattle.cycles.specs.Cycle.{cycle}
 use Rattle.cycles.specs.Parts.{trace-checks, first-second, last-second}
 use Rattle.cycles.proofs.Table.{Near}

@@ -1,10 +1,5 @@
 -- The closed form: a scaled speed from the cycle's own speed at that second alone, with one division. And what the functions below the call ask and do.
--- Assumes nothing.
-use Prim.Native.Nat.{ℕ, _+_, _-_, _*_, _≤_, _<_}
-use mathlib.Core.Path.{_≡_}
-use mathlib.Core.List.{List}
-use lib.ListN.{length}
-use Rattle.rules.specs.Words.{nearest, at}
+use Rattle.rules.specs.Words.{ℕ, _+_, _-_, _*_, _≤_, _<_, _≡_, List, length, nearest, at}
 use Rattle.cycles.specs.Cycle.{cycle}
 use Rattle.downscale.specs.Steps.{by-stretch}
 

@@ -1,13 +1,5 @@
 -- Document 000, Annex 1, "Downscaling procedure for Class 3 vehicles", with exact fractions, and document 02, request Eleven.
--- Assumes nothing.
-use Prim.Native.Nat.{ℕ, zero, suc, _+_, _-_}
-use mathlib.Core.Bool.{not}
-use mathlib.Core.Option.{Option}
-use mathlib.Core.List.{List}
-use lib.ListN.{length}
-use lib.Dec.{ltb, eqb}
-use lib.IntN.{ℤ, pos, natAbs, _+ℤ_, _-ℤ_, _*ℤ_}
-use Rattle.rules.specs.Words.{if_then_else_, within, nearest, at, table}
+use Rattle.rules.specs.Words.{ℕ, zero, suc, _+_, _-_, not, Option, List, length, ltb, eqb, ℤ, pos, natAbs, _+ℤ_, _-ℤ_, _*ℤ_, if_then_else_, within, nearest, at, table}
 use Rattle.rules.specs.Refusals.{Fault, refuse-at, _orelse_, when, left}
 use Rattle.cycles.specs.Cycle.{cycle}
 

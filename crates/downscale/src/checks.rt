@@ -1,7 +1,5 @@
 // What both ways share: the refusals, and the rounding.
-ghost use mathlib.Core.Path.{_≡_};
-ghost use Prim.Native.Nat.{_*_, _≤_};
-ghost use Rattle.rules.specs.Words.{nearest};
+ghost use Rattle.rules.specs.Words.{_≡_, _*_, _≤_, nearest};
 ghost use Rattle.rules.specs.Refusals.{said};
 ghost use Rattle.downscale.specs.Steps.{down-fault};
 use rules::Answer;

@@ -1,9 +1,6 @@
 // The closed form: one division a second.
-ghost use mathlib.Core.Path.{_≡_};
-ghost use Prim.Native.Nat.{_≤_};
-ghost use lib.ListN.{length};
+ghost use Rattle.rules.specs.Words.{_≡_, _≤_, length, at};
 ghost use Rattle.rules.specs.Refusals.{said};
-ghost use Rattle.rules.specs.Words.{at};
 ghost use Rattle.downscale.specs.Steps.{down-fault, down-room};
 ghost use Rattle.downscale.specs.Closed.{drawn-speed, Drawing, Changed};
 use crate::checks::check;

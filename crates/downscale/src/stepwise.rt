@@ -1,9 +1,5 @@
 // Annex 1, step by step, with exact fractions: what the closed form is run against.
-ghost use mathlib.Core.Path.{_≡_};
-ghost use Prim.Native.Nat.{suc, _+_, _-_, _*_, _≤_};
-ghost use lib.ListN.{length};
-ghost use lib.IntN.{pos, natAbs};
-ghost use Rattle.rules.specs.Words.{nearest};
+ghost use Rattle.rules.specs.Words.{_≡_, suc, _+_, _-_, _*_, _≤_, length, pos, natAbs, nearest};
 ghost use Rattle.rules.specs.Refusals.{said};
 ghost use Rattle.downscale.specs.Steps.{steps, down-fault, down-room};
 ghost use Rattle.downscale.specs.Closed.{Changed, Stepping};

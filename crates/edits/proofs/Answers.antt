@@ -1,6 +1,5 @@
 -- What is said of an edit: its row of checks begins with the opening and the second, and ends with the checks of its span.
--- Assumes nothing.
-use Rattle.rules.proofs.Base.{ℕ, _+_, _≤_, _<_, min, arith, _≡_, refl, sym, ap, _∙_, Bool, true, false, not, Option, List, eqb, ltb, length, set, set-getD, lt-ltb, le-ltb, eqb-true}
+use Rattle.rules.proofs.Offered.{ℕ, _+_, _≤_, _<_, min, arith, _≡_, refl, sym, ap, _∙_, Bool, true, false, not, Option, List, eqb, ltb, length, set, set-getD, lt-ltb, le-ltb, eqb-true, at, _or_, Fault, said, refuse-at, _orelse_, when, not-driven, span-fault, Span, showing, second, asked-speeds, asked-holds, span, asked-fault, edit-fault, none-held, clash, by-test, own-checks, zero-as-over, span-kept}
 use Rattle.rules.specs.declared.Vehicle.{Vehicle}
 use Rattle.rules.specs.declared.Summary.{Summary}
 use Rattle.rules.specs.declared.Edit.{Edit}
@@ -9,14 +8,6 @@ use Rattle.rules.specs.declared.Refusal.{Refusal}
 use Rattle.rules.specs.declared.Refusal.the-variants.{OutsideTrace}
 use Rattle.rules.specs.declared.Answer.{Answer}
 use Rattle.rules.specs.declared.Answer.the-variants.{Done, Refused}
-use Rattle.rules.specs.Words.{at, _or_}
-use Rattle.rules.specs.Refusals.{Fault, said, refuse-at, _orelse_, when, not-driven, span-fault}
-use Rattle.rules.specs.Edit.{Span, showing, second, asked-speeds, asked-holds, span, asked-fault, edit-fault}
-use Rattle.rules.specs.Vocabulary.Edits.{none-held}
-use Rattle.rules.proofs.Laws.Words.{clash, by-test}
-use Rattle.rules.proofs.Laws.Edits.{own-checks}
-use Rattle.rules.proofs.Laws.Buttons.{zero-as-over}
-use Rattle.rules.proofs.Laws.Span.{span-kept}
 use Rattle.checks.specs.Asked.{speeds-with, holds-with}
 use Rattle.checks.proofs.Rows.{opening, Opened, after-opening, opening-first}
 use Rattle.edits.specs.Asks.{gear-asked, asked-of}

@@ -1,23 +1,11 @@
 -- An edit that no check refuses, carried out: what the sweep asks of the screen with its byte written, and that what is left is the screen of the definitions.
--- Assumes nothing.
-use Rattle.rules.proofs.Base.{ℕ, suc, _+_, _-_, _<_, min, add-one, arith, _≡_, sym, ap, _∙_, inl, none, List, length}
+use Rattle.rules.proofs.Offered.{ℕ, suc, _+_, _-_, _<_, min, add-one, arith, _≡_, sym, ap, _∙_, inl, none, List, length, at, patch, card-at, fault, said, span-fault, updated, Screen, Span, showing, second, asked-speeds, asked-holds, span, asked-fault, edit-fault, asked-screen, edited, by-order, Taken, taken, trace-in, rooms-in, vehicle-in, length-asked, length-holds, refused-alone, taken-asked, span-passes, span-kept, counts, counts-by-range}
 use Rattle.rules.specs.declared.Vehicle.{Vehicle}
 use Rattle.rules.specs.declared.Summary.{Summary}
 use Rattle.rules.specs.declared.Edit.{Edit}
 use Rattle.rules.specs.declared.Refusal.{Refusal}
 use Rattle.rules.specs.declared.Answer.{Answer}
 use Rattle.rules.specs.declared.Answer.the-variants.{Done, Refused}
-use Rattle.rules.specs.Words.{at, patch}
-use Rattle.rules.specs.Corrections.{card-at}
-use Rattle.rules.specs.Refusals.{fault, said, span-fault}
-use Rattle.rules.specs.Summary.{updated}
-use Rattle.rules.specs.Edit.{Screen, Span, showing, second, asked-speeds, asked-holds, span, asked-fault, edit-fault, asked-screen, edited}
-use Rattle.rules.proofs.Laws.Words.{by-order}
-use Rattle.rules.proofs.Laws.Checks.{Taken, taken, trace-in, rooms-in, vehicle-in}
-use Rattle.rules.proofs.Laws.Edits.{length-asked, length-holds, refused-alone, taken-asked, span-passes}
-use Rattle.rules.proofs.Laws.Span.{span-kept}
-use Rattle.rules.proofs.Laws.Summary.{counts}
-use Rattle.rules.proofs.Laws.Counted.{counts-by-range}
 use Rattle.gears.specs.Parts.{Lent, Parts, numbers-of}
 use Rattle.checks.proofs.Rows.{Opened, said-none, longest-is}
 use Rattle.cards.specs.Rework.{Range, Passes}

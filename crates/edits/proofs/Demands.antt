@@ -1,11 +1,8 @@
 -- What the contracts of `hold`, `release` and `mend` say, as the check reads them: each is one edit of the screen, of which rules/proofs/Demands has the
 -- demands, requests Nine and Twelve, and runs of edits.
--- Assumes nothing.
-use Rattle.rules.proofs.Base.{_≡_, sym, now, Lasts, atExit, Lfts, Dens, endedOf, resT}
-use Rattle.rules.specs.declared.Edit.the-variants.{Hold, Release, Mend}
-use Rattle.rules.specs.Edit.{showing}
-use Rattle.rules.proofs.Laws.Edits.{hold-no-speed, release-no-speed, mend-no-hold}
+use Rattle.rules.proofs.Offered.{_≡_, sym, now, Lasts, atExit, Lfts, Dens, endedOf, resT, showing, hold-no-speed, release-no-speed, mend-no-hold}
 use Rattle.rules.proofs.Demands.{EditedWith}
+use Rattle.rules.specs.declared.Edit.the-variants.{Hold, Release, Mend}
 use Rattle.edits.proofs.buttons.hold.Kinds as hold-kinds
 use Rattle.edits.proofs.buttons.hold.Reads as hold-reads
 use Rattle.edits.proofs.buttons.release.Kinds as release-kinds

@@ -1,7 +1,6 @@
 -- Each public function's contract allows one outcome. `Reads` is the contract's own reading, which the check makes of the clauses.
--- Assumes nothing.
 use mathlib.Core.Path.{_≡_, sym, _∙_}
-use Rattle.once.specs.Determined.{Determined}
+use Rattle.rules.specs.Determined.{Determined}
 use Rattle.summaries.proofs.Determined.{counted-once}
 use Rattle.edits.proofs.buttons.hold.Kinds as hold-kinds
 use Rattle.edits.proofs.buttons.hold.Reads as hold-reads

@@ -1,17 +1,8 @@
 -- Where an edit lies in the trace that it asks for: from a standing second, or the trace's first, up to a standing one.
--- Assumes nothing.
-use Rattle.rules.proofs.Base.{ℕ, suc, _+_, _-_, _≤_, _<_, min, add-one, arith, _≡_, refl, sym, ap, _∙_, _≢_, false, List, length}
+use Rattle.rules.proofs.Offered.{ℕ, suc, _+_, _-_, _≤_, _<_, min, add-one, arith, _≡_, refl, sym, ap, _∙_, _≢_, false, List, length, at, moving, start, stop, second, asked-speeds, Span, around, hold-span, span, by-test, start-le, start-before, stop-le, stop-after, stop-to, trace-in, length-asked, span-kept}
 use Rattle.rules.specs.declared.Vehicle.{Vehicle}
 use Rattle.rules.specs.declared.Edit.{Edit}
 use Rattle.rules.specs.declared.Edit.the-variants.{Hold, Release, Mend}
-use Rattle.rules.specs.Words.{at}
-use Rattle.rules.specs.Units.{moving, start, stop}
-use Rattle.rules.specs.Edit.{second, asked-speeds, Span, around, hold-span, span}
-use Rattle.rules.proofs.Laws.Words.{by-test}
-use Rattle.rules.proofs.Laws.Trips.{start-le, start-before, stop-le, stop-after, stop-to}
-use Rattle.rules.proofs.Laws.Checks.{trace-in}
-use Rattle.rules.proofs.Laws.Edits.{length-asked}
-use Rattle.rules.proofs.Laws.Span.{span-kept}
 use Rattle.gears.specs.declared.Numbers.{Numbers}
 use Rattle.gears.specs.Parts.{Counts}
 use Rattle.checks.specs.Checks.{Spanned}

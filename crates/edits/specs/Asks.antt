@@ -1,13 +1,8 @@
 -- What the code asks the checks of an edit, and what it knows where none of them refuses.
--- Assumes nothing.
-use Prim.Native.Nat.{ℕ, _-_}
-use mathlib.Core.Path.{_≡_}
-use mathlib.Core.List.{List}
-use lib.Dec.{eqb}
+use Rattle.rules.specs.Words.{ℕ, _-_, _≡_, List, eqb, if_then_else_, at}
 use Rattle.rules.specs.declared.Vehicle.{Vehicle}
 use Rattle.rules.specs.declared.Edit.{Edit}
 use Rattle.rules.specs.declared.Edit.the-variants.{Hold, Release, Mend}
-use Rattle.rules.specs.Words.{if_then_else_, at}
 use Rattle.rules.specs.Edit.{second, asked-speeds, asked-holds, span}
 use Rattle.gears.specs.Parts.{Lent, numbers-of}
 use Rattle.checks.specs.declared.Asked.{Asked}

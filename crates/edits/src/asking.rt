@@ -1,7 +1,5 @@
 // What an edit asks for, at the second that it names.
-ghost use mathlib.Core.Path.{_≡_};
-ghost use Prim.Native.Nat.{_<_};
-ghost use lib.ListN.{length};
+ghost use Rattle.rules.specs.Words.{_≡_, _<_, length};
 ghost use Rattle.rules.specs.Edit.{second};
 ghost use Rattle.edits.specs.Asks.{gear-asked, asked-of};
 use checks::Asked;

@@ -1,6 +1,5 @@
 // An edit judged as it would stand.
-ghost use mathlib.Core.Path.{_≡_};
-ghost use lib.ListN.{length};
+ghost use Rattle.rules.specs.Words.{_≡_, length};
 ghost use Rattle.rules.specs.declared.Summary.{Summary};
 ghost use Rattle.rules.specs.Refusals.{said};
 ghost use Rattle.rules.specs.Edit.{showing, edit-fault};

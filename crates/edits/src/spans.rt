@@ -1,7 +1,5 @@
 // The seconds that an edit re-works, and those that are looked at for it. None of it hangs on the speed or the hold that is asked for.
-ghost use mathlib.Core.Path.{_≡_};
-ghost use Prim.Native.Nat.{_+_, _-_, _<_, min};
-ghost use lib.ListN.{length};
+ghost use Rattle.rules.specs.Words.{_≡_, _+_, _-_, _<_, min, length};
 ghost use Rattle.rules.specs.Edit.{second, around, hold-span, span};
 use checks::Span;
 use checks::trip_start;

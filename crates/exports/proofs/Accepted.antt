@@ -1,10 +1,6 @@
 -- Request Five: "Each kind 1 and 2 exactly once, in either order", and "kind 0 ends the export". An export that is accepted is two records of different
 -- kinds, each with its floats, the end, and no byte more.
--- Assumes nothing.
-use Rattle.rules.proofs.Base.{ℕ, _+_, arith, _≡_, sym, ap, _∙_, _⊎_, inl, inr, not, List, length, ltb, eqb, Float, eqb-true}
-use Rattle.rules.specs.Words.{_and_, at}
-use Rattle.rules.specs.Groups.{early, Read, got, hand-on, demand}
-use Rattle.rules.proofs.Laws.Words.{by-test, by-order, and-left}
+use Rattle.rules.proofs.Offered.{ℕ, _+_, arith, _≡_, sym, ap, _∙_, _⊎_, inl, inr, not, List, length, ltb, eqb, Float, eqb-true, _and_, at, early, Read, got, hand-on, demand, by-test, by-order, and-left}
 use Rattle.exports.specs.declared.Record.{Record}
 use Rattle.exports.specs.declared.Record.the-variants as record-is
 use Rattle.exports.specs.declared.Found.{Found}

@@ -1,10 +1,5 @@
 -- Sums done by hand: what the definitions give for floats and for whole exports, one table each, each under one theorem.
--- Assumes nothing.
-use Rattle.rules.proofs.Base.{ℕ, _*_, _^_, _≡_, refl, Option, none, some, List, [], _∷_, _++_, map, ℤ, pos, negℤ, trailingZeros, odd, ofFields, ofBits}
-use Rattle.rules.specs.Words.{nearest, _and_}
-use Rattle.rules.specs.Refusals.{Fault}
-use Rattle.rules.specs.Groups.{early, hand-on, demand}
-use Rattle.rules.specs.Job.{read-fault}
+use Rattle.rules.proofs.Offered.{ℕ, _*_, _^_, _≡_, refl, Option, none, some, List, [], _∷_, _++_, map, ℤ, pos, negℤ, trailingZeros, odd, ofFields, ofBits, nearest, _and_, Fault, early, hand-on, demand, read-fault}
 use Rattle.exports.specs.declared.Field.{Field}
 use Rattle.exports.specs.Floats.{four-bytes, float-of, finite, signed, scaled}
 use Rattle.exports.specs.Fields.{F0, F1, F2, TM, units, in-bounds}

@@ -1,9 +1,5 @@
 -- The demands on the reader of an export, over the contract of `read_export` as the check reads it.
--- Assumes nothing.
-use Rattle.rules.proofs.Base.{ℕ, _≡_, refl, sym, _∙_, none, List, arith, now, Lasts, atExit, Lfts, Dens, endedOf, resT}
-use Rattle.rules.specs.Refusals.{said}
-use Rattle.rules.specs.Groups.{Read, got, refused}
-use Rattle.rules.specs.Job.{read-fault}
+use Rattle.rules.proofs.Offered.{ℕ, _≡_, refl, sym, _∙_, none, List, arith, now, Lasts, atExit, Lfts, Dens, endedOf, resT, said, Read, got, refused, read-fault}
 use Rattle.exports.specs.declared.Export.{Export}
 use Rattle.exports.specs.declared.Found.{Found}
 use Rattle.exports.specs.Export.{export-read, ExportAs}

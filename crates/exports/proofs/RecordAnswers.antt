@@ -1,10 +1,6 @@
 -- What the reading answers, one law for each way through it.
--- Assumes nothing.
-use Rattle.rules.proofs.Base.{ℕ, _+_, _<_, _≤_, _≡_, true, false, List, length, Float, binary32, ofBits-fits, le-leb, lt-leb, lt-ltb, le-ltb, ne-eqb}
+use Rattle.rules.proofs.Offered.{ℕ, _+_, _<_, _≤_, _≡_, true, false, List, length, Float, binary32, ofBits-fits, le-leb, lt-leb, lt-ltb, le-ltb, ne-eqb, _and_, at, Fault, fault, early, Read, got, refused, hand-on, demand}
 use Rattle.rules.specs.declared.Refusal.the-variants.{JobEndsEarly, BadKind, NotFinite, OutOfBounds, KindMissing}
-use Rattle.rules.specs.Words.{_and_, at}
-use Rattle.rules.specs.Refusals.{Fault, fault}
-use Rattle.rules.specs.Groups.{early, Read, got, refused, hand-on, demand}
 use Rattle.exports.specs.declared.Record.{Record}
 use Rattle.exports.specs.declared.Record.the-variants as record-is
 use Rattle.exports.specs.declared.Found.{Found}

@@ -1,8 +1,5 @@
 -- Sizes: what fits the code's types, and what a judged value is in them.
--- Assumes nothing.
-use Rattle.rules.proofs.Base.{ℕ, zero, suc, _+_, _*_, _/_, _%_, _^_, _<_, _≤_, mul-le-mul, mul-comm, div-eq-of-lt, mod-eq-of-lt, one-mul, arith, _≡_, refl, ap, _∙_, Bool, true, false, ℤ, pos, negsuc, negℤ, _-ℤ_, +ℤ-idl, leZ, ltZ, pow-add, pow-mono, shr-le, Float, binary32, toBits, toZ-ofZ, toZ-pos, sfits-lit, SFits, toZ, ofZ, w32, w64, le-leb, lt-leb, leb-true, ltb-true, ltb-false}
-use Rattle.rules.specs.Words.{nearest, _and_}
-use Rattle.rules.proofs.Laws.Words.{and-left, and-right}
+use Rattle.rules.proofs.Offered.{ℕ, zero, suc, _+_, _*_, _/_, _%_, _^_, _<_, _≤_, mul-le-mul, mul-comm, div-eq-of-lt, mod-eq-of-lt, one-mul, arith, _≡_, refl, ap, _∙_, Bool, true, false, ℤ, pos, negsuc, negℤ, _-ℤ_, +ℤ-idl, leZ, ltZ, pow-add, pow-mono, shr-le, Float, binary32, toBits, toZ-ofZ, toZ-pos, sfits-lit, SFits, toZ, ofZ, w32, w64, le-leb, lt-leb, leb-true, ltb-true, ltb-false, nearest, _and_, and-left, and-right}
 use Rattle.exports.specs.declared.Field.{Field}
 use Rattle.exports.specs.Floats.{signed, scaled}
 use Rattle.exports.specs.Fields.{F0, F1, F2, TM, units, in-bounds}

@@ -1,13 +1,6 @@
 -- Whatever the reader of an export refuses, it refuses by number and place of a row of the table.
--- Assumes nothing.
-use Rattle.rules.proofs.Base.{ℕ, _+_, refl, not, List, length, leb, ltb, eqb}
+use Rattle.rules.proofs.Offered.{ℕ, _+_, refl, not, List, length, leb, ltb, eqb, _and_, early, Reader, hand-on, read-fault, if-ind, Told, ToldRead, told-got, told-refused, told-then, told-demand}
 use Rattle.rules.specs.declared.Refusal.the-variants.{JobEndsEarly, BadKind, NotFinite, OutOfBounds, KindMissing, BytesAfter}
-use Rattle.rules.specs.Words.{_and_}
-use Rattle.rules.specs.Groups.{early, Reader, hand-on}
-use Rattle.rules.specs.Job.{read-fault}
-use Rattle.rules.proofs.Laws.Words.{if-ind}
-use Rattle.rules.proofs.Laws.Told.{Told}
-use Rattle.rules.proofs.Laws.ToldReading.{ToldRead, told-got, told-refused, told-then, told-demand}
 use Rattle.exports.specs.declared.Record.{Record}
 use Rattle.exports.specs.declared.Found.{Found}
 use Rattle.exports.specs.declared.Field.{Field}

@@ -1,9 +1,7 @@
 -- The way of the code comes to the exact value: from a float's fields as whole numbers, denormals included, its scaled value, and where it is beyond
 -- every bound.
--- Assumes nothing.
-use Rattle.rules.proofs.Base.{ℕ, zero, suc, _+_, _-_, _*_, _/_, _%_, _^_, _<_, _≤_, add-mul, mul-one, mul-comm, mul-assoc, mul-left-comm, mul-le-mul, arith, _≡_, refl, sym, ap, _∙_, Bool, true, false, not, T, leb, eqb, ℤ, pos, negsuc, negℤ, leZ, pow-pos, pow-add, Float, nan, inf, fin, up, down, binary32, fits, ofBits, ofFields, toBits, isNan, odd, ofBits-toBits, HasValue, odd-sign, div-same, lt-leb, ne-eqb, leb-true}
-use Rattle.rules.specs.Words.{nearest, _and_}
-use Rattle.rules.proofs.Laws.Words.{by-test, by-order, and-no}
+use Rattle.rules.proofs.Base.{fits}
+use Rattle.rules.proofs.Offered.{ℕ, zero, suc, _+_, _-_, _*_, _/_, _%_, _^_, _<_, _≤_, add-mul, mul-one, mul-comm, mul-assoc, mul-left-comm, mul-le-mul, arith, _≡_, refl, sym, ap, _∙_, Bool, true, false, not, T, leb, eqb, ℤ, pos, negsuc, negℤ, leZ, pow-pos, pow-add, Float, nan, inf, fin, up, down, binary32, ofBits, ofFields, toBits, isNan, odd, ofBits-toBits, HasValue, odd-sign, div-same, lt-leb, ne-eqb, leb-true, nearest, _and_, by-test, by-order, and-no}
 use Rattle.exports.specs.declared.Field.{Field}
 use Rattle.exports.specs.Floats.{float-of, finite, signed, scaled}
 use Rattle.exports.specs.Fields.{units, in-bounds}

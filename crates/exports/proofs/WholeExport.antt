@@ -1,12 +1,8 @@
 -- The whole export: one law for each end of the reading.
--- Assumes nothing.
-use Rattle.rules.proofs.Base.{ℕ, _≡_, List, length, ℤ, pos, eq-eqb, ne-eqb}
+use Rattle.rules.proofs.Offered.{ℕ, _≡_, List, length, ℤ, pos, eq-eqb, ne-eqb, Fault, fault, said, got, refused, hand-on, demand, read-fault}
 use Rattle.rules.specs.declared.Refusal.{Refusal}
 use Rattle.rules.specs.declared.Refusal.the-variants.{BytesAfter}
 use Rattle.rules.specs.declared.Answer.the-variants.{Done, Refused}
-use Rattle.rules.specs.Refusals.{Fault, fault, said}
-use Rattle.rules.specs.Groups.{got, refused, hand-on, demand}
-use Rattle.rules.specs.Job.{read-fault}
 use Rattle.exports.specs.declared.Record.{Record}
 use Rattle.exports.specs.declared.Record.the-variants as record-is
 use Rattle.exports.specs.declared.Found.{Found}
@@ -24,6 +20,12 @@ both-judged =
     (λ one two. Good one → Good two → Bounded (with-record (with-record none-yet one) two .coefficients) × Judged TM (with-record (with-record none-yet one) two .mass))
     (λ c m p q. (p, q))
     (λ m c p q. (q, p))
+
+-- a record that comes at place i: it was read there, is of a kind not met before, and its values were judged
+pub record Came (bytes : List ℕ) (found : Found) (i : ℕ) (one : Record) (j : ℕ) : Type 0 where
+  pub reads : got one j ≡ record-read bytes found i
+  pub fresh : Fresh found one
+  pub good : Good one
 
 module _ (bytes : List ℕ) where
   pub first-stops : {f : Fault} → refused f ≡ record-read bytes none-yet 0 → refused f ≡ export-read bytes 0

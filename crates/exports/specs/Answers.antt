@@ -1,8 +1,5 @@
 -- What the functions of the reader answer, stage by stage.
--- Assumes nothing.
-use mathlib.Core.Path.{_≡_}
-use mathlib.Core.Bool.{true, false}
-use lib.IntN.{pos}
+use Rattle.rules.specs.Words.{_≡_, true, false, pos}
 use lib.Ieee.{Float}
 use Rattle.rules.specs.declared.Answer.{Answer}
 use Rattle.rules.specs.declared.Answer.the-variants.{Done, Refused}

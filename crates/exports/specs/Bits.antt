@@ -1,16 +1,9 @@
 -- The way of the code: a float's fields as whole numbers, and its scaled value from them. The reader of a contract need not believe these: `proofs/Values.antt`
 -- shows that they come to the exact value.
--- Assumes nothing.
-use Prim.Native.Nat.{ℕ, _+_, _-_, _*_, _/_, _%_, _^_, _≤_, _<_}
-use mathlib.Core.Path.{_≡_}
-use mathlib.Core.Bool.{Bool, true}
-use lib.Dec.{T, leb, eqb}
-use lib.IntN.{pos, negℤ}
-use lib.Signed.{leZ}
+use Rattle.rules.specs.Words.{ℕ, _+_, _-_, _*_, _/_, _%_, _^_, _≤_, _<_, _≡_, Bool, true, T, leb, eqb, pos, negℤ, leZ, if_then_else_, nearest}
 use lib.Ieee.{Float, binary32, fits, toBits}
 use mir.Val.{SFits}
 use mir.Syntax.{w64}
-use Rattle.rules.specs.Words.{if_then_else_, nearest}
 use Rattle.exports.specs.declared.Field.{Field}
 use Rattle.exports.specs.declared.Coefficients.{Coefficients}
 use Rattle.exports.specs.declared.Units.{Units}

@@ -1,15 +1,7 @@
 -- Request Five: the export, read from left to right, each float judged once its bytes are read.
 -- Place is the byte where the record begins, for 12 the length, for 16 the first extra byte.
--- Assumes nothing.
-use Prim.Native.Nat.{ℕ, _+_}
-use mathlib.Core.Path.{_≡_}
-use mathlib.Core.Bool.{true, false, not}
-use mathlib.Core.List.{List}
-use lib.ListN.{length}
-use lib.Dec.{leb, ltb, eqb}
-use lib.IntN.{ℤ, pos}
+use Rattle.rules.specs.Words.{ℕ, _+_, _≡_, true, false, not, List, length, leb, ltb, eqb, ℤ, pos, if_then_else_, _and_, at}
 use lib.Ieee.{Float, fin}
-use Rattle.rules.specs.Words.{if_then_else_, _and_, at}
 use Rattle.rules.specs.Refusals.{said}
 use Rattle.rules.specs.Groups.{Read, got, refused, Reader, _>>=_, _>>_, give, cursor, demand, early}
 use Rattle.rules.specs.Job.{read-fault}

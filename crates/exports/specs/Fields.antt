@@ -1,10 +1,6 @@
 -- The fields of the vehicle that the bench gives: how many of document 01's units make one of the bench's, and document 01's bounds.
--- Assumes nothing.
-use mathlib.Core.Bool.{Bool}
-use lib.IntN.{ℤ, pos, negℤ}
-use lib.Signed.{leZ}
+use Rattle.rules.specs.Words.{Bool, ℤ, pos, negℤ, leZ, _and_}
 use lib.Ieee.{Float}
-use Rattle.rules.specs.Words.{_and_}
 use Rattle.exports.specs.declared.Field.{Field}
 use Rattle.exports.specs.Floats.{scaled}
 

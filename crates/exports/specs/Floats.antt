@@ -1,12 +1,7 @@
 -- Request Five, "the nearest whole number of their units to the exact value of the float, halves away from zero".
 -- A `Float` is the logic's own of IEEE 754: `fin s m e` is the number m x 2^e, negative where s is true, and 2^e is the fraction up e / down e.
--- Assumes nothing.
-use Prim.Native.Nat.{ℕ, _+_, _*_}
-use mathlib.Core.Bool.{Bool, true, false}
-use mathlib.Core.List.{List}
-use lib.IntN.{ℤ, pos, negℤ}
+use Rattle.rules.specs.Words.{ℕ, _+_, _*_, Bool, true, false, List, ℤ, pos, negℤ, nearest, at}
 use lib.Ieee.{Float, nan, inf, fin, up, down, binary32, ofBits}
-use Rattle.rules.specs.Words.{nearest, at}
 
 -- little-endian: four bytes as one number, the least significant first
 unfoldable pub four-bytes : List ℕ → ℕ → ℕ

@@ -1,8 +1,5 @@
 // The fields that the bench gives: which floats are within document 01's bounds, and what they are in its units.
-ghost use mathlib.Core.Path.{_≡_};
-ghost use lib.IntN.{pos};
-ghost use lib.Signed.{leZ};
-ghost use Rattle.rules.specs.Words.{_and_};
+ghost use Rattle.rules.specs.Words.{_≡_, pos, leZ, _and_};
 ghost use Rattle.exports.specs.Fields.{F1, units, in-bounds};
 ghost use Rattle.exports.specs.Bits.{Finite, Judged, Fair, Unsigned, Bounded, InUnits};
 use crate::Coefficients;

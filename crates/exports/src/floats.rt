@@ -1,7 +1,5 @@
 // A float's bits, and its value in document 01's units from them: sign, exponent and digits as whole numbers, no product of floats.
-ghost use mathlib.Core.Path.{_≡_};
-ghost use Prim.Native.Nat.{_+_, _*_, _<_, _≤_};
-ghost use lib.ListN.{length};
+ghost use Rattle.rules.specs.Words.{_≡_, _+_, _*_, _<_, _≤_, length};
 ghost use mir.Val.{SFits};
 ghost use mir.Syntax.{w64};
 ghost use Rattle.exports.specs.Floats.{four-bytes, scaled};

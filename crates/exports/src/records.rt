@@ -1,8 +1,5 @@
 // The records of an export: each float is judged once its bytes are read, and a fault is handed up.
-ghost use mathlib.Core.Path.{_≡_};
-ghost use mathlib.Core.Bool.{false};
-ghost use mathlib.Core.List.{List};
-ghost use Prim.Native.Nat.{ℕ};
+ghost use Rattle.rules.specs.Words.{_≡_, false, List, ℕ};
 ghost use Rattle.exports.specs.declared.Found.{Found};
 ghost use Rattle.exports.specs.Export.{finite-float, judged, coefficients-read, mass-read, end-read, record-read};
 ghost use Rattle.exports.specs.Bits.{Fair};

@@ -1,7 +1,5 @@
 -- The demands on the card program's text, over the contract of `answer` as the check reads it.
--- Assumes nothing.
-use Rattle.rules.proofs.Base.{now, Lasts, atExit, Lfts, Dens, endedOf, resT}
-use Rattle.rules.specs.Text.{printed}
+use Rattle.rules.proofs.Offered.{now, Lasts, atExit, Lfts, Dens, endedOf, resT, printed}
 use Rattle.gearcard.specs.Printing.{Begins}
 use Rattle.gearcard.proofs.text.answer.Kinds as answer-kinds
 use Rattle.gearcard.proofs.text.answer.Reads as answer-reads

@@ -1,7 +1,6 @@
 -- The public function's contract allows one outcome. `Reads` is the contract's own reading, which the check makes of the clauses.
--- Assumes nothing.
-use Rattle.rules.proofs.Base.{ℕ, _≡_, sym, _∙_, ap, List, _++_, drop, take-append-drop}
-use Rattle.once.specs.Determined.{Determined}
+use Rattle.rules.proofs.Offered.{ℕ, _≡_, sym, _∙_, ap, List, _++_, drop, take-append-drop}
+use Rattle.rules.specs.Determined.{Determined}
 use Rattle.gearcard.specs.Printing.{Begins}
 use Rattle.gearcard.proofs.text.answer.Kinds as answer-kinds
 use Rattle.gearcard.proofs.text.answer.Reads as answer-reads

@@ -1,16 +1,10 @@
 -- A job that was read, and what the working makes of it, as the definitions' text.
--- Assumes nothing.
-use Rattle.rules.proofs.Base.{ℕ, arith, _≡_, refl, sym, _∙_, _≢_, none, some, List, length, take, ne-eqb}
+use Rattle.rules.proofs.Offered.{ℕ, arith, _≡_, refl, sym, _∙_, _≢_, none, some, List, length, take, ne-eqb, Fault, numbered, fault, said, work-fault, left, work-card, Read, got, refused, Job, read-fault, job-of, card-text, refusal-text, worked-text, read-text, printed, program-room, printed-fault, room-alone}
 use Rattle.rules.specs.declared.Vehicle.{Vehicle}
 use Rattle.rules.specs.declared.Refusal.{Refusal}
 use Rattle.rules.specs.declared.Refusal.the-variants.{TraceLength}
 use Rattle.rules.specs.declared.Answer.{Answer}
 use Rattle.rules.specs.declared.Answer.the-variants.{Done, Refused}
-use Rattle.rules.specs.Refusals.{Fault, numbered, fault, said, work-fault, left, work-card}
-use Rattle.rules.specs.Groups.{Read, got, refused}
-use Rattle.rules.specs.Job.{Job, read-fault, job-of}
-use Rattle.rules.specs.Text.{card-text, refusal-text, worked-text, read-text, printed, program-room, printed-fault}
-use Rattle.rules.proofs.Laws.Lines.{room-alone}
 use Rattle.reading.specs.declared.Reading.{Reading}
 use Rattle.reading.specs.Reader.{reading, ReadAs}
 use Rattle.reading.proofs.Rooms.{rooms}

@@ -1,9 +1,5 @@
 -- Text put piece by piece: the digits of a number, the pieces of a line, line after line, and what begins the memory is seen there.
--- Assumes nothing.
-use Rattle.rules.proofs.Base.{ℕ, zero, suc, _+_, _-_, _*_, _%_, _/_, _≤_, _<_, arith, add-zero, zero-add, add-one, _≡_, refl, _∙_, List, [], _∷_, _++_, append-nil, append-assoc, length, drop, set, getD, length-append, length-drop, length-set, drop-of-length-le, take-all, sets-eq, length-sets, drop-cons, getD-set-same, drop-set-lt, take-append-seam, drop-append-seam, le-leb, lt-leb}
-use Rattle.rules.specs.Words.{part}
-use Rattle.rules.specs.Text.{decimal, pedal, line, lines}
-use Rattle.rules.proofs.Laws.Lines.{tens, decimal-one, decimal-more, line-short, lines-more}
+use Rattle.rules.proofs.Offered.{ℕ, zero, suc, _+_, _-_, _*_, _%_, _/_, _≤_, _<_, arith, add-zero, zero-add, add-one, _≡_, refl, _∙_, List, [], _∷_, _++_, append-nil, append-assoc, length, drop, set, getD, length-append, length-drop, length-set, drop-of-length-le, take-all, sets-eq, length-sets, drop-cons, getD-set-same, drop-set-lt, take-append-seam, drop-append-seam, le-leb, lt-leb, part, decimal, pedal, line, lines, tens, decimal-one, decimal-more, line-short, lines-more}
 use Rattle.reading.specs.Lent.{Put}
 use Rattle.reading.proofs.PutInTurn.{put-both}
 use Rattle.gearcard.specs.Printing.{Begins, speed-text, gear-text}

@@ -1,9 +1,5 @@
 -- What is printed, and the pieces of its lines.
--- Assumes nothing.
-use Prim.Native.Nat.{ℕ, _/_, _%_, _≤_}
-use mathlib.Core.Path.{_≡_}
-use mathlib.Core.List.{List, _∷_, _++_}
-use lib.ListN.{length, take, drop}
+use Rattle.rules.specs.Words.{ℕ, _/_, _%_, _≤_, _≡_, List, _∷_, _++_, length, take, drop}
 use Rattle.rules.specs.declared.Vehicle.{Vehicle}
 use Rattle.rules.specs.Refusals.{work-fault}
 use Rattle.rules.specs.Text.{decimal, pedal, worked-text}

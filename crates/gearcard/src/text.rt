@@ -1,8 +1,5 @@
 // The text that the card program prints, built in lent memory piece by piece. Each function that puts answers the place after what it put.
-ghost use mathlib.Core.Path.{_≡_};
-ghost use Prim.Native.Nat.{_+_, _*_, _%_, _≤_, _<_};
-ghost use lib.ListN.{length};
-ghost use Rattle.rules.specs.Words.{part};
+ghost use Rattle.rules.specs.Words.{_≡_, _+_, _*_, _%_, _≤_, _<_, length, part};
 ghost use Rattle.rules.specs.Refusals.{fault};
 ghost use Rattle.rules.specs.Text.{decimal, pedal, line, lines, card-text, refusal-text, program-room, printed-fault, printed};
 ghost use Rattle.reading.specs.Lent.{Put};

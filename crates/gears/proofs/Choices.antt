@@ -1,19 +1,8 @@
 -- The steps of a choice, as the code meets them: the gear tried next, and what each way out of the search comes to.
--- Assumes nothing.
-use Rattle.rules.proofs.Base.{ℕ, _-_, _+_, _*_, _≤_, _<_, le-trans, le-refl, arith, _≡_, refl, sym, _∙_, _≢_, Bool, true, false, List, eqb, ℤ, pos, leZ, eqb-true, eqb-false, eq-eqb, ne-eqb}
+use Rattle.rules.proofs.Offered.{ℕ, _-_, _+_, _*_, _≤_, _<_, le-trans, le-refl, arith, _≡_, refl, sym, _∙_, _≢_, Bool, true, false, List, eqb, ℤ, pos, leZ, eqb-true, eqb-false, eq-eqb, ne-eqb, _and_, _or_, at, highest, low, is-first, engine, required, fits, power, enough, more, suits, strongest, choose, NoGear, clash, by-test, by-order, by-eq, if-ind, and-left, highest-holds, highest-none, fits-from, strongest-fits, strongest-none, strongest-tie, strongest-most, more-asym, more-irrefl, no-more-trans, gear-wide, higher, choose-strongest, choose-highest, choose-to, first-choice-plainly, InBounds}
 use Rattle.rules.specs.declared.Vehicle.{Vehicle}
 use Rattle.rules.specs.declared.Role.{Role}
 use Rattle.rules.specs.declared.Role.the-variants.{First}
-use Rattle.rules.specs.Words.{_and_, _or_, at, highest}
-use Rattle.rules.specs.Units.{low}
-use Rattle.rules.specs.Gears.{is-first, engine, required, fits, power, enough, more, suits, strongest, choose}
-use Rattle.rules.specs.Vocabulary.Choosing.{NoGear}
-use Rattle.rules.proofs.Laws.Words.{clash, by-test, by-order, by-eq, if-ind, and-left}
-use Rattle.rules.proofs.Laws.Searches.{highest-holds, highest-none}
-use Rattle.rules.proofs.Laws.Strongest.{fits-from, strongest-fits, strongest-none, strongest-tie, strongest-most, more-asym, more-irrefl, no-more-trans, gear-wide}
-use Rattle.rules.proofs.Laws.Limits.{higher}
-use Rattle.rules.proofs.Laws.Choice.{choose-strongest, choose-highest, choose-to, first-choice-plainly}
-use Rattle.rules.specs.Inside.{InBounds}
 use Rattle.gears.specs.declared.Numbers.{Numbers}
 use Rattle.gears.specs.declared.Power as code
 use Rattle.gears.specs.declared.Best.{Best}

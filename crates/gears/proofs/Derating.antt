@@ -1,12 +1,6 @@
 -- The available powers, point by point: as a loop from left to right puts them down, and what they are of a vehicle in bounds.
--- Assumes nothing.
-use Rattle.rules.proofs.Base.{ℕ, suc, _+_, _-_, _*_, _≤_, _<_, add-one, lt-of-lt-of-le, arith, _≡_, refl, ap, _∙_, List, length, set, pos}
+use Rattle.rules.proofs.Offered.{ℕ, suc, _+_, _-_, _*_, _≤_, _<_, add-one, lt-of-lt-of-le, arith, _≡_, refl, ap, _∙_, List, length, set, pos, at, pass, derated, InBounds, pass-at, derated-is}
 use Rattle.rules.specs.declared.Vehicle.{Vehicle}
-use Rattle.rules.specs.Words.{at, pass}
-use Rattle.rules.specs.Gears.{derated}
-use Rattle.rules.specs.Inside.{InBounds}
-use Rattle.rules.proofs.Laws.Words.{pass-at}
-use Rattle.rules.proofs.Laws.Sizes.{derated-is}
 use Rattle.gears.specs.Choosing.{available}
 use Rattle.gears.specs.Second.{Derates}
 use Rattle.gears.specs.declared.Numbers.{Numbers}

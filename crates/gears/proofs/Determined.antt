@@ -1,8 +1,6 @@
 -- Each public function's contract allows one outcome. `Reads` is the contract's own reading, which the check makes of the clauses.
--- Assumes nothing.
-use Rattle.rules.proofs.Base.{ℕ, refl, sym, ap, _∙_, List, [], now}
-use Rattle.rules.proofs.Laws.Refusals.{said-once}
-use Rattle.once.specs.Determined.{Determined, DeterminedAs}
+use Rattle.rules.proofs.Offered.{ℕ, refl, sym, ap, _∙_, List, [], now, said-once}
+use Rattle.rules.specs.Determined.{Determined, DeterminedAs}
 use Rattle.gears.proofs.Parts.{built-has}
 use Rattle.gears.proofs.second.top.Kinds as top-kinds
 use Rattle.gears.proofs.second.top.Reads as top-reads

@@ -1,8 +1,5 @@
 -- `highest`, as a loop that counts down meets it: what is left, from here down, is what was asked.
--- Assumes nothing.
-use Rattle.rules.proofs.Base.{ℕ, zero, suc, _≤_, _<_, not-suc-le-zero, le-refl, arith, _≡_, refl, _∙_, Bool, true, false}
-use Rattle.rules.specs.Words.{highest}
-use Rattle.rules.proofs.Laws.Words.{by-eq}
+use Rattle.rules.proofs.Offered.{ℕ, zero, suc, _≤_, _<_, not-suc-le-zero, le-refl, arith, _≡_, refl, _∙_, Bool, true, false, highest, by-eq}
 
 -- the places above g have been passed, and none of them holds
 pub record Down (p : ℕ → Bool) (top g : ℕ) : Type 0 where

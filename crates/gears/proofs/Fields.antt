@@ -1,13 +1,8 @@
 -- The bounds of a vehicle, as a chain of tests meets them: the first k hold, so the first that fails is one of the others.
--- Assumes nothing.
-use Rattle.rules.proofs.Base.{ℕ, suc, _+_, _-_, _≤_, _<_, arith, _≡_, refl, _∙_, Bool, true, false, none, some, List, length, getD, drop, leb, drop-cons, ℤ, pos, negsuc, leZ, w32, SFits, toZ, ofZ, toZ-ofZ, leb-true, leb-false, le-leb, lt-leb}
+use Rattle.rules.proofs.Offered.{ℕ, suc, _+_, _-_, _≤_, _<_, arith, _≡_, refl, _∙_, Bool, true, false, none, some, List, length, getD, drop, leb, drop-cons, ℤ, pos, negsuc, leZ, w32, SFits, toZ, ofZ, toZ-ofZ, leb-true, leb-false, le-leb, lt-leb, if_then_else_, _and_, within, bounds, first-failed, said, refuse-at, by-test}
 use Rattle.rules.specs.declared.Vehicle.{Vehicle}
 use Rattle.rules.specs.declared.Refusal.the-variants.{VehicleField}
 use Rattle.rules.specs.declared.Answer.the-variants.{Done, Refused}
-use Rattle.rules.specs.Words.{if_then_else_, _and_, within}
-use Rattle.rules.specs.Units.{bounds, first-failed}
-use Rattle.rules.specs.Refusals.{said, refuse-at}
-use Rattle.rules.proofs.Laws.Words.{by-test}
 
 -- ---- the chain
 

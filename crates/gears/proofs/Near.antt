@@ -1,11 +1,6 @@
 -- The search of the curve from a segment near: up while the segment does not reach x, then down while its lower end does.
--- Assumes nothing.
-use Rattle.rules.proofs.Base.{ℕ, suc, _+_, _-_, _*_, _≤_, _<_, add-one, arith, _≡_, refl, sym, _∙_, _⊎_, inl, inr, List, [], pos, le-leb}
+use Rattle.rules.proofs.Offered.{ℕ, suc, _+_, _-_, _*_, _≤_, _<_, add-one, arith, _≡_, refl, sym, _∙_, _⊎_, inl, inr, List, [], pos, le-leb, at, reaches, segment-unique, by-order}
 use Rattle.rules.specs.declared.Vehicle.{Vehicle}
-use Rattle.rules.specs.Words.{at}
-use Rattle.rules.specs.Gears.{reaches}
-use Rattle.rules.proofs.Laws.Power.{segment-unique}
-use Rattle.rules.proofs.Laws.Words.{by-order}
 use Rattle.gears.specs.Choosing.{segment-in, segment-parts, Curve}
 
 -- on the way up: a segment of the curve

@@ -1,12 +1,6 @@
 -- The parts of a vehicle, number by number.
--- Assumes nothing.
-use Rattle.rules.proofs.Base.{ℕ, _-_, _*_, _≡_, refl, sym, ap, _∙_, List, [], ℤ, pos, _+ℤ_, _*ℤ_}
+use Rattle.rules.proofs.Offered.{ℕ, _-_, _*_, _≡_, refl, sym, ap, _∙_, List, [], ℤ, pos, _+ℤ_, _*ℤ_, at, ratio-of, low, engine, required, nested, required-nested}
 use Rattle.rules.specs.declared.Vehicle.{Vehicle}
-use Rattle.rules.specs.Words.{at}
-use Rattle.rules.specs.Units.{ratio-of, low}
-use Rattle.rules.specs.Gears.{engine, required}
-use Rattle.rules.specs.Vocabulary.Sums.{nested}
-use Rattle.rules.proofs.Laws.Nested.{required-nested}
 use Rattle.gears.specs.declared.Numbers.{Numbers}
 use Rattle.gears.specs.Parts.{numbers-of, whole, low-in, Counts, Has}
 

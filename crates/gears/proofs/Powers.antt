@@ -1,15 +1,7 @@
 -- The power at a gear, from the parts that the code works it out of.
--- Assumes nothing.
-use Rattle.rules.proofs.Base.{ℕ, suc, _+_, _-_, _*_, _≤_, _<_, max, le-trans, mul-assoc, mul-left-comm, mul-le-mul-left, max-le, le-max-right, arith, _≡_, refl, sym, ap, _∙_, subst, true, List, ℤ, pos, negℤ, natAbs, _+ℤ_, _-ℤ_, _*ℤ_, +ℤ-assoc, leZ, leb-true, le-leb}
+use Rattle.rules.proofs.Offered.{ℕ, suc, _+_, _-_, _*_, _≤_, _<_, max, le-trans, mul-assoc, mul-left-comm, mul-le-mul-left, max-le, le-max-right, arith, _≡_, refl, sym, ap, _∙_, subst, true, List, ℤ, pos, negℤ, natAbs, _+ℤ_, _-ℤ_, _*ℤ_, +ℤ-assoc, leZ, leb-true, le-leb, at, Power, engine, under-nmax, fits, between, on-segment, segment, power-speed, power, OnSegment, and-right, +ℤ-*ℤ, neg-*ℤ, pos-sub, leZ-trans, leZ-scale, segment-holds, Q-size, w-size}
 use Rattle.rules.specs.declared.Vehicle.{Vehicle}
 use Rattle.rules.specs.declared.Role.{Role}
-use Rattle.rules.specs.Words.{at}
-use Rattle.rules.specs.Gears.{Power, engine, under-nmax, fits, between, on-segment, segment, power-speed, power}
-use Rattle.rules.specs.Vocabulary.Choosing.{OnSegment}
-use Rattle.rules.proofs.Laws.Words.{and-right}
-use Rattle.rules.proofs.Laws.Integers.{+ℤ-*ℤ, neg-*ℤ, pos-sub, leZ-trans, leZ-scale}
-use Rattle.rules.proofs.Laws.Power.{segment-holds}
-use Rattle.rules.proofs.Laws.Sizes.{Q-size, w-size}
 use Rattle.gears.specs.Choosing.{segment-in, segment-parts, Curve, Segment, power-of, turned, Turning, PowerSized, enough-for, InGear}
 use Rattle.gears.specs.Parts.{Has, Lent}
 use Rattle.gears.specs.declared.Numbers.{Numbers}

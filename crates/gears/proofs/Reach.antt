@@ -1,15 +1,8 @@
 -- The gears in reach: the way to the highest of them, and which of them fit.
--- Assumes nothing.
-use Rattle.rules.proofs.Base.{ℕ, zero, suc, _-_, _+_, _*_, _≤_, _<_, le-trans, lt-of-le-of-lt, mul-le-mul-right, le-refl, arith, _≡_, refl, sym, ap, _∙_, Bool, true, false, List, eqb, leb, ltb, eqb-true, eq-eqb, le-leb, lt-leb, ltb-true, ltb-false, leb-false}
+use Rattle.rules.proofs.Offered.{ℕ, zero, suc, _-_, _+_, _*_, _≤_, _<_, le-trans, lt-of-le-of-lt, mul-le-mul-right, le-refl, arith, _≡_, refl, sym, ap, _∙_, Bool, true, false, List, eqb, leb, ltb, eqb-true, eq-eqb, le-leb, lt-leb, ltb-true, ltb-false, leb-false, _and_, at, low, ratio-of, is-first, minimum, engine, fits, role-of, by-test, by-order, by-eq, and-left, and-right, and-fails, higher}
 use Rattle.rules.specs.declared.Vehicle.{Vehicle}
 use Rattle.rules.specs.declared.Role.{Role}
 use Rattle.rules.specs.declared.Role.the-variants.{Inner}
-use Rattle.rules.specs.Words.{_and_, at}
-use Rattle.rules.specs.Units.{low, ratio-of}
-use Rattle.rules.specs.Gears.{is-first, minimum, engine, fits}
-use Rattle.rules.specs.Corrections.{role-of}
-use Rattle.rules.proofs.Laws.Words.{by-test, by-order, by-eq, and-left, and-right, and-fails}
-use Rattle.rules.proofs.Laws.Limits.{higher}
 use Rattle.gears.specs.declared.Numbers.{Numbers}
 use Rattle.gears.specs.Parts.{low-in, Has, Lent}
 use Rattle.gears.specs.Choosing.{Falling, Reached, InReach}

@@ -1,14 +1,8 @@
 -- Laws of minimum speed, of fitting and of the floor, as the code meets them.
--- Assumes nothing.
-use Rattle.rules.proofs.Base.{ℕ, suc, _+_, _-_, _*_, _/_, _≤_, _<_, arith, _≡_, refl, sym, ap, _∙_, Bool, true, false, Option, Option·getD, List, leb, eqb, le-leb, lt-leb, ne-eqb, eq-eqb}
+use Rattle.rules.proofs.Offered.{ℕ, suc, _+_, _-_, _*_, _/_, _≤_, _<_, arith, _≡_, refl, sym, ap, _∙_, Bool, true, false, Option, Option·getD, List, leb, eqb, le-leb, lt-leb, ne-eqb, eq-eqb, _and_, _or_, at, first, low, ratio-of, is-first, next-minimum, minimum, minimum-of, engine, under-nmax, over-minimum, allowed, fits, floor, and-no, by-eq, Left, stops}
 use Rattle.rules.specs.declared.Vehicle.{Vehicle}
 use Rattle.rules.specs.declared.Role.{Role}
-use Rattle.rules.specs.Words.{_and_, _or_, at, first}
-use Rattle.rules.specs.Units.{low, ratio-of}
-use Rattle.rules.specs.Gears.{is-first, next-minimum, minimum, minimum-of, engine, under-nmax, over-minimum, allowed, fits}
-use Rattle.rules.specs.Corrections.{floor}
-use Rattle.rules.proofs.Laws.Words.{and-no, by-eq}
-use Rattle.rules.proofs.Laws.Walk.{Left, stops, ends}
+use Rattle.rules.proofs.Laws.Walk.{ends}
 use Rattle.gears.specs.declared.Numbers.{Numbers}
 use Rattle.gears.specs.Parts.{low-in, Has}
 use Rattle.gears.proofs.Parts.{low-of, ng-of, nmax-of, engine-of}

@@ -1,17 +1,8 @@
 -- The rules of a choice over the parts that the functions are lent, and what those functions ask of them.
--- Assumes nothing.
-use Prim.Native.Nat.{ℕ, suc, _+_, _-_, _*_, _≤_, _<_, max}
-use mathlib.Core.Path.{_≡_, refl}
-use mathlib.Core.Bool.{Bool, true, false}
-use mathlib.Core.List.{List}
-use mathlib.Core.Option.{Option·getD}
-use lib.Dec.{leb, eqb}
-use lib.IntN.{ℤ, pos, natAbs, _*ℤ_}
-use lib.Signed.{leZ}
+use Rattle.rules.specs.Words.{ℕ, suc, _+_, _-_, _*_, _≤_, _<_, max, _≡_, refl, Bool, true, false, List, Option·getD, leb, eqb, ℤ, pos, natAbs, _*ℤ_, leZ, if_then_else_, _and_, at, first, highest, pass}
 use Rattle.rules.specs.declared.Vehicle.{Vehicle}
 use Rattle.rules.specs.declared.Role.{Role}
 use Rattle.rules.specs.declared.Role.the-variants.{Inner}
-use Rattle.rules.specs.Words.{if_then_else_, _and_, at, first, highest, pass}
 use Rattle.rules.specs.Gears.{Power, engine, minimum, fits, power, more, strongest, choose, reaches, segment}
 use Rattle.rules.specs.Units.{low, fastest, steepest, rise}
 use Rattle.rules.specs.Corrections.{here, first-choice}

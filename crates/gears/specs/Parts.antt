@@ -1,12 +1,7 @@
 -- A vehicle in parts: what its numbers and its lent arrays say of it. A contract that does not look at a part holds for every vehicle that has the
 -- others.
--- Assumes nothing.
-use Prim.Native.Nat.{ℕ, _+_, _<_}
-use mathlib.Core.Path.{_≡_}
-use mathlib.Core.List.{List}
-use lib.IntN.{pos}
+use Rattle.rules.specs.Words.{ℕ, _+_, _<_, _≡_, List, pos, at}
 use Rattle.rules.specs.declared.Vehicle.{Vehicle}
-use Rattle.rules.specs.Words.{at}
 use Rattle.rules.specs.Gears.{derated}
 use Rattle.rules.specs.Inside.{InBounds}
 use Rattle.gears.specs.declared.Numbers.{Numbers}

@@ -1,11 +1,6 @@
 -- What the functions of one second ask of their arguments.
--- Assumes nothing.
-use Prim.Native.Nat.{ℕ, _+_, _≤_, _<_}
-use mathlib.Core.Path.{_≡_}
-use mathlib.Core.List.{List}
-use lib.IntN.{ℤ, natAbs}
+use Rattle.rules.specs.Words.{ℕ, _+_, _≤_, _<_, _≡_, List, ℤ, natAbs, at}
 use Rattle.rules.specs.declared.Vehicle.{Vehicle}
-use Rattle.rules.specs.Words.{at}
 use Rattle.rules.specs.Units.{fastest, steepest}
 use Rattle.gears.specs.declared.Numbers.{Numbers}
 use Rattle.gears.specs.Parts.{low-in}

@@ -1,10 +1,5 @@
 // The vehicle's bounds in a version of the job: the first field out of bounds is refused.
-ghost use mathlib.Core.Path.{_≡_};
-ghost use Prim.Native.Nat.{_+_, _-_, _≤_, _<_};
-ghost use lib.IntN.{pos, negℤ};
-ghost use lib.Signed.{leZ};
-ghost use lib.Dec.{leb, ltb, eqb};
-ghost use Rattle.rules.specs.Words.{_and_, _or_, within, at, every};
+ghost use Rattle.rules.specs.Words.{_≡_, _+_, _-_, _≤_, _<_, pos, negℤ, leZ, leb, ltb, eqb, _and_, _or_, within, at, every};
 ghost use Rattle.rules.specs.Units.{ratio-good, point-good, bounds, first-failed};
 ghost use Rattle.rules.specs.Refusals.{said, refuse-at};
 ghost use Rattle.rules.specs.declared.Vehicle.{Vehicle};

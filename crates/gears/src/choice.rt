@@ -1,10 +1,5 @@
 // The first choice of one second.
-ghost use mathlib.Core.Path.{_≡_};
-ghost use mathlib.Core.Bool.{false};
-ghost use Prim.Native.Nat.{ℕ, _+_, _-_, _*_, _≤_, _<_, min};
-ghost use lib.Dec.{leb, ltb, eqb};
-ghost use lib.IntN.{pos, natAbs, _-ℤ_};
-ghost use Rattle.rules.specs.Words.{_and_, at};
+ghost use Rattle.rules.specs.Words.{_≡_, false, ℕ, _+_, _-_, _*_, _≤_, _<_, min, leb, ltb, eqb, pos, natAbs, _-ℤ_, _and_, at};
 ghost use Rattle.rules.specs.declared.Role.{Role};
 ghost use Rattle.rules.specs.declared.Vehicle.{Vehicle};
 ghost use Rattle.rules.specs.Gears.{minimum, fits, more, choose};

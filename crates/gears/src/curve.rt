@@ -1,9 +1,6 @@
 // The power curve: the available power of its points, the segment of an engine speed, and the power there.
-ghost use mathlib.Core.Path.{_≡_};
-ghost use Prim.Native.Nat.{suc, _+_, _-_, _*_, _≤_, _<_, max};
-ghost use Rattle.rules.specs.Words.{at};
+ghost use Rattle.rules.specs.Words.{_≡_, suc, _+_, _-_, _*_, _≤_, _<_, max, at, pos};
 ghost use Rattle.rules.specs.Gears.{between, power};
-ghost use lib.IntN.{pos};
 ghost use Rattle.rules.specs.declared.Vehicle.{Vehicle};
 ghost use Rattle.gears.specs.Parts.{Lent, Parts};
 ghost use Rattle.gears.specs.Second.{Gear, Derates};

@@ -1,9 +1,5 @@
 // One second of a trip: engine speed, minimum speed, the floor, the step D and the required power E.
-ghost use mathlib.Core.Path.{_≡_};
-ghost use mathlib.Core.Bool.{false};
-ghost use Prim.Native.Nat.{_+_, _-_, _*_, _≤_};
-ghost use lib.IntN.{pos, _-ℤ_};
-ghost use Rattle.rules.specs.Words.{at};
+ghost use Rattle.rules.specs.Words.{_≡_, false, _+_, _-_, _*_, _≤_, pos, _-ℤ_, at};
 ghost use Rattle.rules.specs.Gears.{next-minimum, minimum, required};
 ghost use Rattle.rules.specs.Corrections.{floor};
 ghost use Rattle.rules.specs.Refusals.{not-driven};

@@ -1,11 +1,5 @@
 -- A row of groups by its bytes alone: there are as many groups as last bytes, and each is good where nothing odd stands among them.
--- Assumes nothing.
-use Rattle.rules.proofs.Base.{ℕ, zero, suc, _+_, _-_, _≤_, _<_, add-one, arith, _≡_, sym, _∙_, Bool, true, List, length, lt-ltb, le-ltb}
-use Rattle.rules.specs.Words.{at}
-use Rattle.rules.specs.Groups.{Read, got, group}
-use Rattle.rules.specs.Forms.{value}
-use Rattle.rules.proofs.Laws.Words.{by-order}
-use Rattle.rules.proofs.Laws.Reading.{two-of, three-of, one, two, three}
+use Rattle.rules.proofs.Offered.{ℕ, zero, suc, _+_, _-_, _≤_, _<_, add-one, arith, _≡_, sym, _∙_, Bool, true, List, length, lt-ltb, le-ltb, at, Read, got, group, value, by-order, two-of, three-of, one, two, three}
 use Rattle.reading.specs.Calm.{last-one, ended, Ends, Fine, Calm, Follows, HeldAt}
 use Rattle.reading.specs.declared.Brief.{Brief}
 use Rattle.reading.proofs.Loops.{Many, ends, value-again}

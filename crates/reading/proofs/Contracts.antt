@@ -1,10 +1,5 @@
 -- The contracts of the reader's public functions as the check reads them: they ask nothing, and what `read` says of the rooms past what it fills.
--- Assumes nothing.
-use Rattle.rules.proofs.Base.{ℕ, _≤_, _≡_, sym, ap, _∙_, List, arith, length, now, Lasts, atExit, Lfts, Dens, endedOf, resT}
-use Rattle.rules.specs.Words.{at}
-use Rattle.rules.specs.Job.{job-of}
-use Rattle.rules.proofs.Laws.Jobs.{Even, job-even}
-use Rattle.rules.proofs.Laws.Rooms.{filled-beyond}
+use Rattle.rules.proofs.Offered.{ℕ, _≤_, _≡_, sym, ap, _∙_, List, arith, length, now, Lasts, atExit, Lfts, Dens, endedOf, resT, at, job-of, Even, job-even, filled-beyond}
 use Rattle.reading.specs.declared.Reading.{Reading}
 use Rattle.reading.specs.Reader.{reading, ReadAs}
 use Rattle.reading.proofs.groups.group_at.Kinds as group-at-kinds

@@ -1,10 +1,6 @@
 -- The demands on the reader alone; demand 2, which speaks of both directions, stands in `writing`. A reader of document 01 reads `ReadAs`, which is the contract
 -- of `read`, and then these.
--- Assumes nothing.
-use Rattle.rules.proofs.Base.{ℕ, _≡_, refl, sym, _∙_, some, List, [], arith}
-use Rattle.rules.specs.Refusals.{Fault, said}
-use Rattle.rules.specs.Groups.{Read, got, refused}
-use Rattle.rules.specs.Job.{Job, read-fault, job-of, filled}
+use Rattle.rules.proofs.Offered.{ℕ, _≡_, refl, sym, _∙_, some, List, [], arith, Fault, said, Read, got, refused, Job, read-fault, job-of, filled}
 use Rattle.reading.specs.declared.Reading.{Reading}
 use Rattle.reading.specs.Reader.{reading, ReadAs}
 

@@ -1,9 +1,6 @@
 -- Each public function's contract allows one outcome. `Reads` is the contract's own reading, which the check makes of the clauses.
--- Assumes nothing.
-use Rattle.rules.proofs.Base.{ℕ, arith, _≡_, refl, sym, _∙_, ap}
-use Rattle.once.specs.Determined.{Determined}
-use Rattle.rules.proofs.Laws.Refusals.{refusal-once, said-once}
-use Rattle.rules.specs.Refusals.{Fault, fault}
+use Rattle.rules.proofs.Offered.{ℕ, arith, _≡_, refl, sym, _∙_, ap, refusal-once, said-once, Fault, fault}
+use Rattle.rules.specs.Determined.{Determined}
 use Rattle.reading.specs.declared.Group.{Group}
 use Rattle.reading.specs.declared.Group.the-variants as group-is
 use Rattle.reading.specs.Reader.{group-as}

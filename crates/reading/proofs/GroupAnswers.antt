@@ -1,16 +1,5 @@
 -- What a value within bounds, a hold and a point answer, one law for each way through them; and what is known of a group that comes.
--- Assumes nothing.
-use Rattle.rules.proofs.Base.{ℕ, _+_, _-_, _*_, _/_, _%_, _<_, _≤_, arith, _≡_, refl, sym, ap, _∙_, Bool, true, false, List, length, leb, ltb, le-leb, lt-leb, lt-ltb, le-ltb, leb-true, ltb-true, eqb-false, not-true}
-use Rattle.rules.specs.Words.{_and_, within, at}
-use Rattle.rules.specs.Refusals.{Fault}
-use Rattle.rules.specs.Groups.{Read, got, refused, hand-on, _>>=_, give, demand, early, group-if, group}
-use Rattle.rules.specs.Forms.{Form, value, known, only-if, checked, bounded, _then_}
-use Rattle.rules.specs.Job.{point, hold}
-use Rattle.rules.proofs.Laws.Reading.{one, two, two-of, ends-first, ends-second, two-bad, ends-third, three-of, good, three-if, three}
-use Rattle.rules.proofs.Laws.Words.{by-test, by-order, and-left, and-right}
-use Rattle.rules.proofs.Laws.Vehicle.{within-lo, within-hi}
-use Rattle.rules.proofs.Laws.Takes.{in-range}
-use Rattle.rules.proofs.Laws.Forms.{says-now, bounded-sound}
+use Rattle.rules.proofs.Offered.{ℕ, _+_, _-_, _*_, _/_, _%_, _<_, _≤_, arith, _≡_, refl, sym, ap, _∙_, Bool, true, false, List, length, leb, ltb, le-leb, lt-leb, lt-ltb, le-ltb, leb-true, ltb-true, eqb-false, not-true, _and_, within, at, Fault, Read, got, refused, hand-on, _>>=_, give, demand, early, group-if, group, Form, value, known, only-if, checked, bounded, _then_, point, hold, one, two, two-of, ends-first, ends-second, two-bad, ends-third, three-of, good, three-if, three, by-test, by-order, and-left, and-right, within-lo, within-hi, in-range, says-now, bounded-sound}
 use Rattle.reading.specs.Progress.{Comes, Short}
 use Rattle.reading.proofs.Steps.{joined, same-value, never}
 

@@ -1,14 +1,6 @@
 -- The reader's loops. The invariant says that what is left to read, from here, is what was asked; the laws are the loop's ways on.
--- Assumes nothing.
-use Rattle.rules.proofs.Base.{ℕ, suc, _+_, _-_, _/_, _<_, _≤_, add-one, arith, _≡_, sym, _∙_, true, List, [], _∷_, leb, ltb, length, set, sets}
+use Rattle.rules.proofs.Offered.{ℕ, suc, _+_, _-_, _/_, _<_, _≤_, add-one, arith, _≡_, sym, _∙_, true, List, [], _∷_, leb, ltb, length, set, sets, Fault, _and_, within, at, Read, got, refused, hand-on, _>>=_, _>>_, give, demand, group, Form, value, checked, _then_, row-read, row, many, hold, put, says-now, value-sound, HoldFits, takes-hold, hold-sound}
 use Prim.{Unit, tt}
-use Rattle.rules.specs.Refusals.{Fault}
-use Rattle.rules.specs.Words.{_and_, within, at}
-use Rattle.rules.specs.Groups.{Read, got, refused, hand-on, _>>=_, _>>_, give, demand, group}
-use Rattle.rules.specs.Forms.{Form, value, checked, _then_, row-read, row, many}
-use Rattle.rules.specs.Job.{hold, put}
-use Rattle.rules.proofs.Laws.Forms.{says-now, value-sound}
-use Rattle.rules.proofs.Laws.Gathers.{HoldFits, takes-hold, hold-sound}
 use Rattle.reading.specs.Progress.{holds-from, hold-row, Comes, Short, used}
 use Rattle.reading.proofs.Steps.{joined, went, passed, use-as-is, many-length}
 use Rattle.reading.proofs.GroupAnswers.{first-there, gear-inside, gear-first}

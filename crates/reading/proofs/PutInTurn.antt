@@ -1,6 +1,5 @@
 -- Bytes put one after another. The invariant says that the bytes that are left, put from here, make what was asked.
--- Assumes nothing.
-use Rattle.rules.proofs.Base.{ℕ, suc, _+_, _≤_, _<_, add-zero, arith, _≡_, refl, sym, ap, _∙_, List, [], _∷_, _++_, append-nil, length, set, length-append, sets, length-sets}
+use Rattle.rules.proofs.Offered.{ℕ, suc, _+_, _≤_, _<_, add-zero, arith, _≡_, refl, sym, ap, _∙_, List, [], _∷_, _++_, append-nil, length, set, length-append, sets, length-sets}
 use Rattle.reading.specs.Lent.{Put}
 
 sets-append : (l : List ℕ) (i : ℕ) (a b : List ℕ) → sets l i (a ++ b) ≡ sets (sets l i a) (i + length a) b

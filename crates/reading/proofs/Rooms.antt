@@ -1,16 +1,8 @@
 -- What stands in the rooms at the end is what was read; a refusal leaves them as they were.
--- Assumes nothing.
-use Rattle.rules.proofs.Base.{ℕ, _≤_, arith, _≡_, sym, _∙_, List, _++_, length, take, drop, replicate, length-append, length-replicate, length-take-le, take-append-seam, true}
+use Rattle.rules.proofs.Offered.{ℕ, _≤_, arith, _≡_, sym, _∙_, List, _++_, length, take, drop, replicate, length-append, length-replicate, length-take-le, take-append-seam, true, fault, said, got, refused, hand-on, value, many, put, Job, job-read, read-fault, job-of, filled, value-sound, length-put, Even, job-even, job-room}
 use Rattle.rules.specs.declared.Vehicle.{Vehicle}
 use Rattle.rules.specs.declared.Refusal.{Refusal}
 use Rattle.rules.specs.declared.Answer.the-variants.{Done, Refused}
-use Rattle.rules.specs.Refusals.{fault, said}
-use Rattle.rules.specs.Groups.{got, refused, hand-on}
-use Rattle.rules.specs.Forms.{value, many}
-use Rattle.rules.specs.Job.{put, Job, job-read, read-fault, job-of, filled}
-use Rattle.rules.proofs.Laws.Forms.{value-sound}
-use Rattle.rules.proofs.Laws.Gathers.{length-put}
-use Rattle.rules.proofs.Laws.Jobs.{Even, job-even, job-room}
 use Rattle.reading.specs.declared.Reading.{Reading}
 use Rattle.reading.specs.Reader.{reading, ReadAs}
 use Rattle.reading.specs.Progress.{hold-row, nothing, used}

@@ -1,15 +1,6 @@
 -- What the stages of the vehicle answer, one law for each way through them.
--- Assumes nothing.
-use Rattle.rules.proofs.Base.{ℕ, zero, suc, _+_, _-_, _≤_, zero-add, arith, _≡_, _∙_, List, map, append-nil, length, drop, replicate, length-map, length-replicate, sets, sets-eq, drop-length, leb}
+use Rattle.rules.proofs.Offered.{ℕ, zero, suc, _+_, _-_, _≤_, zero-add, arith, _≡_, _∙_, List, map, append-nil, length, drop, replicate, length-map, length-replicate, sets, sets-eq, drop-length, leb, at, Fault, Read, got, refused, hand-on, give, Form, value, known, only-if, bounded, _then_, seen, many, counted, version, profile, gearbox, numbers, point, curve, padded, vehicle-of, vehicle, by-test, Sound, value-sound, point-sound}
 use Rattle.rules.specs.declared.Vehicle.{Vehicle}
-use Rattle.rules.specs.Words.{at}
-use Rattle.rules.specs.Refusals.{Fault}
-use Rattle.rules.specs.Groups.{Read, got, refused, hand-on, give}
-use Rattle.rules.specs.Forms.{Form, value, known, only-if, bounded, _then_, seen, many, counted}
-use Rattle.rules.specs.Job.{version, profile, gearbox, numbers, point, curve, padded, vehicle-of, vehicle}
-use Rattle.rules.proofs.Laws.Words.{by-test}
-use Rattle.rules.proofs.Laws.Forms.{Sound, value-sound}
-use Rattle.rules.proofs.Laws.Jobs.{point-sound}
 use Rattle.reading.specs.Progress.{reached, used, into, gears, columns, car-of}
 use Rattle.reading.specs.declared.Came.{Came}
 use Rattle.reading.specs.declared.Came.the-variants as came-is

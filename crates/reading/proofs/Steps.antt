@@ -1,24 +1,6 @@
 -- One reading after another.
--- Assumes nothing.
-use Rattle.rules.proofs.Base.{ℕ, arith, _≡_, refl, sym, _∙_, Bool, true, false, List, [], length}
-use Rattle.rules.specs.Refusals.{Fault}
-use Rattle.rules.specs.Groups.{Read, got, refused, Reader, hand-on, give, demand}
-use Rattle.rules.specs.Forms.{Form, row, many}
-use Rattle.rules.proofs.Laws.Forms.{says-now, Sound, many-sound}
+use Rattle.rules.proofs.Offered.{ℕ, arith, _≡_, refl, sym, _∙_, Bool, true, false, List, [], length, Fault, Read, got, refused, Reader, hand-on, give, demand, Form, row, many, says-now, Sound, many-sound}
 use Rattle.reading.specs.Progress.{Comes, used}
-
--- a law of so many facts, which one call of omega finds together
-pub of₃ : {A B C D : Type 0} → (A → B → C → D) → A × B × C → D
-of₃ f h = f (h .0) (h .1) (h .2)
-
-pub of₄ : {A B C D E : Type 0} → (A → B → C → D → E) → A × B × C × D → E
-of₄ f h = f (h .0) (h .1) (h .2) (h .3)
-
-pub of₅ : {A B C D E F : Type 0} → (A → B → C → D → E → F) → A × B × C × D × E → F
-of₅ f h = f (h .0) (h .1) (h .2) (h .3) (h .4)
-
-pub of₈ : {A B C D E F G H I : Type 0} → (A → B → C → D → E → F → G → H → I) → A × B × C × D × E × F × G × H → I
-of₈ f h = f (h .0) (h .1) (h .2) (h .3) (h .4) (h .5) (h .6) (h .7)
 
 -- two readings one after the other, and a third
 pub joined : {A B C : Type 0} (m : Read A) (f : A → Reader B) (g : B → Reader C) → hand-on (hand-on m f) g ≡ hand-on m (λ a j. hand-on (f a j) g)

@@ -1,18 +1,9 @@
 -- What is left to read of the job after each stage is what was asked, and what it answers there: one law for each way on.
--- Assumes nothing.
-use Rattle.rules.proofs.Base.{ℕ, _≤_, _≡_, sym, _∙_, true, false, List, length, replicate, leb, eqb, le-leb, leb-true, eq-eqb, ne-eqb}
+use Rattle.rules.proofs.Offered.{ℕ, _≤_, _≡_, sym, _∙_, true, false, List, length, replicate, leb, eqb, le-leb, leb-true, eq-eqb, ne-eqb, _and_, longest, fault, Read, got, refused, Reader, hand-on, _>>=_, _>>_, give, cursor, demand, group, value, checked, bounded, _then_, seen, many, counted, whole, seconds, trace, put, holds, Job, packed, stages, job, job-read, and-left, and-right, both, value-sound}
 use Rattle.rules.specs.declared.Vehicle.{Vehicle}
 use Rattle.rules.specs.declared.Refusal.{Refusal}
 use Rattle.rules.specs.declared.Refusal.the-variants.{RoomLength, BytesAfter}
 use Rattle.rules.specs.declared.Answer.the-variants.{Refused}
-use Rattle.rules.specs.Words.{_and_}
-use Rattle.rules.specs.Units.{longest}
-use Rattle.rules.specs.Refusals.{fault}
-use Rattle.rules.specs.Groups.{Read, got, refused, Reader, hand-on, _>>=_, _>>_, give, cursor, demand, group}
-use Rattle.rules.specs.Forms.{value, checked, bounded, _then_, seen, many, counted, whole}
-use Rattle.rules.specs.Job.{seconds, trace, put, holds, Job, packed, stages, job, job-read}
-use Rattle.rules.proofs.Laws.Words.{and-left, and-right, both}
-use Rattle.rules.proofs.Laws.Forms.{value-sound}
 use Rattle.reading.specs.Reader.{ReadAs}
 use Rattle.reading.specs.Progress.{hold-row, nothing, used}
 use Rattle.reading.proofs.Steps.{joined, many-length, values, judged-comes}

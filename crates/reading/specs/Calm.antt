@@ -1,10 +1,5 @@
 -- What the cheap tests of the reader look at: which bytes end a group, what may follow a byte that says more follow, and a hold in few bytes.
--- Assumes nothing.
-use Prim.Native.Nat.{ℕ, zero, suc, _+_, _-_, _≤_, _<_}
-use mathlib.Core.Path.{_≡_}
-use mathlib.Core.List.{List}
-use lib.Dec.{ltb}
-use Rattle.rules.specs.Words.{if_then_else_, at}
+use Rattle.rules.specs.Words.{ℕ, zero, suc, _+_, _-_, _≤_, _<_, _≡_, List, ltb, if_then_else_, at}
 use Rattle.rules.specs.Groups.{got}
 use Rattle.rules.specs.Forms.{bounded}
 use Rattle.rules.specs.Job.{hold}

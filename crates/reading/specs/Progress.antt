@@ -1,15 +1,9 @@
 -- What the reader's own functions answer: how far reading came, and what is made of what was read.
--- Assumes nothing.
-use Prim.Native.Nat.{ℕ, suc, _<_}
-use mathlib.Core.Path.{_≡_}
-use mathlib.Core.List.{List, map}
-use lib.ListN.{length}
+use Rattle.rules.specs.Words.{ℕ, suc, _<_, _≡_, List, map, length, pos, _-ℤ_, at}
 use lib.Seq.{sets}
-use lib.IntN.{pos, _-ℤ_}
 use Rattle.rules.specs.declared.Vehicle.{Vehicle}
 use Rattle.rules.specs.declared.Answer.{Answer}
 use Rattle.rules.specs.declared.Answer.the-variants.{Done, Refused}
-use Rattle.rules.specs.Words.{at}
 use Rattle.rules.specs.Units.{most-gears, most-points}
 use Rattle.rules.specs.Refusals.{numbered, fault}
 use Rattle.rules.specs.Groups.{Read, got, refused, Reader, _>>=_, give}

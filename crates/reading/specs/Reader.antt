@@ -1,9 +1,5 @@
 -- What the reader's public functions answer, as document 01 has it.
--- Assumes nothing.
-use Prim.Native.Nat.{ℕ}
-use mathlib.Core.Path.{_≡_}
-use mathlib.Core.List.{List}
-use lib.ListN.{length}
+use Rattle.rules.specs.Words.{ℕ, _≡_, List, length}
 use Rattle.rules.specs.Refusals.{fault, said}
 use Rattle.rules.specs.Groups.{Read, got, refused}
 use Rattle.rules.specs.Job.{Job, job-read, read-fault, job-of, filled}

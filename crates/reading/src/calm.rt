@@ -1,9 +1,6 @@
 // A cheap test of many groups in a row, by their bytes alone: what it lets through is good, and what it does not is judged group by group. Its loops neither
 // branch nor leave early, so that several bytes are looked at at once.
-ghost use mathlib.Core.Path.{_≡_};
-ghost use mathlib.Core.Bool.{true};
-ghost use Prim.Native.Nat.{_+_, _-_, _≤_, _<_};
-ghost use lib.ListN.{length};
+ghost use Rattle.rules.specs.Words.{_≡_, true, _+_, _-_, _≤_, _<_, length};
 ghost use Rattle.rules.specs.Groups.{got};
 ghost use Rattle.rules.specs.Forms.{value, many};
 ghost use Rattle.reading.specs.Progress.{used};

@@ -1,7 +1,5 @@
 // A hold in few bytes, judged with few tests: its second has one or two, its gear one or two. What is not let through is judged group by group.
-ghost use mathlib.Core.Path.{_≡_};
-ghost use Prim.Native.Nat.{_+_, _≤_, _<_};
-ghost use lib.ListN.{length};
+ghost use Rattle.rules.specs.Words.{_≡_, _+_, _≤_, _<_, length};
 ghost use Rattle.reading.specs.Calm.{Geared, Follows, HeldAt};
 use crate::Brief;
 use crate::groups::byte_at;

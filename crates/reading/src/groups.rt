@@ -1,8 +1,5 @@
 // Groups: read with every test while the job is judged, and with none where they were judged before.
-ghost use mathlib.Core.Path.{_≡_};
-ghost use mathlib.Core.Bool.{true};
-ghost use Prim.Native.Nat.{_≤_, _<_};
-ghost use lib.ListN.{length};
+ghost use Rattle.rules.specs.Words.{_≡_, true, _≤_, _<_, length};
 ghost use Rattle.rules.specs.Refusals.{fault};
 ghost use Rattle.rules.specs.Groups.{got, group};
 ghost use Rattle.rules.specs.Forms.{value, bounded, many};

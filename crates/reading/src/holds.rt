@@ -1,8 +1,5 @@
 // Holds: judged first, put into the lent room after that.
-ghost use mathlib.Core.Path.{_≡_};
-ghost use mathlib.Core.Bool.{true};
-ghost use Prim.Native.Nat.{_≤_};
-ghost use lib.ListN.{length, replicate};
+ghost use Rattle.rules.specs.Words.{_≡_, true, _≤_, length, replicate};
 ghost use Rattle.rules.specs.Groups.{got};
 ghost use Rattle.rules.specs.Job.{put};
 ghost use Rattle.reading.specs.Progress.{holds-from, hold-row, reached, Comes, used};

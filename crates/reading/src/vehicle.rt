@@ -1,9 +1,5 @@
 // The version and the vehicle.
-ghost use mathlib.Core.Path.{_≡_};
-ghost use Prim.Native.Nat.{_≤_};
-ghost use lib.ListN.{length};
-ghost use lib.IntN.{pos, _-ℤ_};
-ghost use lib.Dec.{leb};
+ghost use Rattle.rules.specs.Words.{_≡_, _≤_, length, pos, _-ℤ_, leb};
 ghost use Rattle.rules.specs.Forms.{_then_, value, only-if, many};
 ghost use Rattle.rules.specs.Job.{version, profile, gearbox, point, curve, vehicle};
 ghost use Rattle.reading.specs.Reader.{group-as};

@@ -1,16 +1,7 @@
 -- Document 01, "Sums done on paper", with the chain behind each byte: a second at which A decides, one at which B does, one at which C does, and a hold.
--- Assumes nothing.
-use Rattle.rules.proofs.Base.{ℕ, _≡_, refl, List, [], _∷_, replicate}
-use Rattle.rules.specs.declared.Reasons.{Reasons}
-use Rattle.rules.specs.Words.{_and_, _or_, within, every, first, highest, pass}
-use Rattle.rules.specs.Units.{ratio-of, ratio-good, point-good, bounds, first-failed, bad-field, low, longest, moving, rise, start, run, stop, margin-good}
-use Rattle.rules.specs.Gears.{engine, minimum-of, minimum, under-nmax, over-minimum, allowed, fits, required, between, on-segment, reaches, segment, power-speed, power, enough, more, suits, beats, strongest, choose, is-first, next-minimum, derated}
-use Rattle.rules.specs.Corrections.{floor, closing, ceiling, here, first-choice, free, is-peak, peak, too-high, rising, too-low, slowing, firsts, after-A, after-B, gears, trip-speeds, trip-holds, first-at, gear-at, role-of}
-use Rattle.rules.specs.Refusals.{refuse-at, _orelse_, when, trace-fault, room-fault, vehicle-fault, not-driven, check-number, checks, all-checks, bad, fault-of, seconds-fault, span-fault, left}
-use Rattle.rules.specs.Edit.{around, hold-span}
-use Rattle.rules.specs.Vocabulary.Choosing.{role-at}
-use Rattle.rules.specs.Why.{kind, about, role-code, next-rule, minimum-rule, listed-power, driven-facts, no-facts, gear-facts, gear-list, sentence, A-at, B-at, B-looks, ceiling-of, ceiling-at, clutch-reason, pedal-down, byte-of, why-lo, why-end, row-fault, why-fault, early-fault, nothing, said-of, why}
+use Rattle.rules.proofs.Offered.{ℕ, _≡_, refl, List, [], _∷_, replicate, _and_, _or_, within, every, first, highest, pass, ratio-of, ratio-good, point-good, bounds, first-failed, bad-field, low, longest, moving, rise, start, run, stop, margin-good, engine, minimum-of, minimum, under-nmax, over-minimum, allowed, fits, required, between, on-segment, reaches, segment, power-speed, power, enough, more, suits, beats, strongest, choose, is-first, next-minimum, derated, floor, closing, ceiling, here, first-choice, free, is-peak, peak, too-high, rising, too-low, slowing, firsts, after-A, after-B, gears, trip-speeds, trip-holds, first-at, gear-at, role-of, refuse-at, _orelse_, when, trace-fault, room-fault, vehicle-fault, not-driven, check-number, checks, all-checks, bad, fault-of, seconds-fault, span-fault, left, around, hold-span, role-at, kind, about, role-code, next-rule, minimum-rule, listed-power, driven-facts, no-facts, gear-facts, gear-list, sentence, A-at, B-at, B-looks, ceiling-of, ceiling-at, clutch-reason, pedal-down, byte-of, why-lo, why-end, row-fault, why-fault, early-fault, nothing, said-of, why}
 use Rattle.rules.proofs.Cases.Cars.{vehicle-with, five-gears, car-with, car-of, car-Z, Z, trace}
+use Rattle.rules.specs.declared.Reasons.{Reasons}
 
 -- kind, role, held gear, first choice and its sentence; after A, B and C; floor and ceiling; the clutch's reason and the byte
 chain : Reasons → List ℕ

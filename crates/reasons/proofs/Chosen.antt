@@ -1,23 +1,8 @@
 -- The first choice that is listed, and the sentence that is given for it.
--- Assumes nothing.
-use Rattle.rules.proofs.Base.{ℕ, zero, suc, _-_, _≤_, arith, _≡_, refl, sym, _∙_, _≢_, Bool, true, false, Option, none, List, [], _∷_, eqb, ℤ, getD, le-leb, leb-true, eq-eqb, eqb-true, eqb-false}
+use Rattle.rules.proofs.Offered.{ℕ, zero, suc, _-_, _≤_, arith, _≡_, refl, sym, _∙_, _≢_, Bool, true, false, Option, none, List, [], _∷_, eqb, ℤ, getD, le-leb, leb-true, eq-eqb, eqb-true, eqb-false, within, at, first, highest, _and_, low, rise, is-first, under-nmax, allowed, fits, enough, suits, choose, first-at, Fault, InBounds, HighestEnough, MostPower, role-at, kind, about, listed-power, driven-facts, no-facts, gear-facts, gear-list, sentence, why-fault, early-fault, said-of, why, clash, by-test, and-left, and-right, both, or-skip, highest-holds, low-from, choose-strongest, choose-highest, choose-to, first-choice-plainly, strongest-fits, first-at-is}
 use Rattle.rules.specs.declared.Vehicle.{Vehicle}
 use Rattle.rules.specs.declared.Role.{Role}
 use Rattle.rules.specs.declared.GearFacts.{GearFacts}
-use Rattle.rules.specs.Words.{within, at, first, highest, _and_}
-use Rattle.rules.specs.Units.{low, rise}
-use Rattle.rules.specs.Gears.{is-first, under-nmax, allowed, fits, enough, suits, choose}
-use Rattle.rules.specs.Corrections.{first-at}
-use Rattle.rules.specs.Refusals.{Fault}
-use Rattle.rules.specs.Inside.{InBounds}
-use Rattle.rules.specs.Vocabulary.Choosing.{HighestEnough, MostPower, role-at}
-use Rattle.rules.specs.Why.{kind, about, listed-power, driven-facts, no-facts, gear-facts, gear-list, sentence, why-fault, early-fault, said-of, why}
-use Rattle.rules.proofs.Laws.Words.{clash, by-test, and-left, and-right, both, or-skip}
-use Rattle.rules.proofs.Laws.Searches.{highest-holds}
-use Rattle.rules.proofs.Laws.Vehicle.{low-from}
-use Rattle.rules.proofs.Laws.Choice.{choose-strongest, choose-highest, choose-to, first-choice-plainly}
-use Rattle.rules.proofs.Laws.Strongest.{strongest-fits}
-use Rattle.rules.proofs.Laws.Cards.{first-at-is}
 use Rattle.reasons.specs.Says.{Listed, Chooses}
 use Rattle.reasons.proofs.Places.{about-moves}
 use Rattle.reasons.proofs.Passed.{even, bounds, said-there}

@@ -1,11 +1,7 @@
 -- Demand 1 of `why`: it asks nothing of its caller, and whatever it refuses is a row of the table.
--- Assumes nothing.
-use Rattle.rules.proofs.Base.{ℕ, refl, List, Lfts, Dens}
+use Rattle.rules.proofs.Offered.{ℕ, refl, List, Lfts, Dens, vehicle-fault, span-fault, row-fault, why-fault, Told, told-or, told-at, told-checks, trace-told, room-told}
 use Rattle.rules.specs.declared.Vehicle.{Vehicle}
 use Rattle.rules.specs.declared.Refusal.the-variants.{VehicleField, OutsideTrace}
-use Rattle.rules.specs.Refusals.{vehicle-fault, span-fault}
-use Rattle.rules.specs.Why.{row-fault, why-fault}
-use Rattle.rules.proofs.Laws.Told.{Told, told-or, told-at, told-checks, trace-told, room-told}
 use Rattle.reasons.proofs.whole.why.Kinds as why-kinds
 use Rattle.reasons.proofs.whole.why.Reads as why-reads
 

@@ -1,8 +1,7 @@
 -- The public function's contract allows one outcome. `Reads` is the contract's own reading, which the check makes of the clauses.
--- Assumes nothing.
-use mathlib.Core.Path.{_≡_, refl, sym, _∙_}
-use Rattle.once.specs.Determined.{Determined}
+use Rattle.rules.proofs.Offered.{_≡_, refl, sym, _∙_}
 use Rattle.rules.proofs.Theorems.Cards.{said-of-one}
+use Rattle.rules.specs.Determined.{Determined}
 use Rattle.reasons.proofs.whole.why.Kinds as why-kinds
 use Rattle.reasons.proofs.whole.why.Reads as why-reads
 

@@ -1,17 +1,10 @@
 -- What is said of a gear, from the parts that the code works it out of.
--- Assumes nothing.
-use Rattle.rules.proofs.Base.{ℕ, suc, _-_, _*_, _≤_, _<_, arith, le-trans, mul-le-mul-left, mul-le-mul-right, _≡_, refl, sym, ap, _∙_, Bool, true, false, not, List, leb, eqb, ℤ, pos, le-leb, lt-leb, eq-eqb, ne-eqb}
+use Rattle.rules.proofs.Offered.{ℕ, suc, _-_, _*_, _≤_, _<_, arith, le-trans, mul-le-mul-left, mul-le-mul-right, _≡_, refl, sym, ap, _∙_, Bool, true, false, not, List, leb, eqb, ℤ, pos, le-leb, lt-leb, eq-eqb, ne-eqb, if_then_else_, _and_, _or_, within, at, low, ratio-of, Power, is-first, engine, minimum, under-nmax, over-minimum, allowed, fits, required, power, enough, minimum-rule, listed-power, driven-facts, no-facts, gear-facts, InBounds, by-test}
 use Rattle.rules.specs.declared.Vehicle.{Vehicle}
 use Rattle.rules.specs.declared.Role.{Role}
 use Rattle.rules.specs.declared.GearFacts.{GearFacts}
-use Rattle.rules.specs.Words.{if_then_else_, _and_, _or_, within, at}
-use Rattle.rules.specs.Units.{low, ratio-of}
-use Rattle.rules.specs.Gears.{Power, is-first, engine, minimum, under-nmax, over-minimum, allowed, fits, required, power, enough}
-use Rattle.rules.specs.Why.{minimum-rule, listed-power, driven-facts, no-facts, gear-facts}
 use Rattle.gears.specs.declared.Numbers.{Numbers}
 use Rattle.gears.specs.Parts.{low-in, Counts, Has, Lent, Parts}
-use Rattle.rules.specs.Inside.{InBounds}
-use Rattle.rules.proofs.Laws.Words.{by-test}
 use Rattle.gears.specs.Choosing.{Turning, enough-for}
 use Rattle.gears.proofs.Parts.{low-of, ng-of, idle-of, rated-of, nmax-of, engine-of}
 use Rattle.reasons.specs.Asks.{DrivenGear}

@@ -1,18 +1,7 @@
 -- What is left of the row of checks where it passes, and that an accepted trace passes it at each second.
--- Assumes nothing.
-use Rattle.rules.proofs.Base.{ℕ, suc, _-_, _≤_, _<_, arith, _≡_, refl, sym, _∙_, Bool, false, not, Option, none, List, [], _∷_, ltb, eqb, length, ltb-true, lt-ltb, le-ltb, eq-eqb, ne-eqb, eqb-true, eqb-false, not-false}
+use Rattle.rules.proofs.Offered.{ℕ, suc, _-_, _≤_, _<_, arith, _≡_, refl, sym, _∙_, Bool, false, not, Option, none, List, [], _∷_, ltb, eqb, length, ltb-true, lt-ltb, le-ltb, eq-eqb, ne-eqb, eqb-true, eqb-false, not-false, _and_, at, first, enough, Fault, refuse-at, when, trace-fault, room-fault, vehicle-fault, Check, speed, step, ends, over-ng, at-rest, over-rev, no-gear, check-number, checks, bad, fault-of, seconds-fault, span-fault, work-fault, left, all-checks, _orelse_, InBounds, kind, about, why-lo, why-end, row-fault, why-fault, early-fault, nothing, said-of, why, by-test, by-order, orelse-none, none-orelse, refuse-none, when-none, rooms-in, vehicle-in, gears-last, left-none, first-none, none-first, moving-in, accepted}
 use Rattle.rules.specs.declared.Vehicle.{Vehicle}
-use Rattle.rules.specs.Words.{_and_, at, first}
-use Rattle.rules.specs.Gears.{enough}
-use Rattle.rules.specs.Refusals.{Fault, refuse-at, when, trace-fault, room-fault, vehicle-fault, Check, speed, step, ends, over-ng, at-rest, over-rev, no-gear, check-number, checks, bad, fault-of, seconds-fault, span-fault, work-fault, left, all-checks, _orelse_}
-use Rattle.rules.specs.Inside.{InBounds}
-use Rattle.rules.specs.Why.{kind, about, why-lo, why-end, row-fault, why-fault, early-fault, nothing, said-of, why}
-use Rattle.rules.proofs.Laws.Words.{by-test, by-order}
-use Rattle.rules.proofs.Laws.Checks.{orelse-none, none-orelse, refuse-none, when-none, rooms-in, vehicle-in, gears-last, left-none}
-use Rattle.rules.proofs.Laws.Searches.{first-none, none-first}
-use Rattle.rules.proofs.Laws.Trips.{moving-in}
 use Rattle.reasons.proofs.Places.{looked, about-next, about-itself, next-moves}
-use Rattle.rules.proofs.Laws.Checks.{accepted}
 
 -- ---- what is left of the row of checks
 

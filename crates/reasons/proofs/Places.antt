@@ -1,18 +1,7 @@
 -- Where the second that is spoken of lies: what is looked at, and its trip.
--- Assumes nothing.
-use Rattle.rules.proofs.Base.{ℕ, suc, _+_, _-_, _≤_, _<_, min, add-one, arith, _≡_, refl, sym, ap, _∙_, _≢_, Bool, true, false, Option, none, List, leb, eqb, lit<, length, set, length-set, set-out, eq-eqb, ne-eqb, eqb-true, eqb-false, lt-ltb}
-use Rattle.rules.specs.declared.Vehicle.{Vehicle}
-use Rattle.rules.specs.Words.{if_then_else_, at, part}
-use Rattle.rules.specs.Units.{moving, rise, start, stop, longest}
-use Rattle.rules.specs.Corrections.{trip-speeds, trip-holds}
-use Rattle.rules.specs.Refusals.{Fault, checks, bad, seconds-fault, span-fault}
-use Rattle.rules.specs.Edit.{Span, around, hold-span}
-use Rattle.rules.specs.Vocabulary.Choosing.{IsTrip}
-use Rattle.rules.specs.Why.{kind, about}
-use Rattle.rules.proofs.Laws.Words.{clash, by-test, by-order, at-part, length-part}
-use Rattle.rules.proofs.Laws.Trips.{trip-of, trip-start, trip-stop, start-le, start-before, stop-le, stop-after, stop-to, moving-in, standing-past}
-use Rattle.rules.proofs.Laws.Checks.{listed, driven, trace-in}
+use Rattle.rules.proofs.Offered.{ℕ, suc, _+_, _-_, _≤_, _<_, min, add-one, arith, _≡_, refl, sym, ap, _∙_, _≢_, Bool, true, false, Option, none, List, leb, eqb, lit<, length, set, length-set, set-out, eq-eqb, ne-eqb, eqb-true, eqb-false, lt-ltb, if_then_else_, at, part, moving, rise, start, stop, longest, trip-speeds, trip-holds, Fault, checks, bad, seconds-fault, span-fault, Span, around, hold-span, IsTrip, kind, about, clash, by-test, by-order, at-part, length-part, trip-of, trip-start, trip-stop, start-le, start-before, stop-le, stop-after, stop-to, moving-in, standing-past, listed, driven, trace-in}
 use Rattle.rules.proofs.Theorems.Edits.{span-of-hold}
+use Rattle.rules.specs.declared.Vehicle.{Vehicle}
 use Rattle.gears.specs.declared.Numbers.{Numbers}
 use Rattle.gears.specs.Parts.{Counts, Lent}
 use Rattle.gears.proofs.Parts.{ng-of}
@@ -109,7 +98,7 @@ inside-span vs i m =
     let h = moving-in vs i m in
     let t = trip-of vs i m in
     let e = span-moving vs i h m in
-    (omega (arith, e .0, t .1), omega (arith, e .1, t .2, h))
+    omega (arith, e .0, t .1, e .1, t .2, h)
 
 module _ {car : Vehicle} {vs hs : List ℕ} (O : Opened car vs hs hs) {lo end : ℕ} (K : Looked vs lo end) where
   pub spanned-at : {k : Numbers} → Counts car k → Spanned k vs hs lo end

@@ -1,6 +1,5 @@
 -- What is said of a second, field by field, and each way out of asking.
--- Assumes nothing.
-use Rattle.rules.proofs.Base.{ℕ, suc, _+_, _-_, _*_, _≤_, _<_, arith, add-one, _≡_, refl, sym, ap, _∙_, Bool, true, false, not, Option, none, some, List, eqb, ltb, ℤ, pos, _-ℤ_, leZ, length, drop, set, set-out, eq-eqb, ne-eqb, lt-ltb, le-ltb}
+use Rattle.rules.proofs.Offered.{ℕ, suc, _+_, _-_, _*_, _≤_, _<_, arith, add-one, _≡_, refl, sym, ap, _∙_, Bool, true, false, not, Option, none, some, List, eqb, ltb, ℤ, pos, _-ℤ_, leZ, length, drop, set, set-out, eq-eqb, ne-eqb, lt-ltb, le-ltb, if_then_else_, _and_, at, part, moving, rise, start, stop, engine, required, floor, closing, role-of, here, firsts, trip-speeds, trip-holds, first-at, gear-at, Fault, said, fault, refuse-at, _orelse_, when, span-fault, seconds-fault, left, role-at, gear-fault, kind, about, role-code, gear-facts, gear-list, sentence, A-at, B-at, ceiling-at, clutch-reason, pedal-down, byte-of, why-lo, why-end, row-fault, why-fault, early-fault, nothing, said-of, why, by-order, trip-of, trip-start, trip-stop, stop-in, closing-part, gears-last}
 use Rattle.rules.specs.declared.Vehicle.{Vehicle}
 use Rattle.rules.specs.declared.Role.{Role}
 use Rattle.rules.specs.declared.GearFacts.{GearFacts}
@@ -9,18 +8,6 @@ use Rattle.rules.specs.declared.Refusal.{Refusal}
 use Rattle.rules.specs.declared.Refusal.the-variants.{OutsideTrace}
 use Rattle.rules.specs.declared.Answer.{Answer}
 use Rattle.rules.specs.declared.Answer.the-variants.{Done, Refused}
-use Rattle.rules.specs.Words.{if_then_else_, _and_, at, part}
-use Rattle.rules.specs.Units.{moving, rise, start, stop}
-use Rattle.rules.specs.Gears.{engine, required}
-use Rattle.rules.specs.Corrections.{floor, closing, role-of, here, firsts, trip-speeds, trip-holds, first-at, gear-at}
-use Rattle.rules.specs.Refusals.{Fault, said, fault, refuse-at, _orelse_, when, span-fault, seconds-fault, left}
-use Rattle.rules.specs.Vocabulary.Choosing.{role-at}
-use Rattle.rules.specs.Inside.{gear-fault}
-use Rattle.rules.specs.Why.{kind, about, role-code, gear-facts, gear-list, sentence, A-at, B-at, ceiling-at, clutch-reason, pedal-down, byte-of, why-lo, why-end, row-fault, why-fault, early-fault, nothing, said-of, why}
-use Rattle.rules.proofs.Laws.Words.{by-order}
-use Rattle.rules.proofs.Laws.Trips.{trip-of, trip-start, trip-stop, stop-in}
-use Rattle.rules.proofs.Laws.Closing.{closing-part}
-use Rattle.rules.proofs.Laws.Checks.{gears-last}
 use Rattle.checks.proofs.Rows.{opening, Opened, after-opening, opening-first, said-first, said-none, left-old, left-new}
 use Rattle.trips.proofs.Clutch.{rise-here, fall-yes, fall-no}
 use Rattle.reasons.specs.declared.Chain.{Chain}

@@ -1,16 +1,6 @@
 -- The byte that is explained is the card's.
--- Assumes nothing.
-use Rattle.rules.proofs.Base.{ℕ, suc, _+_, _*_, _<_, add-comm, zero-add, mod-eq-of-lt, add-mod-right, arith, _≡_, refl, sym, _∙_, true, false, none, List, ltb, pos, leZ, length}
+use Rattle.rules.proofs.Offered.{ℕ, suc, _+_, _*_, _<_, add-comm, zero-add, mod-eq-of-lt, add-mod-right, arith, _≡_, refl, sym, _∙_, true, false, none, List, ltb, pos, leZ, length, within, at, _and_, moving, rise, engine, gear-at, clutch, byte, pressed, card-at, card, left, hold-span, kind, about, clutch-reason, pedal-down, byte-of, why-lo, why-end, why-fault, early-fault, nothing, said-of, why, by-test, at-table, fit-of, gear-in-range, card-mod}
 use Rattle.rules.specs.declared.Vehicle.{Vehicle}
-use Rattle.rules.specs.Words.{within, at, _and_}
-use Rattle.rules.specs.Units.{moving, rise}
-use Rattle.rules.specs.Gears.{engine}
-use Rattle.rules.specs.Corrections.{gear-at, clutch, byte, pressed, card-at, card}
-use Rattle.rules.specs.Refusals.{left}
-use Rattle.rules.specs.Edit.{hold-span}
-use Rattle.rules.specs.Why.{kind, about, clutch-reason, pedal-down, byte-of, why-lo, why-end, why-fault, early-fault, nothing, said-of, why}
-use Rattle.rules.proofs.Laws.Words.{by-test, at-table}
-use Rattle.rules.proofs.Laws.Cards.{fit-of, gear-in-range, card-mod}
 use Rattle.reasons.specs.Says.{Shows}
 use Rattle.reasons.proofs.Places.{inside-span, about-next, about-itself, kind-moving, kind-before, kind-rests}
 use Rattle.reasons.proofs.Saying.{pedal-before}

@@ -1,15 +1,8 @@
 -- The stages of a trip at one of its seconds: what it is, B's ceiling there, and what each stage left.
--- Assumes nothing.
-use Rattle.rules.proofs.Base.{ℕ, suc, _+_, _-_, _≤_, _<_, arith, _≡_, refl, sym, ap, _∙_, Bool, true, false, List, leb, ltb, eqb, length, drop, le-leb, lt-leb, lt-ltb, le-ltb, eq-eqb, ne-eqb}
+use Rattle.rules.proofs.Offered.{ℕ, suc, _+_, _-_, _≤_, _<_, arith, _≡_, refl, sym, ap, _∙_, Bool, true, false, List, leb, ltb, eqb, length, drop, le-leb, lt-leb, lt-ltb, le-ltb, eq-eqb, ne-eqb, if_then_else_, _and_, at, pass, low, closing, role-of, ceiling, here, free, peak, rising, slowing, firsts, after-A, after-B, gears, B-looks, ceiling-of, and-no, both, length-B}
 use Rattle.rules.specs.declared.Vehicle.{Vehicle}
 use Rattle.rules.specs.declared.Role.{Role}
 use Rattle.rules.specs.declared.Role.the-variants.{First, Closing, AfterLow, Inner}
-use Rattle.rules.specs.Words.{if_then_else_, _and_, at, pass}
-use Rattle.rules.specs.Units.{low}
-use Rattle.rules.specs.Corrections.{closing, role-of, ceiling, here, free, peak, rising, slowing, firsts, after-A, after-B, gears}
-use Rattle.rules.specs.Why.{B-looks, ceiling-of}
-use Rattle.rules.proofs.Laws.Words.{and-no, both}
-use Rattle.rules.proofs.Laws.Held.{length-B}
 use Rattle.gears.specs.declared.Numbers.{Numbers}
 use Rattle.gears.specs.Parts.{low-in, Counts, Lent}
 use Rattle.gears.proofs.Parts.{low-of, ng-of}

@@ -1,13 +1,6 @@
 -- What a reader may conclude of a second that is explained.
--- Assumes nothing.
-use Rattle.rules.proofs.Base.{ℕ, _<_, _≡_, _≢_, none, some, List, length}
+use Rattle.rules.proofs.Offered.{ℕ, _<_, _≡_, _≢_, none, some, List, length, at, rise, card, numbered, work-fault, PassesOthers, role-at, kind, about, why-fault, early-fault, why}
 use Rattle.rules.specs.declared.Vehicle.{Vehicle}
-use Rattle.rules.specs.Words.{at}
-use Rattle.rules.specs.Units.{rise}
-use Rattle.rules.specs.Corrections.{card}
-use Rattle.rules.specs.Refusals.{numbered, work-fault}
-use Rattle.rules.specs.Vocabulary.Choosing.{PassesOthers, role-at}
-use Rattle.rules.specs.Why.{kind, about, why-fault, early-fault, why}
 use Rattle.reasons.specs.Says.{Shows, Chooses, Wants}
 use Rattle.reasons.proofs.Passed.{accepted-said}
 use Rattle.reasons.proofs.Shown.{shows-card}

@@ -1,22 +1,7 @@
 -- Refused for want of a gear.
--- Assumes nothing.
-use Rattle.rules.proofs.Base.{ℕ, _-_, _≤_, _<_, arith, _≡_, refl, sym, ap, _∙_, true, false, Option, none, some, List, eqb, length, leb-true, lt-ltb, eq-eqb, eqb-true, eqb-false}
+use Rattle.rules.proofs.Offered.{ℕ, _-_, _≤_, _<_, arith, _≡_, refl, sym, ap, _∙_, true, false, Option, none, some, List, eqb, length, leb-true, lt-ltb, eq-eqb, eqb-true, eqb-false, _and_, within, at, first, low, moving, rise, fits, choose, first-at, Fault, numbered, refuse-at, when, no-gear, checks, bad, seconds-fault, work-fault, _orelse_, gear-fault, PassesOthers, role-at, kind, about, driven-facts, no-facts, gear-facts, gear-list, sentence, why-lo, why-end, row-fault, why-fault, early-fault, said-of, why, by-test, if-ind, and-left, and-right, none-orelse, gears-last, first-found, moving-in, first-choice-plainly, first-at-is}
 use Rattle.rules.specs.declared.Vehicle.{Vehicle}
 use Rattle.rules.specs.declared.GearFacts.{GearFacts}
-use Rattle.rules.specs.Words.{_and_, within, at, first}
-use Rattle.rules.specs.Units.{low, moving, rise}
-use Rattle.rules.specs.Gears.{fits, choose}
-use Rattle.rules.specs.Corrections.{first-at}
-use Rattle.rules.specs.Refusals.{Fault, numbered, refuse-at, when, no-gear, checks, bad, seconds-fault, work-fault, _orelse_}
-use Rattle.rules.specs.Inside.{gear-fault}
-use Rattle.rules.specs.Vocabulary.Choosing.{PassesOthers, role-at}
-use Rattle.rules.specs.Why.{kind, about, driven-facts, no-facts, gear-facts, gear-list, sentence, why-lo, why-end, row-fault, why-fault, early-fault, said-of, why}
-use Rattle.rules.proofs.Laws.Words.{by-test, if-ind, and-left, and-right}
-use Rattle.rules.proofs.Laws.Checks.{none-orelse, gears-last}
-use Rattle.rules.proofs.Laws.Searches.{first-found}
-use Rattle.rules.proofs.Laws.Trips.{moving-in}
-use Rattle.rules.proofs.Laws.Choice.{first-choice-plainly}
-use Rattle.rules.proofs.Laws.Cards.{first-at-is}
 use Rattle.reasons.specs.Says.{Wants}
 use Rattle.reasons.proofs.Places.{about-itself, kind-moving}
 use Rattle.reasons.proofs.Passed.{even, bounds, said-there, narrower, end-in, later-start, own-rooms}

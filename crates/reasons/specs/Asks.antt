@@ -1,14 +1,8 @@
 -- What the functions that explain a second ask of their arguments.
--- Assumes nothing.
-use Prim.Native.Nat.{ℕ, suc, _≤_, _<_}
-use mathlib.Core.Path.{_≡_}
-use mathlib.Core.Bool.{false}
-use mathlib.Core.List.{List}
-use lib.ListN.{length}
+use Rattle.rules.specs.Words.{ℕ, suc, _≤_, _<_, _≡_, false, List, length, at}
 use Rattle.rules.specs.declared.Vehicle.{Vehicle}
 use Rattle.rules.specs.declared.Reasons.{Reasons}
 use Rattle.rules.specs.Inside.{InBounds}
-use Rattle.rules.specs.Words.{at}
 use Rattle.rules.specs.Corrections.{here, firsts, after-A, after-B, gears}
 use Rattle.rules.specs.Units.{longest}
 use Rattle.rules.specs.Why.{ceiling-of}

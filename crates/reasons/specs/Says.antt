@@ -1,16 +1,9 @@
 -- The words of the theorems on what is said of a second.
--- Assumes nothing.
-use Prim.Native.Nat.{ℕ, _+_, _-_, _≤_}
-use mathlib.Core.Path.{_≡_}
-use mathlib.Core.Bool.{true, false}
-use mathlib.Core.List.{List}
-use lib.IntN.{ℤ}
-use lib.ListN.{getD}
+use Rattle.rules.specs.Words.{ℕ, _+_, _-_, _≤_, _≡_, true, false, List, ℤ, getD, if_then_else_}
 use Rattle.rules.specs.declared.Vehicle.{Vehicle}
 use Rattle.rules.specs.declared.Role.{Role}
 use Rattle.rules.specs.declared.GearFacts.{GearFacts}
 use Rattle.rules.specs.declared.Reasons.{Reasons}
-use Rattle.rules.specs.Words.{if_then_else_}
 use Rattle.rules.specs.Units.{low}
 use Rattle.rules.specs.Gears.{fits, power, enough}
 use Rattle.rules.specs.Corrections.{pressed, shown}

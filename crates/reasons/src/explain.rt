@@ -1,9 +1,5 @@
 // One moving second of a trip, explained.
-ghost use mathlib.Core.Path.{_≡_};
-ghost use mathlib.Core.Option.{none};
-ghost use Prim.Native.Nat.{ℕ, _+_, _-_, _*_, _≤_, _<_};
-ghost use lib.IntN.{pos, natAbs, _-ℤ_};
-ghost use lib.ListN.{length};
+ghost use Rattle.rules.specs.Words.{_≡_, none, ℕ, _+_, _-_, _*_, _≤_, _<_, pos, natAbs, _-ℤ_, length};
 ghost use Rattle.rules.specs.declared.Vehicle.{Vehicle};
 ghost use Rattle.rules.specs.Units.{start};
 ghost use Rattle.rules.specs.Gears.{required};

@@ -1,9 +1,6 @@
 // What is said of each gear at a second.
-ghost use mathlib.Core.Path.{_≡_};
-ghost use Prim.Native.Nat.{ℕ, _-_, _*_, _≤_, _<_};
-ghost use lib.IntN.{ℤ, natAbs};
+ghost use Rattle.rules.specs.Words.{_≡_, ℕ, _-_, _*_, _≤_, _<_, ℤ, natAbs, _and_, at};
 ghost use Rattle.rules.specs.declared.Vehicle.{Vehicle};
-ghost use Rattle.rules.specs.Words.{_and_, at};
 ghost use Rattle.rules.specs.Units.{fastest};
 ghost use Rattle.rules.specs.Gears.{is-first, engine, minimum, allowed, over-minimum, required};
 ghost use Rattle.rules.specs.Why.{role-code, next-rule, minimum-rule, listed-power, driven-facts, no-facts, gear-facts, gear-list};

@@ -1,10 +1,6 @@
 // A second's trip gone through as the working goes through it, and what each stage left at the second.
-ghost use mathlib.Core.Path.{_≡_};
-ghost use mathlib.Core.List.{List};
-ghost use Prim.Native.Nat.{ℕ, suc, _≤_, _<_};
-ghost use lib.ListN.{length};
+ghost use Rattle.rules.specs.Words.{_≡_, List, ℕ, suc, _≤_, _<_, length, if_then_else_, at, pass};
 ghost use Rattle.rules.specs.declared.Vehicle.{Vehicle};
-ghost use Rattle.rules.specs.Words.{if_then_else_, at, pass};
 ghost use Rattle.rules.specs.Corrections.{ceiling, here, peak, rising, slowing, firsts};
 ghost use Rattle.rules.specs.Why.{B-looks};
 ghost use Rattle.gears.specs.Parts.{Counts, Has, Lent, Parts};

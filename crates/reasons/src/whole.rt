@@ -1,7 +1,5 @@
 // A second of a trace explained, or the refusal that leaves nothing to be said.
-ghost use mathlib.Core.Path.{_≡_};
-ghost use Prim.Native.Nat.{_-_, _<_};
-ghost use lib.ListN.{length};
+ghost use Rattle.rules.specs.Words.{_≡_, _-_, _<_, length};
 ghost use Rattle.rules.specs.Units.{start, stop};
 ghost use Rattle.rules.specs.Refusals.{said};
 ghost use Rattle.rules.specs.Edit.{hold-span};

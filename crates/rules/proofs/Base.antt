@@ -1,5 +1,4 @@
 -- The kit's words that proofs use, and the types that the code declares, passed on.
--- Assumes nothing.
 pub use Prim.Native.Nat.{_%_, _*_, _+_, _-_, _/_, _<_, _^_, _≤_, max, min, suc, zero, ℕ}
 pub use borrow.Author.Fill.{fill-more}
 pub use borrow.Author.Needs.{needs}

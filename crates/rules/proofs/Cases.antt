@@ -1,5 +1,4 @@
 -- Document 01, "Sums done on paper": the starred cases, one table, one theorem; and a few rows of our own, each for a slip that the paper's rows let pass.
--- Assumes nothing.
 pub mod Cars
 use Rattle.rules.proofs.Base.{_≡_, refl, true, false, none, some, List, [], _∷_, pos, negℤ, _*ℤ_, replicate, drop, set, take, First, Closing, AfterLow, Inner, Hold, Release, Mend}
 use Rattle.rules.specs.Vocabulary.{role-at, job-from, none-held}

@@ -1,6 +1,5 @@
 -- The demands on one edit, said once over what a contract of an edit says: for `cards` an answer and the lists that are left, for `summaries` the summary too.
 -- A crate above shows `EditedBy`, or `EditedWith`, of its functions' contracts, and cites these.
--- Assumes nothing.
 use Rattle.rules.proofs.Base.{ℕ, _≤_, _<_, _≡_, sym, ap, _∙_, _≢_, false, none, some, List, length, Vehicle, Answer, Edit, Hold}
 use Rattle.rules.specs.Words.{at}
 use Rattle.rules.specs.Corrections.{shown}

@@ -1,5 +1,4 @@
 -- The mathematics of document 01: what a reader of the paper may conclude from the definitions. The proofs are in Laws/.
--- Assumes nothing.
 pub mod Choosing
 pub mod Cards
 pub mod Edits

@@ -1,16 +1,9 @@
 -- One edit of the screen: document 01, "One hold, the quick way", and document 02, requests Seven, Eight and Nine.
--- Assumes nothing.
-use Prim.Native.Nat.{ℕ, suc, _-_, min}
-use mathlib.Core.Bool.{Bool, not}
-use mathlib.Core.Option.{Option}
-use mathlib.Core.List.{List, [], _∷_}
-use lib.ListN.{length, set}
-use lib.Dec.{ltb, eqb}
+use Rattle.rules.specs.Words.{ℕ, suc, _-_, min, Bool, not, Option, List, [], _∷_, length, set, ltb, eqb, if_then_else_, _and_, _or_, at, patch}
 use Rattle.rules.specs.declared.Vehicle.{Vehicle}
 use Rattle.rules.specs.declared.Summary.{Summary}
 use Rattle.rules.specs.declared.Edit.{Edit}
 use Rattle.rules.specs.declared.Edit.the-variants.{Hold, Release, Mend}
-use Rattle.rules.specs.Words.{if_then_else_, _and_, _or_, at, patch}
 use Rattle.rules.specs.Units.{moving, start, stop}
 use Rattle.rules.specs.Corrections.{card-at}
 use Rattle.rules.specs.Refusals.{Fault, refuse-at, _orelse_, when, trace-fault, room-fault, vehicle-fault, Check, check-number, all-checks, bad, fault-of, left}

@@ -1,13 +1,6 @@
 -- Words of contracts and laws inside: no sentence of the papers and no theorem on one needs them.
--- Assumes nothing.
-use Prim.Native.Nat.{ℕ, suc, _+_, _-_, _≤_, _<_}
-use mathlib.Core.Path.{_≡_}
-use mathlib.Core.Bool.{false}
-use mathlib.Core.Option.{Option}
-use mathlib.Core.List.{List}
-use lib.IntN.{natAbs}
+use Rattle.rules.specs.Words.{ℕ, suc, _+_, _-_, _≤_, _<_, _≡_, false, Option, List, natAbs, at, first}
 use Rattle.rules.specs.declared.Vehicle.{Vehicle}
-use Rattle.rules.specs.Words.{at, first}
 use Rattle.rules.specs.Units.{ratio-of, low}
 use Rattle.rules.specs.Refusals.{Fault, refuse-at, over-ng, over-rev, no-gear, bad}
 

@@ -1,17 +1,10 @@
 -- Document 01, "Numbers of refusal": number and place of each, and those of the whole working.
--- Assumes nothing.
-use Prim.Native.Nat.{ℕ, suc, _+_, _-_}
-use mathlib.Core.Bool.{Bool, not}
-use mathlib.Core.Option.{Option, none, some}
-use mathlib.Core.List.{List, [], _∷_, _++_}
-use lib.ListN.{length}
-use lib.Dec.{ltb, eqb}
+use Rattle.rules.specs.Words.{ℕ, suc, _+_, _-_, Bool, not, Option, none, some, List, [], _∷_, _++_, length, ltb, eqb, if_then_else_, _and_, _or_, within, at, first}
 use Rattle.rules.specs.declared.Vehicle.{Vehicle}
 use Rattle.rules.specs.declared.Refusal.{Refusal}
 use Rattle.rules.specs.declared.Refusal.the-variants.{TraceLength, RoomLength, VehicleField, OutsideTrace, SpeedOver, StepOver, EndMoving, HoldNotDriven, HoldStanding, HoldOverRev, NoGear, JobEndsEarly, BadGroup, BadVersion, BadHold, BytesAfter, RoomShort, BadPart, BadKind, NotFinite, OutOfBounds, KindMissing, BadFactor}
 use Rattle.rules.specs.declared.Answer.{Answer}
 use Rattle.rules.specs.declared.Answer.the-variants.{Done, Refused}
-use Rattle.rules.specs.Words.{if_then_else_, _and_, _or_, within, at, first}
 use Rattle.rules.specs.Units.{bad-field, low, longest, fastest, steepest, moving}
 use Rattle.rules.specs.Gears.{under-nmax}
 use Rattle.rules.specs.Corrections.{first-at, card}

@@ -1,6 +1,5 @@
 -- The words of the theorems: what they say, as records of plain facts. A reader who has the definitions reads these, and then the theorems, without
 -- any law.
--- Assumes nothing.
 pub mod Choosing
 pub mod Sums
 pub mod Edits

@@ -1,19 +1,10 @@
 -- Why this gear: what is said of one second of a trace, over the definitions that the card itself is made of.
--- Assumes nothing.
-use Prim.Native.Nat.{ℕ, zero, suc, _+_, _-_, _*_}
-use mathlib.Core.Bool.{Bool, true, false, not}
-use mathlib.Core.Option.{Option}
-use mathlib.Core.List.{List, [], _∷_}
-use lib.ListN.{length}
-use lib.Dec.{ltb, eqb}
-use lib.IntN.{ℤ, pos}
-use lib.Signed.{leZ}
+use Rattle.rules.specs.Words.{ℕ, zero, suc, _+_, _-_, _*_, Bool, true, false, not, Option, List, [], _∷_, length, ltb, eqb, ℤ, pos, leZ, if_then_else_, _and_, within, at}
 use Rattle.rules.specs.declared.Vehicle.{Vehicle}
 use Rattle.rules.specs.declared.Role.{Role}
 use Rattle.rules.specs.declared.Role.the-variants.{First, Closing, AfterLow, Inner}
 use Rattle.rules.specs.declared.GearFacts.{GearFacts}
 use Rattle.rules.specs.declared.Reasons.{Reasons}
-use Rattle.rules.specs.Words.{if_then_else_, _and_, within, at}
 use Rattle.rules.specs.Units.{low, moving, rise, start, stop}
 use Rattle.rules.specs.Gears.{Power, is-first, engine, minimum, under-nmax, over-minimum, allowed, fits, required, power, enough}
 use Rattle.rules.specs.Corrections.{floor, ceiling, free, after-A, after-B, trip-speeds, trip-holds, first-at, gear-at, pressed}

@@ -1,12 +1,5 @@
 -- Counting: the seconds of a stretch, each at its place, and the changes between them.
--- Assumes nothing.
-use Rattle.rules.proofs.Base.{ℕ, suc, _+_, _-_, _≤_, _<_, _%_, add-zero, zero-add, sub-self, mod-lt, add-one, arith, _≡_, refl, sym, ap, _∙_, Bool, false, not, List, eqb, length, set, length-set, replicate, getD-replicate, getD-set-same, getD-set-other, ext-getD, eqb-true, eqb-false, eq-eqb, ne-eqb}
-use Rattle.rules.specs.Words.{if_then_else_, _and_, at, table}
-use Rattle.rules.specs.Units.{moving}
-use Rattle.rules.specs.Summary.{tally, rests, drives, changes}
-use Rattle.rules.specs.Corrections.{shown}
-use Rattle.rules.proofs.Laws.Words.{by-test, by-order, at-table, table-ext, length-table}
-use Rattle.rules.proofs.Laws.Summary.{tally-add, tally-shift, tally-le, same-counts, counts}
+use Rattle.rules.proofs.Offered.{ℕ, suc, _+_, _-_, _≤_, _<_, _%_, add-zero, zero-add, sub-self, mod-lt, add-one, arith, _≡_, refl, sym, ap, _∙_, Bool, false, not, List, eqb, length, set, length-set, replicate, getD-replicate, getD-set-same, getD-set-other, ext-getD, eqb-true, eqb-false, eq-eqb, ne-eqb, if_then_else_, _and_, at, table, moving, tally, rests, drives, changes, shown, by-test, by-order, at-table, table-ext, length-table, tally-add, tally-shift, tally-le, same-counts, counts}
 use Rattle.summaries.specs.declared.Tally.{Tally}
 use Rattle.summaries.specs.Tallies.{tallied, in-ten, placed, counts-at, Countable}
 

@@ -1,9 +1,5 @@
 -- Request Nine, over the contract of `summary_of` as the check reads it. Of the edits it stands in rules/proofs/Demands.
--- Assumes nothing.
-use Rattle.rules.proofs.Base.{ℕ, _≡_, sym, _∙_, none, List, now, Lasts, atExit, Lfts, Dens, endedOf, resT}
-use Rattle.rules.specs.Refusals.{said}
-use Rattle.rules.specs.Summary.{summary, summary-fault, counted-summary}
-use Rattle.rules.proofs.Laws.Checks.{left-none}
+use Rattle.rules.proofs.Offered.{ℕ, _≡_, sym, _∙_, none, List, now, Lasts, atExit, Lfts, Dens, endedOf, resT, said, summary, summary-fault, counted-summary, left-none}
 use Rattle.summaries.specs.declared.Counted.{Counted}
 use Rattle.summaries.proofs.whole.summary_of.Kinds as summary-of-kinds
 use Rattle.summaries.proofs.whole.summary_of.Reads as summary-of-reads

@@ -1,9 +1,6 @@
 -- Each public function's contract allows one outcome. `Reads` is the contract's own reading, which the check makes of the clauses.
--- Assumes nothing.
-use mathlib.Core.Path.{_≡_, refl, sym, _∙_}
-use Rattle.rules.specs.Refusals.{said}
-use Rattle.rules.proofs.Laws.Refusals.{said-once}
-use Rattle.once.specs.Determined.{Determined}
+use Rattle.rules.proofs.Offered.{_≡_, refl, sym, _∙_, said, said-once}
+use Rattle.rules.specs.Determined.{Determined}
 use Rattle.summaries.specs.declared.Counted.{Counted}
 use Rattle.summaries.proofs.whole.summary_of.Kinds as summary-of-kinds
 use Rattle.summaries.proofs.whole.summary_of.Reads as summary-of-reads

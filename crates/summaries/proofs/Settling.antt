@@ -1,11 +1,6 @@
 -- A count, and the counts of a summary, brought up to date.
--- Assumes nothing.
-use Rattle.rules.proofs.Base.{ℕ, _+_, _-_, _≤_, _<_, zero-add, add-one, one-add, arith, _≡_, sym, _∙_, List, length, set, length-set, getD-set-same, getD-set-other, ext-getD}
+use Rattle.rules.proofs.Offered.{ℕ, _+_, _-_, _≤_, _<_, zero-add, add-one, one-add, arith, _≡_, sym, _∙_, List, length, set, length-set, getD-set-same, getD-set-other, ext-getD, at, table, settled, updated, by-eq, at-table, table-ext, length-table, same-counts}
 use Rattle.rules.specs.declared.Summary.{Summary}
-use Rattle.rules.specs.Words.{at, table}
-use Rattle.rules.specs.Summary.{settled, updated}
-use Rattle.rules.proofs.Laws.Words.{by-eq, at-table, table-ext, length-table}
-use Rattle.rules.proofs.Laws.Summary.{same-counts}
 use Rattle.summaries.specs.declared.Tally.{Tally}
 use Rattle.summaries.specs.Tallies.{in-ten}
 

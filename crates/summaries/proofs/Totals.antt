@@ -1,15 +1,8 @@
 -- A whole card counted: what counting it asks, and that the counts are its summary.
--- Assumes nothing.
-use Rattle.rules.proofs.Base.{ℕ, _-_, _≤_, arith, _≡_, sym, ap, _∙_, Option, none, List, [], length}
+use Rattle.rules.proofs.Offered.{ℕ, _-_, _≤_, arith, _≡_, sym, ap, _∙_, Option, none, List, [], length, moving, longest, Fault, said, _orelse_, trace-fault, room-fault, summary, summary-fault, counted-summary, updated, standing-past, trace-in, rooms-in, left-none, orelse-none, counts, updated-right}
 use Rattle.rules.specs.declared.Summary.{Summary}
 use Rattle.rules.specs.declared.Answer.{Answer}
 use Rattle.rules.specs.declared.Answer.the-variants.{Done}
-use Rattle.rules.specs.Units.{moving, longest}
-use Rattle.rules.specs.Refusals.{Fault, said, _orelse_, trace-fault, room-fault}
-use Rattle.rules.specs.Summary.{summary, summary-fault, counted-summary, updated}
-use Rattle.rules.proofs.Laws.Trips.{standing-past}
-use Rattle.rules.proofs.Laws.Checks.{trace-in, rooms-in, left-none, orelse-none}
-use Rattle.rules.proofs.Laws.Summary.{counts, updated-right}
 use Rattle.summaries.specs.declared.Tally.{Tally}
 use Rattle.summaries.specs.Tallies.{tallied, in-ten, Countable}
 use Rattle.summaries.proofs.Counting.{ten-of}

@@ -1,13 +1,6 @@
 -- What the code counts by the way: in each gear that a byte can show, 0 to 15, and at place 16 the standing seconds.
--- Assumes nothing.
-use Prim.Native.Nat.{ℕ, _≤_, _<_}
-use mathlib.Core.Path.{_≡_}
-use mathlib.Core.Bool.{Bool, false}
-use mathlib.Core.List.{List}
-use lib.Dec.{eqb}
-use lib.ListN.{length}
+use Rattle.rules.specs.Words.{ℕ, _≤_, _<_, _≡_, Bool, false, List, eqb, length, if_then_else_, at, table}
 use Rattle.rules.specs.declared.Summary.{Summary}
-use Rattle.rules.specs.Words.{if_then_else_, at, table}
 use Rattle.rules.specs.Units.{moving}
 use Rattle.rules.specs.Summary.{tally, changes}
 use Rattle.rules.specs.Corrections.{shown}

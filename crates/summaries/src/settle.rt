@@ -1,7 +1,5 @@
 // A summary brought up to date.
-ghost use mathlib.Core.Path.{_≡_};
-ghost use Prim.Native.Nat.{_+_};
-ghost use Rattle.rules.specs.Words.{at, table};
+ghost use Rattle.rules.specs.Words.{_≡_, _+_, at, table};
 ghost use Rattle.rules.specs.Summary.{settled, updated};
 ghost use Rattle.summaries.specs.Tallies.{in-ten};
 use crate::Tally;

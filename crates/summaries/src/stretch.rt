@@ -1,10 +1,5 @@
 // Seconds counted: each at its place, and the gear changes between them. Nothing is searched for, so that a card of many short trips takes no longer.
-ghost use mathlib.Core.Path.{_≡_};
-ghost use mathlib.Core.Bool.{not};
-ghost use mathlib.Core.List.{[]};
-ghost use Prim.Native.Nat.{_-_, _≤_};
-ghost use lib.Dec.{eqb};
-ghost use Rattle.rules.specs.Words.{if_then_else_, _and_, table};
+ghost use Rattle.rules.specs.Words.{_≡_, not, [], _-_, _≤_, eqb, if_then_else_, _and_, table};
 ghost use Rattle.rules.specs.Units.{moving};
 ghost use Rattle.rules.specs.Summary.{tally, changes};
 ghost use Rattle.rules.specs.Corrections.{shown};

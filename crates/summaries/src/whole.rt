@@ -1,6 +1,5 @@
 // The summary of a whole card.
-ghost use mathlib.Core.Path.{_≡_};
-ghost use mathlib.Core.List.{[]};
+ghost use Rattle.rules.specs.Words.{_≡_, []};
 ghost use Rattle.rules.specs.Refusals.{said};
 ghost use Rattle.rules.specs.Summary.{summary, summary-fault, counted-summary};
 use crate::Counted;

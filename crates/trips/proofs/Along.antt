@@ -1,10 +1,6 @@
 -- Passes A and B as loops: what such a pass has made of the trip so far, and the gear before, as corrected, that it takes along.
--- Assumes nothing.
-use Rattle.rules.proofs.Base.{ℕ, _+_, _-_, _≤_, _<_, arith, _≡_, refl, sym, ap, _∙_, List, length, set, length-set, getD-set-same}
+use Rattle.rules.proofs.Offered.{ℕ, _+_, _-_, _≤_, _<_, arith, _≡_, refl, sym, ap, _∙_, List, length, set, length-set, getD-set-same, at, pass, peak, rising, slowing, peak-fixed, rising-fixed, slowing-fixed}
 use Rattle.rules.specs.declared.Vehicle.{Vehicle}
-use Rattle.rules.specs.Words.{at, pass}
-use Rattle.rules.specs.Corrections.{peak, rising, slowing}
-use Rattle.rules.proofs.Laws.Held.{peak-fixed, rising-fixed, slowing-fixed}
 use Rattle.trips.proofs.Passes.{pass-first, pass-more}
 use Rattle.trips.proofs.Seconds.{free-first}
 use Rattle.trips.specs.Ready.{Later}

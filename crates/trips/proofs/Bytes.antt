@@ -1,13 +1,6 @@
 -- A trip's bytes, worked from its parts, are those of the card.
--- Assumes nothing.
-use Rattle.rules.proofs.Base.{ℕ, zero, suc, _+_, _-_, _≤_, _<_, _%_, zero-add, arith, _≡_, refl, sym, ap, _∙_, _≢_, _⊎_, inl, inr, Bool, true, false, List, [], _∷_, _++_, leb, ltb, length, set, take, drop, length-set, length-drop, List·getD-eq-default, ext-getD, take-all, getD-set-same, getD-set-other, lt-leb, le-leb, lt-ltb, le-ltb}
+use Rattle.rules.proofs.Offered.{ℕ, zero, suc, _+_, _-_, _≤_, _<_, _%_, zero-add, arith, _≡_, refl, sym, ap, _∙_, _≢_, _⊎_, inl, inr, Bool, true, false, List, [], _∷_, _++_, leb, ltb, length, set, take, drop, length-set, length-drop, List·getD-eq-default, ext-getD, take-all, getD-set-same, getD-set-other, lt-leb, le-leb, lt-ltb, le-ltb, if_then_else_, _and_, at, part, table, patch, moving, rise, start, stop, gears, trip-speeds, trip-holds, gear-at, clutch, byte, card-at, card, IsTrip, by-order, at-part, length-part, at-table, length-table, table-ext, table-add, table-at, patch-in, patch-out, trip-start, trip-stop}
 use Rattle.rules.specs.declared.Vehicle.{Vehicle}
-use Rattle.rules.specs.Words.{if_then_else_, _and_, at, part, table, patch}
-use Rattle.rules.specs.Units.{moving, rise, start, stop}
-use Rattle.rules.specs.Corrections.{gears, trip-speeds, trip-holds, gear-at, clutch, byte, card-at, card}
-use Rattle.rules.specs.Vocabulary.Choosing.{IsTrip}
-use Rattle.rules.proofs.Laws.Words.{by-order, at-part, length-part, at-table, length-table, table-ext, table-add, table-at, patch-in, patch-out}
-use Rattle.rules.proofs.Laws.Trips.{trip-start, trip-stop}
 use Rattle.trips.specs.Trip.{trip-bytes}
 
 module _ (car : Vehicle) (vs hs : List ℕ) {a b : ℕ} (T : IsTrip vs a b) (n : length hs ≡ length vs) (l : b < length vs) where

@@ -1,11 +1,5 @@
 -- Where the closing run of a trip begins, as a scan back from its end finds it.
--- Assumes nothing.
-use Rattle.rules.proofs.Base.{ℕ, zero, suc, _-_, _≤_, _<_, arith, _≡_, refl, sym, _∙_, Bool, true, false, not, List, leb, ltb, length, drop, drop-of-length-le, drop-cons, le-leb, lt-leb, le-ltb, lt-ltb}
-use Rattle.rules.specs.Words.{_and_, _or_, at}
-use Rattle.rules.specs.Units.{moving}
-use Rattle.rules.specs.Corrections.{closing}
-use Rattle.rules.proofs.Laws.Closing.{closing-here, closing-end}
-use Rattle.rules.proofs.Laws.Words.{clash, by-eq, by-order, and-no}
+use Rattle.rules.proofs.Offered.{ℕ, zero, suc, _-_, _≤_, _<_, arith, _≡_, refl, sym, _∙_, Bool, true, false, not, List, leb, ltb, length, drop, drop-of-length-le, drop-cons, le-leb, lt-leb, le-ltb, lt-ltb, _and_, _or_, at, moving, closing, closing-here, closing-end, clash, by-eq, by-order, and-no}
 use Rattle.trips.specs.Trip.{RunFrom, AllMoving}
 
 -- one of two tests holds, if the second does

@@ -1,13 +1,6 @@
 -- D at a second of a trip, and the card's byte: an answer for each way through the code.
--- Assumes nothing.
-use Rattle.rules.proofs.Base.{ℕ, zero, suc, _+_, _-_, _*_, _≤_, _<_, add-one, arith, _≡_, true, false, List, pos, _-ℤ_, length, leZ, le-leb, lt-leb, le-ltb, lt-ltb}
+use Rattle.rules.proofs.Offered.{ℕ, zero, suc, _+_, _-_, _*_, _≤_, _<_, add-one, arith, _≡_, true, false, List, pos, _-ℤ_, length, leZ, le-leb, lt-leb, le-ltb, lt-ltb, at, rise, engine, clutch, byte, by-order, both, and-no, pos-sub}
 use Rattle.rules.specs.declared.Vehicle.{Vehicle}
-use Rattle.rules.specs.Words.{at}
-use Rattle.rules.specs.Units.{rise}
-use Rattle.rules.specs.Gears.{engine}
-use Rattle.rules.specs.Corrections.{clutch, byte}
-use Rattle.rules.proofs.Laws.Words.{by-order, both, and-no}
-use Rattle.rules.proofs.Laws.Integers.{pos-sub}
 use Rattle.trips.proofs.Seconds.{no-and}
 
 -- a second of the trip has a next one

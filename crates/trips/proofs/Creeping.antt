@@ -1,16 +1,7 @@
 -- A second after one in the lowest gear at which the gear above would not reach idle: it can only have the lowest gear.
--- Assumes nothing.
-use Rattle.rules.proofs.Base.{ℕ, _+_, _-_, _*_, _≤_, _<_, le-refl, arith, _≡_, refl, sym, _∙_, Bool, false, List, ℤ, lt-leb, eq-eqb, ne-eqb}
+use Rattle.rules.proofs.Offered.{ℕ, _+_, _-_, _*_, _≤_, _<_, le-refl, arith, _≡_, refl, sym, _∙_, Bool, false, List, ℤ, lt-leb, eq-eqb, ne-eqb, InBounds, _or_, at, low, engine, next-minimum, minimum, over-minimum, fits, role-of, by-test, by-order, by-eq, clash, and-no, minimum-most, higher}
 use Rattle.rules.specs.declared.Vehicle.{Vehicle}
 use Rattle.rules.specs.declared.Role.the-variants.{Closing}
-use Rattle.rules.specs.Inside.{InBounds}
-use Rattle.rules.specs.Words.{_or_, at}
-use Rattle.rules.specs.Units.{low}
-use Rattle.rules.specs.Gears.{engine, next-minimum, minimum, over-minimum, fits}
-use Rattle.rules.specs.Corrections.{role-of}
-use Rattle.rules.proofs.Laws.Words.{by-test, by-order, by-eq, clash, and-no}
-use Rattle.rules.proofs.Laws.Minimum.{minimum-most}
-use Rattle.rules.proofs.Laws.Limits.{higher}
 use Rattle.gears.specs.declared.Numbers.{Numbers}
 use Rattle.gears.specs.Parts.{low-in, Has}
 use Rattle.gears.specs.Choosing.{only-lowest, first-of}

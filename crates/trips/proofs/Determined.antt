@@ -1,8 +1,7 @@
 -- Each public function's contract allows one outcome. `Reads` is the contract's own reading, which the check makes of the clauses.
--- Assumes nothing.
-use Rattle.rules.proofs.Base.{ℕ, refl, sym, ap, _∙_, List, [], now}
+use Rattle.rules.proofs.Offered.{ℕ, refl, sym, ap, _∙_, List, [], now}
 use Rattle.gears.proofs.Parts.{built-has}
-use Rattle.once.specs.Determined.{Determined}
+use Rattle.rules.specs.Determined.{Determined}
 use Rattle.trips.proofs.Closing.{run-once}
 use Rattle.trips.proofs.byte.byte_at.Kinds as byte-at-kinds
 use Rattle.trips.proofs.byte.byte_at.Reads as byte-at-reads

@@ -1,16 +1,6 @@
 -- A pass as a loop meets it: one turn further, places that it leaves alone, places that it writes without having looked at them. And no gear of a trip is above ng + 1.
--- Assumes nothing.
-use Rattle.rules.proofs.Base.{ℕ, zero, suc, _+_, _-_, _≤_, _<_, zero-add, le-refl, not-suc-le-zero, add-one, arith, _≡_, refl, sym, ap, _∙_, Option, none, some, Option·getD, List, eqb, length, set, replicate, length-replicate, getD-set-same, getD-set-other, set-getD, ext-getD, ltb-true}
+use Rattle.rules.proofs.Offered.{ℕ, zero, suc, _+_, _-_, _≤_, _<_, zero-add, le-refl, not-suc-le-zero, add-one, arith, _≡_, refl, sym, ap, _∙_, Option, none, some, Option·getD, List, eqb, length, set, replicate, length-replicate, getD-set-same, getD-set-other, set-getD, ext-getD, ltb-true, at, first, pass, table, low, rise, under-nmax, floor, ceiling, role-of, here, first-choice, is-peak, peak, too-high, rising, too-low, slowing, firsts, after-A, after-B, gears, InBounds, by-eq, by-order, if-ind, and-right, length-pass, pass-at, pass-later, pass-holds, length-table, at-table, Found, first-found, length-firsts, length-A, length-B, first-is, choose-to}
 use Rattle.rules.specs.declared.Vehicle.{Vehicle}
-use Rattle.rules.specs.Words.{at, first, pass, table}
-use Rattle.rules.specs.Units.{low, rise}
-use Rattle.rules.specs.Gears.{under-nmax}
-use Rattle.rules.specs.Corrections.{floor, ceiling, role-of, here, first-choice, is-peak, peak, too-high, rising, too-low, slowing, firsts, after-A, after-B, gears}
-use Rattle.rules.specs.Inside.{InBounds}
-use Rattle.rules.proofs.Laws.Words.{by-eq, by-order, if-ind, and-right, length-pass, pass-at, pass-later, pass-holds, length-table, at-table}
-use Rattle.rules.proofs.Laws.Searches.{Found, first-found}
-use Rattle.rules.proofs.Laws.Held.{length-firsts, length-A, length-B, first-is}
-use Rattle.rules.proofs.Laws.Choice.{choose-to}
 use Rattle.gears.specs.declared.Numbers.{Numbers}
 use Rattle.gears.proofs.Parts.{built}
 

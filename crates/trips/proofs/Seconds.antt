@@ -1,11 +1,6 @@
 -- What passes A, B and C make of one second: an answer for each way through the code.
--- Assumes nothing.
-use Rattle.rules.proofs.Base.{ℕ, suc, _+_, _-_, _≤_, _<_, max, min, arith, _≡_, refl, sym, Bool, true, false, List, leb, ltb, eqb, length, drop, le-leb, lt-leb, le-ltb, lt-ltb, eq-eqb, ne-eqb}
+use Rattle.rules.proofs.Offered.{ℕ, suc, _+_, _-_, _≤_, _<_, max, min, arith, _≡_, refl, sym, Bool, true, false, List, leb, ltb, eqb, length, drop, le-leb, lt-leb, le-ltb, lt-ltb, eq-eqb, ne-eqb, _and_, _or_, at, low, floor, closing, ceiling, free, is-peak, peak, too-high, rising, too-low, slowing, by-order, if-ind, both, and-no}
 use Rattle.rules.specs.declared.Vehicle.{Vehicle}
-use Rattle.rules.specs.Words.{_and_, _or_, at}
-use Rattle.rules.specs.Units.{low}
-use Rattle.rules.specs.Corrections.{floor, closing, ceiling, free, is-peak, peak, too-high, rising, too-low, slowing}
-use Rattle.rules.proofs.Laws.Words.{by-order, if-ind, both, and-no}
 use Rattle.trips.specs.Second.{ceiling-of, is-peaked, peaked, is-risen, risen, slowed}
 use Rattle.trips.specs.Trip.{one-above}
 

@@ -1,13 +1,7 @@
 -- The three passes and the bytes in one loop. A pass looks at its own second, at those before it as it has made them, and at the next as the pass before has left
 -- it; so pass B can follow pass A at once, and pass C and the byte pass B.
--- Assumes nothing.
-use Rattle.rules.proofs.Base.{ℕ, suc, _+_, _-_, _≤_, _<_, zero-add, add-one, le-refl, arith, _≡_, refl, sym, ap, _∙_, Bool, List, leb, eqb, length, set, drop, getD-set-same, getD-set-other, ext-getD, le-leb, lt-leb, ne-eqb}
+use Rattle.rules.proofs.Offered.{ℕ, suc, _+_, _-_, _≤_, _<_, zero-add, add-one, le-refl, arith, _≡_, refl, sym, ap, _∙_, Bool, List, leb, eqb, length, set, drop, getD-set-same, getD-set-other, ext-getD, le-leb, lt-leb, ne-eqb, if_then_else_, _and_, at, pass, table, low, closing, peak, rising, slowing, byte, by-order, by-eq, length-pass, pass-later, pass-at, pass-done, length-table, at-table, peak-fixed, rising-fixed, slowing-fixed, of₃}
 use Rattle.rules.specs.declared.Vehicle.{Vehicle}
-use Rattle.rules.specs.Words.{if_then_else_, _and_, at, pass, table}
-use Rattle.rules.specs.Units.{low}
-use Rattle.rules.specs.Corrections.{closing, peak, rising, slowing, byte}
-use Rattle.rules.proofs.Laws.Words.{by-order, by-eq, length-pass, pass-later, pass-at, pass-done, length-table, at-table}
-use Rattle.rules.proofs.Laws.Held.{peak-fixed, rising-fixed, slowing-fixed}
 use Rattle.trips.specs.Second.{ceiling-of, peaked, risen, slowed, to-A, to-B, to-C, settled}
 use Rattle.trips.proofs.Seconds.{free-first, ceiling-is, peak-is, rising-is, slowing-is}
 
@@ -41,7 +35,7 @@ module _ (car : Vehicle) (us hs gs : List ℕ) (n : length gs ≡ length hs) whe
     A-at =
         let f = peak car us hs in
         pass-at f gs (length hs) j l (omega arith) ∙ peak-is car us hs j (pass f j gs)
-        ∙ rw (length-pass f gs j, n, pass-done f gs j (length hs) (j - 1) (omega arith) (omega arith) (omega arith), pass-later f gs j j (le-refl j), pass-later f gs j (suc j) (omega arith), add-one j)
+        ∙ rw (length-pass f gs j, n, of₃ (pass-done f gs j (length hs) (j - 1)) (omega arith), pass-later f gs j j (le-refl j), pass-later f gs j (suc j) (omega arith), add-one j)
 
     B-at : at (to-B car us hs gs) j ≡ risen car us hs j (ceiling-of (at (to-B car us hs gs) (j - 1)) (leb 2 j and eqb (at (to-B car us hs gs) (j - 1)) (at (to-B car us hs gs) (j - 2)))) (at (to-A car us hs gs) j)
     unfolding to-B _and_
@@ -49,8 +43,8 @@ module _ (car : Vehicle) (us hs gs : List ℕ) (n : length gs ≡ length hs) whe
         let f = rising car us hs in
         let A = to-A car us hs gs in
         pass-at f A (length hs) j l (omega (arith, A-size)) ∙ rising-is car us hs j (pass f j A)
-        ∙ rw (ceiling-is j (pass f j A), pass-done f A j (length hs) (j - 1) (omega arith) (omega arith) (omega (arith, A-size)), pass-later f A j j (le-refl j))
-        (by-order j 2 (λ h. rw (lt-leb 2 j h)) (λ h. rw (pass-done f A j (length hs) (j - 2) (omega arith) (omega arith) (omega (arith, A-size)))))
+        ∙ rw (ceiling-is j (pass f j A), of₃ (pass-done f A j (length hs) (j - 1)) (omega (arith, A-size)), pass-later f A j j (le-refl j))
+        (by-order j 2 (λ h. rw (lt-leb 2 j h)) (λ h. rw (of₃ (pass-done f A j (length hs) (j - 2)) (omega (arith, A-size)))))
 
     C-at : at (to-C car us hs gs) j ≡ slowed (at hs j) (closing (drop j us)) (low car) (at (to-B car us hs gs) j)
     unfolding to-C

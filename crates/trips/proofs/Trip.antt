@@ -1,15 +1,7 @@
 -- What the calls of one trip's work come to, one after the other.
--- Assumes nothing.
-use Rattle.rules.proofs.Base.{ℕ, suc, _+_, _-_, _*_, _≤_, _<_, arith, _≡_, sym, _∙_, Bool, true, false, List, leb, ltb, eqb, ℤ, length, drop, ltb-true, eq-eqb, ne-eqb}
+use Rattle.rules.proofs.Offered.{ℕ, suc, _+_, _-_, _*_, _≤_, _<_, arith, _≡_, sym, _∙_, Bool, true, false, List, leb, ltb, eqb, ℤ, length, drop, ltb-true, eq-eqb, ne-eqb, InBounds, if_then_else_, _and_, at, every, pass, table, rise, closing, role-of, here, first-choice, firsts, after-A, after-B, gears, byte, by-order, table-ext, every-at, held-gear}
 use Rattle.rules.specs.declared.Vehicle.{Vehicle}
 use Rattle.rules.specs.declared.Role.the-variants.{First}
-use Rattle.rules.specs.Inside.{InBounds}
-use Rattle.rules.specs.Words.{if_then_else_, _and_, at, every, pass, table}
-use Rattle.rules.specs.Units.{rise}
-use Rattle.rules.specs.Corrections.{closing, role-of, here, first-choice, firsts, after-A, after-B, gears, byte}
-use Rattle.rules.proofs.Laws.Words.{by-order, table-ext}
-use Rattle.rules.proofs.Laws.Vehicle.{every-at}
-use Rattle.rules.proofs.Laws.Held.{held-gear}
 use Rattle.trips.proofs.Passes.{pass-same, firsts-fresh}
 use Rattle.gears.specs.declared.Numbers.{Numbers}
 use Rattle.gears.specs.Parts.{low-in, Has, Parts}

@@ -1,12 +1,5 @@
 -- What the functions of one trip ask of their arguments.
--- Assumes nothing.
-use Prim.Native.Nat.{ℕ, suc, _-_, _≤_, _<_}
-use mathlib.Core.Path.{_≡_}
-use mathlib.Core.Bool.{true}
-use mathlib.Core.List.{List}
-use lib.IntN.{natAbs}
-use lib.ListN.{length}
-use Rattle.rules.specs.Words.{at}
+use Rattle.rules.specs.Words.{ℕ, suc, _-_, _≤_, _<_, _≡_, true, List, natAbs, length, at}
 use Rattle.rules.specs.Units.{fastest, steepest, moving, rise}
 use Rattle.gears.specs.declared.Numbers.{Numbers}
 use Rattle.gears.specs.Second.{Gear}

@@ -1,12 +1,6 @@
 -- What each pass makes of one second, from its own gear and those around it, and what becomes of a trip's first choices.
--- Assumes nothing.
-use Prim.Native.Nat.{ℕ, suc, _+_, _-_, _<_, max}
-use mathlib.Core.Bool.{Bool}
-use mathlib.Core.List.{List}
-use lib.Dec.{leb, ltb, eqb}
-use lib.ListN.{length}
+use Rattle.rules.specs.Words.{ℕ, suc, _+_, _-_, _<_, max, Bool, List, leb, ltb, eqb, length, if_then_else_, _and_, at, pass, table}
 use Rattle.rules.specs.declared.Vehicle.{Vehicle}
-use Rattle.rules.specs.Words.{if_then_else_, _and_, at, pass, table}
 use Rattle.rules.specs.Corrections.{floor, free, peak, rising, slowing, byte}
 use Rattle.gears.specs.declared.Numbers.{Numbers}
 use Rattle.gears.specs.Parts.{Has}

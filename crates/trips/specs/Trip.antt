@@ -1,13 +1,6 @@
 -- What the functions of one trip promise, in the words of their contracts.
--- Assumes nothing.
-use Prim.Native.Nat.{ℕ, suc, _+_, _-_, _<_, max, min}
-use mathlib.Core.Path.{_≡_}
-use mathlib.Core.Bool.{Bool, true}
-use mathlib.Core.List.{List}
-use lib.Dec.{leb, eqb}
-use lib.ListN.{length, drop}
+use Rattle.rules.specs.Words.{ℕ, suc, _+_, _-_, _<_, max, min, _≡_, Bool, true, List, leb, eqb, length, drop, if_then_else_, _and_, _or_, at, table}
 use Rattle.rules.specs.declared.Vehicle.{Vehicle}
-use Rattle.rules.specs.Words.{if_then_else_, _and_, _or_, at, table}
 use Rattle.rules.specs.Units.{moving, rise}
 use Rattle.rules.specs.Corrections.{closing, role-of, gears, byte}
 use Rattle.gears.specs.Second.{Gear}

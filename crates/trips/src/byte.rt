@@ -1,8 +1,5 @@
 // The card's bytes of one trip.
-ghost use mathlib.Core.Path.{_≡_};
-ghost use Prim.Native.Nat.{_+_, _-_, _*_, _<_};
-ghost use lib.ListN.{length};
-ghost use Rattle.rules.specs.Words.{at};
+ghost use Rattle.rules.specs.Words.{_≡_, _+_, _-_, _*_, _<_, length, at};
 ghost use Rattle.rules.specs.Corrections.{byte};
 ghost use Rattle.rules.specs.declared.Vehicle.{Vehicle};
 ghost use Rattle.gears.specs.Parts.{Has};

@@ -1,9 +1,6 @@
 // A trip whose every second is held.
-ghost use mathlib.Core.Path.{_≡_};
-ghost use lib.Dec.{ltb};
-ghost use lib.ListN.{length};
+ghost use Rattle.rules.specs.Words.{_≡_, ltb, length, at, every, table};
 ghost use Rattle.rules.specs.declared.Vehicle.{Vehicle};
-ghost use Rattle.rules.specs.Words.{at, every, table};
 ghost use Rattle.rules.specs.Corrections.{byte};
 ghost use Rattle.gears.specs.Parts.{Has};
 ghost use Rattle.trips.specs.Ready.{Geared};

@@ -1,9 +1,5 @@
 // Pass A: one-second peaks.
-ghost use mathlib.Core.Path.{_≡_};
-ghost use Prim.Native.Nat.{_+_, _≤_, _<_};
-ghost use lib.Dec.{eqb};
-ghost use lib.ListN.{length};
-ghost use Rattle.rules.specs.Words.{_and_, _or_, at, pass};
+ghost use Rattle.rules.specs.Words.{_≡_, _+_, _≤_, _<_, eqb, length, _and_, _or_, at, pass};
 ghost use Rattle.rules.specs.Corrections.{peak};
 ghost use Rattle.rules.specs.declared.Vehicle.{Vehicle};
 ghost use Rattle.gears.specs.Parts.{Has};

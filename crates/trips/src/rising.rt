@@ -1,8 +1,5 @@
 // Pass B: rising speed.
-ghost use mathlib.Core.Path.{_≡_};
-ghost use Prim.Native.Nat.{_≤_, _<_};
-ghost use lib.ListN.{length};
-ghost use Rattle.rules.specs.Words.{pass};
+ghost use Rattle.rules.specs.Words.{_≡_, _≤_, _<_, length, pass};
 ghost use Rattle.rules.specs.Corrections.{ceiling, rising};
 ghost use Rattle.rules.specs.declared.Vehicle.{Vehicle};
 ghost use Rattle.gears.specs.Parts.{Has};

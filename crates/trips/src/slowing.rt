@@ -1,11 +1,6 @@
 // Pass C: the closing run.
-ghost use mathlib.Core.Path.{_≡_};
-ghost use mathlib.Core.List.{List};
-ghost use Prim.Native.Nat.{ℕ, suc, _≤_, _<_};
-ghost use lib.Dec.{leb};
-ghost use lib.ListN.{length};
+ghost use Rattle.rules.specs.Words.{_≡_, List, ℕ, suc, _≤_, _<_, leb, length, at, pass};
 ghost use Rattle.rules.specs.declared.Vehicle.{Vehicle};
-ghost use Rattle.rules.specs.Words.{at, pass};
 ghost use Rattle.rules.specs.Corrections.{slowing};
 use gears::Numbers;
 use gears::lowest;

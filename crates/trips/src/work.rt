@@ -1,12 +1,5 @@
 // The work on one trip: first choices, the three passes, the bytes.
-ghost use mathlib.Core.Path.{_≡_};
-ghost use mathlib.Core.Bool.{Bool, true, false};
-ghost use mathlib.Core.List.{List};
-ghost use Prim.Native.Nat.{ℕ, _+_, _-_, _≤_};
-ghost use lib.Dec.{leb, eqb};
-ghost use lib.IntN.{ℤ};
-ghost use lib.ListN.{length};
-ghost use Rattle.rules.specs.Words.{if_then_else_, _and_, at, pass};
+ghost use Rattle.rules.specs.Words.{_≡_, Bool, true, false, List, ℕ, _+_, _-_, _≤_, leb, eqb, ℤ, length, if_then_else_, _and_, at, pass};
 ghost use Rattle.rules.specs.Units.{rise};
 ghost use Rattle.rules.specs.Corrections.{role-of};
 ghost use Rattle.rules.specs.declared.Vehicle.{Vehicle};

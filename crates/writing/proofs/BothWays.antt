@@ -1,17 +1,9 @@
 -- Request One, over the contracts of the reader and of the writer themselves: demand 2 in both directions.
--- Assumes nothing.
-use Rattle.rules.proofs.Base.{ℕ, _≤_, arith, _≡_, refl, ap, _∙_, none, List, length, take}
+use Rattle.rules.proofs.Offered.{ℕ, _≤_, arith, _≡_, refl, ap, _∙_, none, List, length, take, said, Read, got, refused, Job, job-read, read-fault, job-of, filled, Bytes, job-from, job-fault, cleared, job-bytes, write-fault, write-room, left-none, said-once}
+use Rattle.rules.proofs.Theorems.Jobs.{written-reads-back, read-writes-back}
 use Rattle.rules.specs.declared.Vehicle.{Vehicle}
 use Rattle.rules.specs.declared.Answer.{Answer}
 use Rattle.rules.specs.declared.Answer.the-variants.{Done}
-use Rattle.rules.specs.Refusals.{said}
-use Rattle.rules.specs.Groups.{Read, got, refused}
-use Rattle.rules.specs.Job.{Job, job-read, read-fault, job-of, filled}
-use Rattle.rules.specs.Vocabulary.Jobs.{Bytes, job-from, job-fault, cleared}
-use Rattle.rules.specs.Write.{job-bytes, write-fault, write-room}
-use Rattle.rules.proofs.Laws.Checks.{left-none}
-use Rattle.rules.proofs.Laws.Refusals.{said-once}
-use Rattle.rules.proofs.Theorems.Jobs.{written-reads-back, read-writes-back}
 use Rattle.reading.specs.declared.Reading.{Reading}
 use Rattle.writing.specs.declared.Written.{Written}
 use Rattle.reading.specs.Reader.{reading, ReadAs}

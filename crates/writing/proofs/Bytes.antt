@@ -1,17 +1,6 @@
 -- What the stages of a job are written as, in the pieces that the code puts.
--- Assumes nothing.
-use Rattle.rules.proofs.Base.{ℕ, zero, suc, _+_, _-_, _*_, _≤_, _<_, arith, _≡_, refl, ap, _∙_, List, [], _∷_, _++_, length, length-append, take-length, leb}
+use Rattle.rules.proofs.Offered.{ℕ, zero, suc, _+_, _-_, _*_, _≤_, _<_, arith, _≡_, refl, ap, _∙_, List, [], _∷_, _++_, length, length-append, take-length, leb, at, table, form, value, only-if, checked, bounded, _then_, seen, row-write, row, many, counted, version, profile, gearbox, numbers, point, curve, seconds, trace, hold, points-of, parts-of, vehicle, gather, holds, fields, stages, job, job-bytes, job-from, InBounds, by-test, length-table, table-at, form-one, form-size, points-many}
 use Rattle.rules.specs.declared.Vehicle.{Vehicle}
-use Rattle.rules.specs.Words.{at, table}
-use Rattle.rules.specs.Groups.{form}
-use Rattle.rules.specs.Forms.{value, only-if, checked, bounded, _then_, seen, row-write, row, many, counted}
-use Rattle.rules.specs.Job.{version, profile, gearbox, numbers, point, curve, seconds, trace, hold, points-of, parts-of, vehicle, gather, holds, fields, stages, job}
-use Rattle.rules.specs.Write.{job-bytes}
-use Rattle.rules.specs.Vocabulary.Jobs.{job-from}
-use Rattle.rules.specs.Inside.{InBounds}
-use Rattle.rules.proofs.Laws.Words.{by-test, length-table, table-at}
-use Rattle.rules.proofs.Laws.Groups.{form-one, form-size}
-use Rattle.rules.proofs.Laws.Writes.{points-many}
 use Rattle.writing.specs.Writing.{values-bytes, pair, pairs-bytes, since, margin, margins-bytes, points-bytes}
 use Rattle.writing.proofs.BytesLeft.{values-left, values-more, values-none, values-all, points-left, points-more, points-none, margins-left, margins-more, margins-none, margins-all, margins-late, margins-early, since-late, since-early, pair-more, pair-none}
 

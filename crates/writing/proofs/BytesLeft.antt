@@ -1,12 +1,6 @@
 -- The bytes of values, pairs, points, margins and holds in a row, of which some are put or measured: what is left of them.
--- Assumes nothing.
-use Rattle.rules.proofs.Base.{ℕ, suc, _+_, _-_, _≤_, _<_, arith, true, false, _≡_, refl, sym, ap, List, [], _∷_, _++_, append-assoc, length, drop, length-append, drop-of-length-le, drop-cons, getD-drop, drop-drop, leb, eqb}
+use Rattle.rules.proofs.Offered.{ℕ, suc, _+_, _-_, _≤_, _<_, arith, true, false, _≡_, refl, sym, ap, List, [], _∷_, _++_, append-assoc, length, drop, length-append, drop-of-length-le, drop-cons, getD-drop, drop-drop, leb, eqb, at, table, form, value, known, only-if, _then_, row-write, row, many, point, points-of, gather, by-test}
 use Prim.{Unit, tt}
-use Rattle.rules.specs.Words.{at, table}
-use Rattle.rules.specs.Groups.{form}
-use Rattle.rules.specs.Forms.{value, known, only-if, _then_, row-write, row, many}
-use Rattle.rules.specs.Job.{point, points-of, gather}
-use Rattle.rules.proofs.Laws.Words.{by-test}
 use Rattle.writing.specs.Writing.{values-bytes, pair, pairs-bytes, since, margin, margins-bytes, points-bytes, hold-bytes, held-one}
 use Rattle.reading.proofs.PutInTurn.{Left, all-left, said-as}
 

@@ -1,17 +1,10 @@
 -- 14, and checks 1 to 9 of a job that is to be written: each way out of them. There is no card, and the holds stand for one.
--- Assumes nothing.
-use Rattle.rules.proofs.Base.{ℕ, arith, _≡_, refl, sym, ap, _∙_, true, false, not, Option, none, List, length, set, set-out}
+use Rattle.rules.proofs.Offered.{ℕ, arith, _≡_, refl, sym, ap, _∙_, true, false, not, Option, none, List, length, set, set-out, if_then_else_, _and_, _or_, within, newest, bounds, first-failed, bad-field, Fault, said, refuse-at, _orelse_, when, trace-fault, room-fault, vehicle-fault, seconds-fault, checks-fault, orelse-none, none-orelse, orelse-assoc, refuse-none, none-when, no-profile, no-margins, same-bounds}
 use Rattle.rules.specs.declared.Vehicle.{Vehicle}
 use Rattle.rules.specs.declared.Refusal.{Refusal}
 use Rattle.rules.specs.declared.Refusal.the-variants.{BadVersion}
 use Rattle.rules.specs.declared.Answer.{Answer}
 use Rattle.rules.specs.declared.Answer.the-variants.{Done, Refused}
-use Rattle.rules.specs.Words.{if_then_else_, _and_, _or_, within}
-use Rattle.rules.specs.Units.{newest, bounds, first-failed, bad-field}
-use Rattle.rules.specs.Refusals.{Fault, said, refuse-at, _orelse_, when, trace-fault, room-fault, vehicle-fault, seconds-fault}
-use Rattle.rules.specs.Write.{checks-fault}
-use Rattle.rules.proofs.Laws.Checks.{orelse-none, none-orelse, orelse-assoc, refuse-none, none-when}
-use Rattle.rules.proofs.Laws.Vehicle.{no-profile, no-margins, same-bounds}
 use Rattle.checks.proofs.Rows.{opening, Opened, opened, said-first, said-none}
 use Rattle.writing.specs.Writing.{told-fault}
 

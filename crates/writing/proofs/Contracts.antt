@@ -1,10 +1,6 @@
 -- The contract of `write` as the check reads it: it asks nothing, and what it says of the room past what it writes.
--- Assumes nothing.
-use Rattle.rules.proofs.Base.{ℕ, _≤_, _≡_, sym, ap, _∙_, List, now, Lasts, atExit, Lfts, Dens, endedOf, resT}
+use Rattle.rules.proofs.Offered.{ℕ, _≤_, _≡_, sym, ap, _∙_, List, now, Lasts, atExit, Lfts, Dens, endedOf, resT, at, job-bytes, write-fault, write-room, left-beyond}
 use Rattle.rules.specs.declared.Vehicle.{Vehicle}
-use Rattle.rules.specs.Words.{at}
-use Rattle.rules.specs.Write.{job-bytes, write-fault, write-room}
-use Rattle.rules.proofs.Laws.Rooms.{left-beyond}
 use Rattle.writing.specs.declared.Written.{Written}
 use Rattle.writing.specs.Writing.{WriteAs}
 use Rattle.writing.proofs.writer.write.Kinds as write-kinds

@@ -1,13 +1,8 @@
 -- The demands on the writer, and on the reader and the writer together. A reader of document 02 reads `ReadAs` and `WriteAs`, which are the contracts of `read`
 -- and `write`, and then these.
--- Assumes nothing.
-use Rattle.rules.proofs.Base.{ℕ, _≤_, _≡_, sym, _∙_, none, some, List, length, take}
+use Rattle.rules.proofs.Offered.{ℕ, _≤_, _≡_, sym, _∙_, none, some, List, length, take, Fault, said, write-fault, write-room, Bytes, job-fault, left-some}
 use Rattle.rules.specs.declared.Vehicle.{Vehicle}
 use Rattle.rules.specs.declared.Answer.the-variants.{Done}
-use Rattle.rules.specs.Refusals.{Fault, said}
-use Rattle.rules.specs.Write.{write-fault, write-room}
-use Rattle.rules.specs.Vocabulary.Jobs.{Bytes, job-fault}
-use Rattle.rules.proofs.Laws.Checks.{left-some}
 use Rattle.reading.specs.declared.Reading.{Reading}
 use Rattle.writing.specs.declared.Written.{Written}
 use Rattle.reading.specs.Reader.{ReadAs}

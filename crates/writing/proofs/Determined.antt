@@ -1,8 +1,6 @@
 -- Each public function's contract allows one outcome. `Reads` is the contract's own reading, which the check makes of the clauses.
--- Assumes nothing.
-use mathlib.Core.Path.{sym, _∙_}
-use Rattle.once.specs.Determined.{Determined}
-use Rattle.rules.proofs.Laws.Refusals.{said-once}
+use Rattle.rules.proofs.Offered.{sym, _∙_, said-once}
+use Rattle.rules.specs.Determined.{Determined}
 use Rattle.writing.proofs.writer.write.Kinds as write-kinds
 use Rattle.writing.proofs.writer.write.Reads as write-reads
 

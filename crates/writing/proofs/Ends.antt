@@ -1,15 +1,10 @@
 -- The writer's ends: what is answered, and how the room is left.
--- Assumes nothing.
-use Rattle.rules.proofs.Base.{ℕ, _≤_, _<_, zero-add, arith, _≡_, sym, _∙_, Option, none, some, List, length, sets-eq, lt-ltb, le-ltb}
+use Rattle.rules.proofs.Offered.{ℕ, _≤_, _<_, zero-add, arith, _≡_, sym, _∙_, Option, none, some, List, length, sets-eq, lt-ltb, le-ltb, Fault, fault, said, refuse-at, _orelse_, when, left, filled, job-bytes, checks-fault, write-fault, write-room, none-when}
 use Rattle.rules.specs.declared.Vehicle.{Vehicle}
 use Rattle.rules.specs.declared.Refusal.{Refusal}
 use Rattle.rules.specs.declared.Refusal.the-variants.{RoomShort}
 use Rattle.rules.specs.declared.Answer.{Answer}
 use Rattle.rules.specs.declared.Answer.the-variants.{Done, Refused}
-use Rattle.rules.specs.Refusals.{Fault, fault, said, refuse-at, _orelse_, when, left}
-use Rattle.rules.specs.Job.{filled}
-use Rattle.rules.specs.Write.{job-bytes, checks-fault, write-fault, write-room}
-use Rattle.rules.proofs.Laws.Checks.{none-when}
 use Rattle.writing.specs.declared.Written.{Written}
 use Rattle.reading.specs.Lent.{Put}
 use Rattle.writing.specs.Writing.{short-fault, BytesAs, WriteAs}

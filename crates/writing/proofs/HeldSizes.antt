@@ -1,10 +1,5 @@
 -- How many bytes holds have whose gears have one each, at seconds of at most two.
--- Assumes nothing.
-use Rattle.rules.proofs.Base.{ℕ, zero, suc, _+_, _-_, _*_, _≤_, _<_, arith, _≡_, refl, ap, List, length, length-append, eqb}
-use Rattle.rules.specs.Words.{at}
-use Rattle.rules.specs.Job.{gather}
-use Rattle.rules.proofs.Laws.Words.{by-test, by-order}
-use Rattle.rules.proofs.Laws.Groups.{form-one, form-two}
+use Rattle.rules.proofs.Offered.{ℕ, zero, suc, _+_, _-_, _*_, _≤_, _<_, arith, _≡_, refl, ap, List, length, length-append, eqb, at, gather, by-test, by-order, form-one, form-two}
 use Rattle.writing.specs.Writing.{pairs-bytes, hold-bytes, held-one, Light}
 use Rattle.writing.proofs.BytesLeft.{held-left, held-more, held-count, held-end, held-nought}
 

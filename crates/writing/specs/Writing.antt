@@ -1,14 +1,6 @@
 -- What the writer promises, and what its own functions do: bytes put into the lent room one after another.
--- Assumes nothing.
-use Prim.Native.Nat.{ℕ, _≤_, _<_}
-use mathlib.Core.Path.{_≡_}
-use mathlib.Core.Bool.{not}
-use mathlib.Core.Option.{Option}
-use mathlib.Core.List.{List, [], _++_}
-use lib.ListN.{length}
-use lib.Dec.{leb, ltb, eqb}
+use Rattle.rules.specs.Words.{ℕ, _≤_, _<_, _≡_, not, Option, List, [], _++_, length, leb, ltb, eqb, if_then_else_, within, at, table}
 use Rattle.rules.specs.declared.Vehicle.{Vehicle}
-use Rattle.rules.specs.Words.{if_then_else_, within, at, table}
 use Rattle.rules.specs.Units.{newest, bounds, first-failed}
 use Rattle.rules.specs.Refusals.{Fault, said, refuse-at, _orelse_, when, trace-fault, room-fault, left}
 use Rattle.rules.specs.Groups.{form}

@@ -1,7 +1,5 @@
 // The eight numbers between the gears and the curve, as a job has them.
-ghost use mathlib.Core.Path.{_≡_};
-ghost use Prim.Native.Nat.{_≤_};
-ghost use lib.IntN.{pos, natAbs, _+ℤ_};
+ghost use Rattle.rules.specs.Words.{_≡_, _≤_, pos, natAbs, _+ℤ_};
 ghost use Rattle.rules.specs.Job.{parts-of};
 use rules::Vehicle;
 

@@ -1,8 +1,5 @@
 // Bytes put into the lent room, which has space for them. Each function answers the place after what it put.
-ghost use mathlib.Core.Path.{_≡_};
-ghost use mathlib.Core.List.{[], _∷_, _++_};
-ghost use Prim.Native.Nat.{_+_, _≤_, _<_};
-ghost use lib.ListN.{length};
+ghost use Rattle.rules.specs.Words.{_≡_, [], _∷_, _++_, _+_, _≤_, _<_, length};
 ghost use Rattle.rules.specs.Groups.{form};
 ghost use Rattle.rules.specs.Job.{points-of, gather, vehicle};
 ghost use Rattle.rules.specs.Inside.{InBounds};

@@ -1,7 +1,5 @@
 // How long a job is: measured before the first byte is put.
-ghost use mathlib.Core.Path.{_≡_};
-ghost use Prim.Native.Nat.{_+_, _≤_};
-ghost use lib.ListN.{length, drop};
+ghost use Rattle.rules.specs.Words.{_≡_, _+_, _≤_, length, drop};
 ghost use Rattle.rules.specs.Groups.{form};
 ghost use Rattle.rules.specs.Job.{gather, vehicle};
 ghost use Rattle.rules.specs.Inside.{InBounds};

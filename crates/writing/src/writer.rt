@@ -1,9 +1,5 @@
 // The job writer of document 02, requests One, Six and Thirteen. Its length is measured first, so a room that is too short is refused with nothing written.
-ghost use mathlib.Core.Path.{_≡_};
-ghost use mathlib.Core.List.{List};
-ghost use mathlib.Core.Option.{none};
-ghost use Prim.Native.Nat.{ℕ, _+_, _*_, _≤_};
-ghost use lib.ListN.{length};
+ghost use Rattle.rules.specs.Words.{_≡_, List, none, ℕ, _+_, _*_, _≤_, length};
 ghost use Rattle.rules.specs.Refusals.{said};
 ghost use Rattle.rules.specs.Groups.{form};
 ghost use Rattle.rules.specs.Job.{gather, vehicle};

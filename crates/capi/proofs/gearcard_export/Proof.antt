@@ -1,6 +1,5 @@
 -- `capi::gearcard_export` meets its contract. `says-told` hands on what `read_export` promises.
--- Assumes nothing.
-use Rattle.rules.proofs.Base.{_∙_, toZ-ofZ, w32, needs}
+use Rattle.rules.proofs.Offered.{_∙_, toZ-ofZ, w32, needs}
 use Rattle.capi.specs.Verdicts.{says-told}
 use Rattle.capi.proofs.gearcard_export.Statement.{statement}
 use Rattle.capi.proofs.gearcard_export.Tie as tie
@@ -17,4 +16,4 @@ returns c =
     }
 
 pub gearcard-export-spec : {M : Type 1} → statement M
-gearcard-export-spec = tie.close (tie.spec (λ c κs. search needs) (λ c κs. search needs) returns)
+gearcard-export-spec = let answers = tie.spec (λ c κs. search needs) (λ c κs. search needs) returns in tie.close answers

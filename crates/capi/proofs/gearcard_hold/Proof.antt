@@ -1,6 +1,5 @@
 -- `capi::gearcard_hold` meets its contract. `says-told` hands on what `hold` promises.
--- Assumes nothing.
-use Rattle.rules.proofs.Base.{_∙_, needs}
+use Rattle.rules.proofs.Offered.{_∙_, needs}
 use Rattle.capi.specs.Verdicts.{says-told}
 use Rattle.capi.proofs.gearcard_hold.Statement.{statement}
 use Rattle.capi.proofs.gearcard_hold.Tie as tie
@@ -11,5 +10,4 @@ returns c =
     (c .counted-of .ensures .0 ∙ says-told _ _ (r .0), (c .counted-of .ensures .1 ∙ r .1 .0, (search needs, search needs)))
 
 pub gearcard-hold-spec : {M : Type 1} → statement M
-gearcard-hold-spec =
-    tie.close (tie.spec (λ c κs. search needs) (λ c κs. search needs) (λ c. search needs) (λ c. search needs) returns)
+gearcard-hold-spec = let answers = tie.spec (λ c κs. search needs) (λ c κs. search needs) (λ c. search needs) (λ c. search needs) returns in tie.close answers

@@ -1,6 +1,5 @@
 -- `capi::gearcard_mend` meets its contract. `says-told` hands on what `mend` promises.
--- Assumes nothing.
-use Rattle.rules.proofs.Base.{_∙_, needs}
+use Rattle.rules.proofs.Offered.{_∙_, needs}
 use Rattle.capi.specs.Verdicts.{says-told}
 use Rattle.capi.proofs.gearcard_mend.Statement.{statement}
 use Rattle.capi.proofs.gearcard_mend.Tie as tie
@@ -11,5 +10,4 @@ returns c =
     (c .counted-of .ensures .0 ∙ says-told _ _ (r .0), (c .counted-of .ensures .1 ∙ r .1 .0, (search needs, search needs)))
 
 pub gearcard-mend-spec : {M : Type 1} → statement M
-gearcard-mend-spec =
-    tie.close (tie.spec (λ c κs. search needs) (λ c κs. search needs) (λ c. search needs) (λ c. search needs) returns)
+gearcard-mend-spec = let answers = tie.spec (λ c κs. search needs) (λ c κs. search needs) (λ c. search needs) (λ c. search needs) returns in tie.close answers

@@ -1,6 +1,5 @@
 -- `capi::gearcard_read` meets its contract. `says-told` hands on what `read` promises.
--- Assumes nothing.
-use Rattle.rules.proofs.Base.{_∙_, needs}
+use Rattle.rules.proofs.Offered.{_∙_, needs}
 use Rattle.reading.specs.Reader.{reading}
 use Rattle.capi.specs.Verdicts.{says-told}
 use Rattle.capi.proofs.gearcard_read.Statement.{statement}
@@ -20,5 +19,4 @@ returns c =
     }
 
 pub gearcard-read-spec : {M : Type 1} → statement M
-gearcard-read-spec =
-    tie.close (tie.spec (λ c κs. search needs) (λ c κs. search needs) (λ c. search needs) (λ c. search needs) returns)
+gearcard-read-spec = let answers = tie.spec (λ c κs. search needs) (λ c κs. search needs) (λ c. search needs) (λ c. search needs) returns in tie.close answers

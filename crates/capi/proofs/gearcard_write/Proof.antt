@@ -1,6 +1,5 @@
 -- `capi::gearcard_write` meets its contract. `says-told` hands on what `write` promises.
--- Assumes nothing.
-use Rattle.rules.proofs.Base.{_∙_, needs}
+use Rattle.rules.proofs.Offered.{_∙_, needs}
 use Rattle.capi.specs.Verdicts.{says-told}
 use Rattle.capi.proofs.gearcard_write.Statement.{statement}
 use Rattle.capi.proofs.gearcard_write.Tie as tie
@@ -11,4 +10,4 @@ returns c =
     record { answered = c .verdict-of .ensures ∙ says-told _ _ (r .answered); the-length = search needs; room-left = search needs }
 
 pub gearcard-write-spec : {M : Type 1} → statement M
-gearcard-write-spec = tie.close (tie.spec (λ c κs. search needs) (λ c κs. search needs) (λ c. search needs) returns)
+gearcard-write-spec = let answers = tie.spec (λ c κs. search needs) (λ c κs. search needs) (λ c. search needs) returns in tie.close answers

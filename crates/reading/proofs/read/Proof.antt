@@ -1,10 +1,6 @@
 -- `reading::read` meets its contract: what was passed is said once for each stage, one law answers each `return`, and what was judged is put into the rooms as
 -- it was judged.
--- Assumes nothing.
-use Rattle.rules.proofs.Base.{_≤_, arith, _≡_, sym, true, length-take-le, needs}
-use Rattle.rules.specs.Groups.{got}
-use Rattle.rules.specs.Forms.{value, bounded, many}
-use Rattle.rules.proofs.Laws.Forms.{value-sound}
+use Rattle.rules.proofs.Offered.{_≤_, arith, _≡_, sym, true, length-take-le, needs, got, value, bounded, many, value-sound}
 use Rattle.reading.specs.Progress.{hold-row, used}
 use Rattle.reading.proofs.Steps.{comes-by, many-length, judged-stops, judged-comes}
 use Rattle.reading.proofs.GroupAnswers.{bounded-in}
@@ -89,8 +85,7 @@ put-holds-requires c κs =
 
 pub read-spec : {M : Type 1} → statement M
 read-spec =
-    tie.close
-    (tie.spec (λ c κs. search needs) (λ c. search needs) (λ c. search needs) (λ c κs. search needs) returns
+    let answers = tie.spec (λ c κs. search needs) (λ c. search needs) (λ c. search needs) (λ c κs. search needs) returns
     (λ c. search needs) (λ c κs. search needs) (λ c. search needs) (λ c. search needs) (λ c κs. search needs)
     (λ c κs. search needs) returns-2 (λ c. search needs) (λ c κs. search needs) returns-3 (λ c κs. search needs)
     returns-4 (λ c κs. let b = some (c .before .before .before) in omega (arith, b)) (λ c. search needs) (λ c. search needs) (λ c κs. search needs) returns-5
@@ -98,4 +93,5 @@ read-spec =
     returns-6 (λ c. search needs) (λ c κs. let b = some (c .before .before .before .before .before .before .before .before .before .before .before) in omega (arith, b)) (λ c. search needs) (λ c. search needs) (λ c κs. search needs)
     returns-7 (λ c κs. search needs) returns-8 (λ c. search needs) (λ c. sym (length-take-le _ _ (omega arith)))
     put-speeds-requires (λ c. search needs) (λ c. sym (length-take-le _ _ (omega arith))) put-holds-requires
-    (λ c. search needs) (λ c. search needs) returns-9)
+    (λ c. search needs) (λ c. search needs) returns-9 in
+    tie.close answers

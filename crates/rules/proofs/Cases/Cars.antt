@@ -1,5 +1,4 @@
 -- What the rows of the table are about: car Z and its kin, their traces and jobs, and the values that stand in a row.
--- Assumes nothing.
 use Rattle.rules.proofs.Base.{ℕ, Bool, Option, some, List, [], _∷_, _++_, ℤ, pos, replicate, take, Vehicle, Role, Summary, Closing, AfterLow, Inner}
 use Rattle.rules.specs.Words.{table}
 use Rattle.rules.specs.Gears.{minimum, choose}

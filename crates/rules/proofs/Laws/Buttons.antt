@@ -1,6 +1,5 @@
 -- What each button does: a held gear is shown, a hold stays in force, nothing asked changes nothing; a hold at a standing second, and of gear 0;
 -- what mending may change.
--- Assumes nothing.
 use Rattle.rules.proofs.Base.{ℕ, zero, suc, _+_, _-_, _≤_, _<_, _%_, arith, _≡_, refl, sym, ap, _∙_, _≢_, inl, inr, Bool, true, false, not, Option, none, some, List, [], _∷_, eqb, length, set, length-set, getD-set-other, getD-set-same, le-ltb, leb-false, eqb-true, eqb-false, ne-eqb, eq-eqb, not-false, Vehicle, Edit, Hold, Release, Mend}
 use Rattle.rules.specs.Words.{if_then_else_, _and_, _or_, at, first}
 use Rattle.rules.specs.Units.{moving, start, stop}
@@ -8,7 +7,7 @@ use Rattle.rules.specs.Corrections.{gear-at, card-at, card}
 use Rattle.rules.specs.Refusals.{Fault, refuse-at, _orelse_, not-driven, Check, speed, step, ends, over-ng, at-rest, over-rev, no-gear, check-number, checks, all-checks, bad, fault-of, span-fault, work-card}
 use Rattle.rules.specs.Edit.{Screen, second, asked-speeds, asked-holds, around, hold-span, span, fails, asked-fault, edit-fault, asked-screen, edited}
 use Rattle.rules.specs.Vocabulary.{Right, InNear, MayChange, itself, just-before, in-near, before-near, none-held}
-use Rattle.rules.proofs.Laws.Words.{clash, by-test, by-order, and-fails, patch-in}
+use Rattle.rules.proofs.Laws.Words.{clash, by-test, by-order, and-fails, patch-in, of₃}
 use Rattle.rules.proofs.Laws.Searches.{none-first, first-ext, first-skip}
 use Rattle.rules.proofs.Laws.Trips.{trip-of, start-le, start-before, start-inside, stop-le, stop-standing}
 use Rattle.rules.proofs.Laws.Checks.{accepted, edit-is, Taken, taken, driven, passed, pass-all, fault-append, none-orelse, rooms-in, vehicle-in, left-none}
@@ -59,7 +58,7 @@ module _ (car : Vehicle) (s g : ℕ) (x : Screen) (ok : edit-fault car (Hold s g
       let y : g ≤ car .ng = rw here at (driven car (at (set (x .holds) s g) s) (pass-here over-ng) .0) in
       let a = start-le (x .speeds) s in
       let c = stop-le (x .speeds) (suc s) in
-      rw (taken-asked car (Hold s g) x ok, m, patch-in (x .card) (start (x .speeds) s - 1) (stop (x .speeds) (suc s)) (card-at car (x .speeds) (set (x .holds) s g)) s (omega arith) (omega arith) (omega (arith, r .1, in-trace)))
+      rw (taken-asked car (Hold s g) x ok, m, of₃ (patch-in (x .card) (start (x .speeds) s - 1) (stop (x .speeds) (suc s)) (card-at car (x .speeds) (set (x .holds) s g)) s) (omega (arith, r .1, in-trace)))
       (card-mod car (x .speeds) (set (x .holds) s g) s m (rw k (omega arith)) ∙ k)
 
 -- a hold stays in force: where the mended second is held, it moves

@@ -1,6 +1,5 @@
 -- A moving second in its trip, and on the finished card of a trace that passes its checks: a held second shows its hold, and no gear turns the
 -- engine past nmax.
--- Assumes nothing.
 use Rattle.rules.proofs.Base.{ℕ, suc, _+_, _-_, _≤_, _<_, _%_, mod-eq-of-lt, add-mod-right, arith, _≡_, _∙_, _≢_, true, not, none, List, eqb, length, replicate, length-take, length-drop, length-replicate, eqb-false, not-false, ne-eqb, eq-eqb, lt-ltb, le-ltb, Vehicle}
 use Rattle.rules.specs.Inside.{InBounds, Fit}
 use Rattle.rules.specs.Words.{if_then_else_, at, part, pass}
@@ -9,7 +8,7 @@ use Rattle.rules.specs.Gears.{under-nmax, choose}
 use Rattle.rules.specs.Corrections.{here, first-choice, firsts, trip-speeds, trip-holds, first-at, gear-at, clutch, byte, card-at, role-of}
 use Rattle.rules.specs.Refusals.{over-ng, over-rev, no-gear, bad, span-fault}
 use Rattle.rules.specs.Vocabulary.{role-at}
-use Rattle.rules.proofs.Laws.Words.{if-ind, and-fails, at-part, length-part, by-order, pass-done}
+use Rattle.rules.proofs.Laws.Words.{if-ind, and-fails, at-part, length-part, by-order, pass-done, of₃}
 use Rattle.rules.proofs.Laws.Trips.{trip-of, stop-in, trip-start, trip-stop}
 use Rattle.rules.proofs.Laws.Held.{first-is, held-gear}
 use Rattle.rules.proofs.Laws.Limits.{InRange, of-under, under-of, first-in, gears-in}
@@ -78,7 +77,7 @@ module _ (car : Vehicle) (vs hs : List ℕ) (n : length hs ≡ length vs) (i : �
         trip-start vs (t .0) (i - 1) (omega arith) (omega arith),
         trip-stop vs (t .0) (i - 1) (omega arith) (omega arith),
         y,
-        pass-done f zs (i - a) (length (part hs a b)) (i - a - 1) (omega arith) (omega (arith, k)) (omega (arith, z, k)),
+        of₃ (pass-done f zs (i - a) (length (part hs a b)) (i - a - 1)) (omega (arith, k, z)),
       ))
       (λ h. rw (eq-eqb (i - a) 0 (omega arith), eq-eqb i a (omega arith)))
 

@@ -1,5 +1,4 @@
 -- Checks in a row: what it says that none refuses, and when the checks of a window find what those of the whole find.
--- Assumes nothing.
 use Rattle.rules.proofs.Base.{ℕ, zero, suc, _-_, _≤_, _<_, not-suc-le-zero, le-of-suc-le-suc, arith, _≡_, refl, sym, ap, _∙_, _≢_, Bool, false, not, Option, none, some, List, [], _∷_, _++_, ltb, lit<, ltb-false, lt-ltb, le-ltb, ltb-true, eqb-true, not-false, length, getD, Vehicle, Edit}
 use Rattle.rules.specs.Inside.{InBounds, gear-fault}
 use Rattle.rules.specs.Words.{_and_, first}

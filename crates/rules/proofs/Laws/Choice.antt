@@ -1,5 +1,4 @@
 -- The first choice, said plainly: what gear `choose` gives, without the search and the comparison by which it is found.
--- Assumes nothing.
 use Rattle.rules.proofs.Base.{ℕ, _≤_, arith, _≡_, sym, _∙_, _≢_, Bool, true, false, eqb, ℤ, eqb-true, eqb-false, eq-eqb, ne-eqb, Vehicle, Role}
 use Rattle.rules.specs.Inside.{InBounds}
 use Rattle.rules.specs.Words.{_and_, highest}

@@ -1,5 +1,4 @@
 -- Request Nine: an edit brings the summary up to date from the seconds that it re-works, and each second of a right card is counted once.
--- Assumes nothing.
 use Rattle.rules.proofs.Base.{ℕ, zero, suc, _+_, _-_, _≤_, _<_, _%_, zero-add, arith, _≡_, refl, sym, ap, _∙_, inl, inr, true, false, none, List, [], _∷_, eqb, length, eq-eqb, ne-eqb, eqb-true, eqb-false, Vehicle, Summary, Edit, Hold, Release, Mend}
 use Rattle.rules.specs.Words.{_and_, at, part, table, patch}
 use Rattle.rules.specs.Units.{low, moving, start, stop, longest}
@@ -195,4 +194,4 @@ gears-shown car vs hs old A i l m =
     let r = gear-in-range car vs hs n i m C F in
     let c : at (card car vs hs) i ≡ card-at car vs hs i = at-table (card-at car vs hs) 0 (length vs) i l ∙ rw zero-add in
     let e : at (card car vs hs) i % 16 ≡ gear-at car vs hs i = ap (λ (b : ℕ). b % 16) c ∙ byte-gear car vs hs n i m C F in
-    rw e (omega (arith, r .0, floor-low car C (at vs i)), omega (arith, r .1, C .ng-to))
+    rw e (omega (arith, r .0, floor-low car C (at vs i), r .1, C .ng-to))

@@ -1,5 +1,4 @@
 -- One edit of the screen: where its span lies; against the whole working; what it leaves alone; and a right card stays right under edits one after the other.
--- Assumes nothing.
 use Rattle.rules.proofs.Base.{ℕ, suc, _-_, _≤_, _<_, arith, _≡_, refl, sym, ap, _∙_, _≢_, inl, inr, true, false, Option, none, some, List, [], _∷_, length, length-set, getD-set-other, eq-eqb, Vehicle, Edit, Hold, Release, Mend}
 use Rattle.rules.specs.Words.{_and_, _or_, at, patch}
 use Rattle.rules.specs.Units.{moving, start, stop}

@@ -1,5 +1,4 @@
 -- Forms: one law, which each way of putting forms together keeps, so the law of a composed form is found by `search sounds`.
--- Assumes nothing.
 use Rattle.rules.proofs.Base.{ℕ, zero, suc, _+_, _-_, _≤_, arith, _≡_, refl, sym, ap, _∙_, Bool, true, false, not, List, [], _∷_, _++_, append-nil, append-assoc, length, take, drop, length-append, length-drop, take-append-drop, drop-append-seam, drop-length, drop-drop, length-take-le, eqb, leb, ltb, eqb-true, eq-eqb, ltb-true, leb-true}
 use Prim.{tt}
 use Rattle.rules.specs.Words.{at}

@@ -1,11 +1,10 @@
 -- Holds: the list in the job and the places of the trace are one thing, so their form keeps the law.
--- Assumes nothing.
 use Rattle.rules.proofs.Base.{ℕ, zero, suc, _+_, _-_, _≤_, _<_, arith, _≡_, refl, sym, ap, _∙_, List, [], _∷_, length, set, replicate, length-set, length-replicate, eqb, leb-true, ltb-true, eqb-true, eqb-false, ne-eqb, le-leb, lt-ltb}
 use Prim.{tt}
 use Rattle.rules.specs.Words.{within}
 use Rattle.rules.specs.Forms.{value, checked, _then_, seen, row, RowTakes, counted}
 use Rattle.rules.specs.Job.{hold, put, gather, holds}
-use Rattle.rules.proofs.Laws.Words.{by-test, by-order, and-left, and-right, both}
+use Rattle.rules.proofs.Laws.Words.{by-test, by-order, and-left, and-right, both, of₃}
 use Rattle.rules.proofs.Laws.Forms.{Sound, value-sound, checked-sound, then-sound, seen-sound, row-sound, counted-sound}
 use Rattle.rules.proofs.Laws.Takes.{All}
 
@@ -139,7 +138,7 @@ put-gather count s (g ∷ gs) b c t =
 pub holds-take : (count : ℕ) (gs : List ℕ) → length gs ≡ count → count ≤ 65535 → All (λ g. g ≤ 255) gs → holds count .Takes gs
 unfolding holds counted row seen _then_ value
 holds-take count gs e c t = (
-  ((omega (arith, gather-few 0 gs), (gather-rises count 0 0 gs (omega arith) (omega arith) (omega arith) t, refl)), refl),
+  ((omega (arith, gather-few 0 gs), (of₃ (gather-rises count 0 0 gs) (omega arith) t, refl)), refl),
   rw (← from-first (gather 0 gs) (replicate count 0), ← e) (put-gather count 0 gs (omega arith) (omega arith) t),
 )
 

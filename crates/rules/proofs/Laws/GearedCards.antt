@@ -1,5 +1,4 @@
 -- Two vehicles whose gears turn the engine alike, those of one d higher: the same refusals, and each byte of the card d higher.
--- Assumes nothing.
 use Rattle.rules.proofs.Base.{ℕ, suc, _+_, _-_, _*_, _≤_, arith, _≡_, refl, sym, ap, _∙_, _≢_, Bool, true, false, Option, none, some, List, [], _∷_, ltb, eqb, pos, leZ, length, lt-ltb, le-ltb, eqb-true, eqb-false, Vehicle}
 use Rattle.rules.specs.Words.{_and_, _or_, at, part, first, highest}
 use Rattle.rules.specs.Units.{low, moving, rise, start, stop}

@@ -1,5 +1,4 @@
 -- Two vehicles whose gears turn the engine alike, those of one d higher: in a trip every gear is d higher, after each pass.
--- Assumes nothing.
 use Rattle.rules.proofs.Base.{ℕ, zero, suc, _+_, _-_, _≤_, _<_, max, min, add-zero, arith, _≡_, refl, sym, ap, _∙_, Bool, List, [], _∷_, map, leb, eqb, length, set, take, drop, replicate, length-set, getD-set-same, getD-set-other, le-ltb, eqb-true, eqb-false, ne-eqb, Vehicle}
 use Rattle.rules.specs.Words.{_and_, at, part, pass, table}
 use Rattle.rules.specs.Units.{low, rise}

@@ -1,12 +1,11 @@
 -- Groups: each value 0 to 65,535 has exactly one form that is accepted, its shortest, and reading that form gives the value and the place after it.
--- Assumes nothing.
 use Rattle.rules.proofs.Base.{ℕ, zero, suc, _+_, _-_, _*_, _/_, _%_, _≤_, _<_, arith, _≡_, sym, _∙_, List, [], _∷_, _++_, length, length-append, drop-cons, getD-append-seam, getD-append-add, drop-append-seam, take-append-seam, lt-ltb, le-ltb, leb-true, eqb-false, not-true}
 use Rattle.rules.specs.Words.{at, part}
 use Rattle.rules.specs.Refusals.{Fault}
 use Rattle.rules.specs.Groups.{Read, got, refused, early, group-if, group, form}
 use Rattle.rules.specs.Vocabulary.{Bytes, OneForm}
 use Rattle.rules.proofs.Laws.Reading.{two-of, three-of, good, ends-first, one, ends-second, two, two-bad, ends-third, three-if, three}
-use Rattle.rules.proofs.Laws.Words.{by-test, by-order, and-left, and-right}
+use Rattle.rules.proofs.Laws.Words.{by-test, by-order, and-left, and-right, of₅, of₈}
 
 -- ---- the form of a value
 
@@ -40,10 +39,10 @@ bytes-more (b ∷ l) m x y = byte-more (x .each 0) (bytes-more l m (record { eac
 pub form-size : (n : ℕ) → (1 ≤ length (form n)) × (length (form n) ≤ 3)
 form-size n =
     by-order n 128
-    (λ s. rw (form-one n s) (omega arith, omega arith))
+    (λ s. rw (form-one n s) (omega arith))
     (λ s. by-order n 16384
-    (λ t. rw (form-two n s t) (omega arith, omega arith))
-    (λ t. rw (form-three n t) (omega arith, omega arith)))
+    (λ t. rw (form-two n s t) (omega arith))
+    (λ t. rw (form-three n t) (omega arith)))
 
 pub form-bytes : (n : ℕ) → n ≤ 65535 → Bytes (form n)
 form-bytes n h =
@@ -71,7 +70,7 @@ module _ (before : List ℕ) (n : ℕ) (after : List ℕ) where
       let a : at job (length before) ≡ 128 + n % 128 = getD-append-seam before _ _ 0 in
       let b : at job (length before + 1) ≡ n / 128 = getD-append-add before form 1 0 in
       let v : two-of job (length before) ≡ n = rw (a, b) (omega arith) in
-      rw v at (two job (length before) (omega arith) (omega arith) (omega arith) (omega arith) (omega arith))
+      rw v at (of₅ (two job (length before)) (omega arith))
 
   reads-three : 16384 ≤ n → n ≤ 65535
       → group (before ++ (128 + n % 128) ∷ (128 + n / 128 % 128) ∷ n / 16384 ∷ after) (length before) ≡ got n (length before + 3)
@@ -83,7 +82,7 @@ module _ (before : List ℕ) (n : ℕ) (after : List ℕ) where
       let b : at job (length before + 1) ≡ 128 + n / 128 % 128 = getD-append-add before form 1 0 in
       let c : at job (length before + 2) ≡ n / 16384 = getD-append-add before form 2 0 in
       let v : three-of job (length before) ≡ n = rw (a, b, c) (omega arith) in
-      rw v at (three job (length before) (omega arith) (omega arith) (omega arith) (omega arith) (omega arith) (omega arith) (omega arith) (omega arith))
+      rw v at (of₈ (three job (length before)) (omega arith))
 
   pub reads-form : n ≤ 65535 → group (before ++ (form n ++ after)) (length before) ≡ got n (length before + length (form n))
   reads-form h =

@@ -1,5 +1,4 @@
 -- The gears of one trip: how long the lists are, what a first choice is, and that a held second keeps its hold through every pass.
--- Assumes nothing.
 use Rattle.rules.proofs.Base.{ℕ, _<_, _≡_, refl, _∙_, _≢_, false, List, length, replicate, length-replicate, ne-eqb, Vehicle}
 use Rattle.rules.specs.Words.{_and_, at, pass}
 use Rattle.rules.specs.Corrections.{first-choice, free, is-peak, peak, too-high, rising, too-low, slowing, firsts, after-A, after-B, gears}

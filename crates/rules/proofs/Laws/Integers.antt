@@ -1,5 +1,4 @@
 -- Ring laws of ℤ that lib.IntN lacks, and the order of ℤ under a product with a positive number.
--- Assumes nothing.
 use Rattle.rules.proofs.Base.{ℕ, zero, suc, _+_, _*_, _-_, _≤_, _<_, not-suc-le-zero, suc-mul, add-suc, le-trans, lt-irrefl, lt-of-lt-of-le, le-of-mul-le-mul-right, mul-le-mul-right, arith, _≡_, refl, sym, ap, _∙_, subst, true, false, leb, leb·suc-suc, ℤ, pos, negsuc, negℤ, sucℤ, predℤ, ℤ-ind, _+ℤ_, _*ℤ_, _-ℤ_, +ℤ-one, -ℤ-one, +ℤ-assoc, +ℤ-comm, +ℤ-idl, +ℤ-idr, +ℤ-invr, *ℤ-comm, sucℤ-*ℤ, predℤ-*ℤ, sucℤ-+ℤ, predℤ-+ℤ, zero-*ℤ, negℤ-+ℤ, negℤ-sucℤ, negℤ-predℤ, negℤ-negℤ, leZ, ltZ, leb-true, leb-false, ltb-true, ltb-false, le-leb, le-ltb}
 use Rattle.rules.proofs.Laws.Words.{by-test}
 

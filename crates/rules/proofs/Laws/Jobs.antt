@@ -1,5 +1,4 @@
 -- The job's form keeps the law of forms; which jobs it takes.
--- Assumes nothing.
 use Rattle.rules.proofs.Base.{ℕ, _-_, _≤_, arith, _≡_, refl, sym, ap, _∙_, List, [], _∷_, _++_, map, leb-true, length, replicate, length-append, drop-of-length-le, take-append-seam, drop-cons, pos, -ℤ-+ℤ-cancel}
 use Rattle.rules.specs.Words.{at, table}
 use Rattle.rules.specs.Units.{longest}

@@ -1,6 +1,5 @@
 -- The limits of a gear: on a vehicle in bounds the gears whose engine speed is at most 1000 x nmax are those from the floor up to ng, every
 -- first choice is one of them, and each pass keeps it so.
--- Assumes nothing.
 use Rattle.rules.proofs.Base.{ℕ, zero, suc, _+_, _-_, _*_, _≤_, _<_, add-zero, le-refl, mul-le-mul-right, le-trans, arith, _≡_, refl, _≢_, _⊎_, inl, inr, true, false, Option, none, some, Option·getD, List, eqb, ℤ, length, leb-true, ltb-true, le-leb, eqb-true, Vehicle, Role}
 use Rattle.rules.specs.Inside.{InBounds}
 use Rattle.rules.specs.Words.{at, first, highest}
@@ -96,13 +95,13 @@ module _ (car : Vehicle) (C : InBounds car) where
     unfolding rising too-high
     rising-in j rs h =
         if-ind (InTrip j) (too-high car us hs j rs)
-        (λ t. let c : ceiling j rs < at rs j = ltb-true _ _ (and-right _ _ t) in (omega arith, omega arith)) (λ t. h)
+        (λ t. let c : ceiling j rs < at rs j = ltb-true _ _ (and-right _ _ t) in omega arith) (λ t. h)
 
     slowing-in : (j : ℕ) (rs : List ℕ) → InTrip j (at rs j) → InTrip j (slowing car us hs j rs)
     unfolding slowing too-low
     slowing-in j rs h =
         if-ind (InTrip j) (too-low car us hs j rs)
-        (λ t. let c : at rs j ≡ low car = eqb-true _ _ (and-right _ _ t) in (omega arith, omega (arith, C .low-ng))) (λ t. h)
+        (λ t. let c : at rs j ≡ low car = eqb-true _ _ (and-right _ _ t) in omega (arith, C .low-ng)) (λ t. h)
 
     -- the gears of a trip whose first choices are in range are in range
     pub gears-in : (j : ℕ) → j < length hs → InTrip j (at (firsts car us hs) j) → InTrip j (at (gears car us hs) j)

@@ -1,5 +1,4 @@
 -- Text: numbers in decimal, lines, and how long they are at most; and that the working looks at the lent card's length alone.
--- Assumes nothing.
 use Rattle.rules.proofs.Base.{ℕ, zero, suc, _+_, _*_, _/_, _%_, _≤_, _<_, arith, add-zero, _≡_, sym, ap, _∙_, List, [], _∷_, _++_, append-nil, append-assoc, length, length-append, leb, lt-ltb, le-ltb, Vehicle}
 use Rattle.rules.specs.Words.{at}
 use Rattle.rules.specs.Refusals.{room-fault, work-fault}

@@ -1,5 +1,4 @@
 -- A job is no longer than so many groups of three bytes; those, and one byte more, say all that is printed.
--- Assumes nothing.
 use Rattle.rules.proofs.Base.{ℕ, zero, suc, _+_, _-_, _*_, _≤_, _<_, arith, _≡_, true, false, List, length, take, leb, ltb, leb-true, ltb-true, le-leb, lt-leb, lt-ltb, Vehicle}
 use Rattle.rules.specs.Vocabulary.{most-groups, longest-job}
 use Rattle.rules.specs.Words.{_and_, within}

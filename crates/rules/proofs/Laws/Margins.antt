@@ -1,5 +1,4 @@
 -- A curve without margins of its own: power is then compared as in document 01, by full-load power and M alone.
--- Assumes nothing.
 use Rattle.rules.proofs.Base.{ℕ, suc, _-_, _<_, arith, _≡_, refl, sym, ap, _∙_, true, ℤ, pos, negℤ, _+ℤ_, _-ℤ_, _*ℤ_, +ℤ-idr, *ℤ-comm, ltZ, Vehicle, Role}
 use Rattle.rules.specs.Inside.{InBounds}
 use Rattle.rules.specs.Words.{at}

@@ -1,6 +1,5 @@
 -- The minimum speeds of a gear at the places of a trip: the one after the lowest gear is the highest. So a gear that is fast enough there is
 -- fast enough at every second, and a test of a whole trip need not know its first choices.
--- Assumes nothing.
 use Rattle.rules.proofs.Base.{ℕ, zero, suc, _-_, _*_, _≤_, le-refl, arith, _≡_, true, false, eqb, leb-true, le-leb, Vehicle, Role, First, Closing, AfterLow, Inner}
 use Rattle.rules.specs.Words.{_or_}
 use Rattle.rules.specs.Units.{low}

@@ -1,5 +1,4 @@
 -- Request Four: the required power with speed taken out as a factor as often as it goes.
--- Assumes nothing.
 use Rattle.rules.proofs.Base.{ℕ, _≤_, _≡_, refl, sym, ap, _∙_, ℤ, pos, natAbs, _+ℤ_, _*ℤ_, +ℤ-assoc, +ℤ-comm, *ℤ-comm, Vehicle}
 use Rattle.rules.specs.Inside.{InBounds}
 use Rattle.rules.specs.Units.{fastest, steepest}

@@ -1,5 +1,4 @@
 -- How far a form reads: another law, which each way of putting forms together keeps; so a job's first bytes say all that is said of it.
--- Assumes nothing.
 use Rattle.rules.proofs.Base.{ℕ, zero, suc, _+_, _*_, _%_, _≤_, _<_, suc-mul, mul-le-mul-right, arith, _≡_, refl, sym, Bool, true, false, not, List, length, take, length-take-le, getD-take, leb, ltb, eqb, lt-leb, ltb-true, eqb-false, not-true, ne-eqb}
 use Rattle.rules.specs.Words.{_and_, within, at}
 use Rattle.rules.specs.Refusals.{Fault}

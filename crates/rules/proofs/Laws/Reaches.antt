@@ -1,6 +1,5 @@
 -- What an edit of one second reaches, of its hold or of its speed: outside the second, the trips next to it and the one standing second before, no byte
 -- changes; and where the checks passed before, those of the span find what those of the whole find.
--- Assumes nothing.
 use Rattle.rules.proofs.Base.{ℕ, suc, _-_, _≤_, _<_, min, arith, _≡_, refl, _∙_, _≢_, inl, inr, true, false, List, length, set, length-set, getD-set-other, le-ltb, Vehicle, Edit, Hold, Release, Mend}
 use Rattle.rules.specs.Words.{_and_, at}
 use Rattle.rules.specs.Units.{moving, rise, start, stop}

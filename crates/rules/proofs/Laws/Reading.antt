@@ -1,5 +1,4 @@
 -- What the reader's definitions answer, one law for each way through them.
--- Assumes nothing.
 use Rattle.rules.proofs.Base.{ℕ, _+_, _*_, _%_, _≤_, _<_, arith, _≡_, _∙_, _≢_, Bool, not, List, length, ltb, leb, eqb, lt-ltb, le-ltb, le-leb, lt-leb, ne-eqb, ltb-true, leb-true, eqb-false, not-true}
 use Rattle.rules.specs.Words.{_and_, at}
 use Rattle.rules.specs.Groups.{got, refused, early, group-if, group}

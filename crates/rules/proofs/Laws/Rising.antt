@@ -1,6 +1,5 @@
 -- Request Twelve: what a card shows at a second whose byte is the definitions' and whose checks have passed. Its gear turns the engine at nmax or
 -- below; and where the speed rises, a free second's gear is at most one above the gear before, or no higher than its floor.
--- Assumes nothing.
 use Rattle.rules.proofs.Base.{ℕ, suc, _+_, _-_, _≤_, _<_, _%_, min, zero-add, arith, _≡_, sym, ap, _∙_, _⊎_, inl, inr, true, false, none, List, leb, ltb, eqb, length, lt-ltb, ltb-false, leb-true, eqb-true, eq-eqb, Vehicle, Edit}
 use Rattle.rules.specs.Inside.{InBounds, Fit}
 use Rattle.rules.specs.Words.{if_then_else_, _and_, at, pass}
@@ -10,7 +9,7 @@ use Rattle.rules.specs.Corrections.{floor, ceiling, free, too-high, risi
 use Rattle.rules.specs.Refusals.{span-fault}
 use Rattle.rules.specs.Edit.{Screen, second, asked-speeds, asked-holds, around, span, edit-fault, asked-screen, edited}
 use Rattle.rules.specs.Vocabulary.{AtMostNmax, Spares}
-use Rattle.rules.proofs.Laws.Words.{clash, by-order, if-ind, and-right, and-fails, both, pass-at, pass-done, pass-later, pass-holds, at-table, patch-in}
+use Rattle.rules.proofs.Laws.Words.{clash, by-order, if-ind, and-right, and-fails, both, pass-at, pass-done, pass-later, pass-holds, at-table, patch-in, of₃}
 use Rattle.rules.proofs.Laws.Held.{length-A, length-B}
 use Rattle.rules.proofs.Laws.Trips.{next-start, next-stop, trip-of, start-before, stop-to, moving-in}
 use Rattle.rules.proofs.Laws.Limits.{floor-low}
@@ -54,7 +53,7 @@ module _ (car : Vehicle) (us hs : List ℕ) (j : ℕ) (l : j < length hs) (p : 0
       let n : length (after-A car us hs) ≡ length hs = length-A car us hs in
       rw (
         pass-at (rising car us hs) (after-A car us hs) (length hs) j l (omega arith),
-        pass-done (rising car us hs) (after-A car us hs) (length hs) j (j - 1) (omega arith) (omega arith) (omega arith),
+        of₃ (pass-done (rising car us hs) (after-A car us hs) (length hs) j (j - 1)) (omega arith),
       ) rising-le
 
   -- pass C lowers no gear
@@ -90,7 +89,7 @@ module _ (vs : List ℕ) (k : ℕ) (m : moving (at vs k) ≡ true) (u : moving (
   same-holds hs = rw (next-start vs k m, next-stop vs k m u)
 
   in-trip-before : (0 < suc k - start vs (suc k)) × (suc k - start vs (suc k) - 1 ≡ k - start vs k)
-  in-trip-before = let e = next-start vs k m in let h = trip-of vs k m .1 in (omega arith, omega arith)
+  in-trip-before = let e = next-start vs k m in let h = trip-of vs k m .1 in omega arith
 
 -- the gear of a free second whose speed is above that before
 module _ (car : Vehicle) (vs hs : List ℕ) (n : length hs ≡ length vs) (k : ℕ) (m : moving (at vs k) ≡ true) (u : moving (at vs (suc k)) ≡ true) where

@@ -1,5 +1,4 @@
 -- Laws of the searches `first` and `highest`.
--- Assumes nothing.
 use Rattle.rules.proofs.Base.{ℕ, zero, suc, _+_, _-_, _≤_, _<_, suc-add, add-suc, zero-add, add-zero, le-of-suc-le-suc, arith, _≡_, refl, ap, _∙_, _≢_, _⊎_, inl, inr, Bool, true, false, Option, none, some}
 use Rattle.rules.specs.Words.{if_then_else_, at, first, highest}
 use Rattle.rules.proofs.Laws.Words.{by-test, by-eq}

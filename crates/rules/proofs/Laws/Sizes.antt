@@ -1,5 +1,4 @@
 -- "Every product stays inside a signed 64-bit number": the sums of the power comparison, written out, are below 2^63 at every step.
--- Assumes nothing.
 use Rattle.rules.proofs.Base.{ℕ, suc, _+_, _-_, _*_, _^_, _≤_, _<_, mul-le-mul, arith, _≡_, refl, T, ℤ, pos, natAbs, _-ℤ_, _*ℤ_, Vehicle}
 use Rattle.rules.specs.Inside.{InBounds}
 use Rattle.rules.specs.Words.{at}

@@ -1,5 +1,4 @@
 -- A span between standing seconds: its checks and its bytes look at its seconds and at no others; and so does each edit.
--- Assumes nothing.
 use Rattle.rules.proofs.Base.{ℕ, suc, _-_, _≤_, _<_, min, arith, _≡_, refl, sym, _∙_, true, false, List, leb, ltb, eqb, length, set, length-set, List·getD-eq-default, getD-set-other, getD-set-same, le-ltb, leb-true, ltb-true, eqb-true, eqb-false, Vehicle, Edit, Hold, Release, Mend}
 use Rattle.rules.specs.Words.{_and_, _or_, at, patch}
 use Rattle.rules.specs.Units.{moving, rise, start, stop}

@@ -1,5 +1,4 @@
 -- Counts: they add up over stretches, and a change within a stretch between standing seconds shows in that stretch alone.
--- Assumes nothing.
 use Rattle.rules.proofs.Base.{ℕ, zero, suc, _+_, _-_, _≤_, _<_, suc-add, add-suc, zero-add, add-zero, one-add, arith, _≡_, refl, sym, ap, _∙_, inl, inr, Bool, false, List, length, Summary}
 use Rattle.rules.specs.Words.{if_then_else_, _and_, at, part, table}
 use Rattle.rules.specs.Units.{moving}

@@ -1,5 +1,4 @@
 -- What forms take, told from plain facts.
--- Assumes nothing.
 use Rattle.rules.proofs.Base.{ℕ, _≤_, arith, _≡_, refl, Bool, true, false, List, [], _∷_, length, le-leb}
 use Prim.{Unit, tt}
 use Rattle.rules.specs.Words.{within}

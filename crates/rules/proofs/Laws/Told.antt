@@ -1,5 +1,4 @@
 -- Numbers of refusal: whatever the definitions refuse, they refuse by number and place of a row of the table, and no row has number 0.
--- Assumes nothing.
 use Rattle.rules.proofs.Base.{ℕ, arith, _≡_, refl, ap, _∙_, _≢_, Bool, true, false, Option, none, some, List, [], _∷_, Vehicle, Refusal, TraceLength, RoomLength, VehicleField, OutsideTrace, SpeedOver, StepOver, EndMoving, HoldNotDriven, HoldStanding, HoldOverRev, NoGear, JobEndsEarly, BadGroup, BadVersion, BadHold, BytesAfter, RoomShort, BadPart, BadKind, NotFinite, OutOfBounds, KindMissing, BadFactor, Answer, Done, Refused, Edit}
 use Rattle.rules.specs.Refusals.{Fault, fault, numbered, said, refuse-at, _orelse_, when, trace-fault, room-fault, vehicle-fault, Check, speed, step, ends, over-ng, at-rest, over-rev, no-gear, check-number, fault-of, seconds-fault, span-fault, work-fault}
 use Rattle.rules.specs.Edit.{Screen, asked-fault, edit-fault}

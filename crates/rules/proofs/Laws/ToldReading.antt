@@ -1,5 +1,4 @@
 -- Numbers of refusal: whatever the reader of a job refuses, it refuses by number and place of a row of the table.
--- Assumes nothing.
 use Rattle.rules.proofs.Base.{ℕ, zero, suc, _+_, refl, Bool, true, false, not, List, [], _∷_, length, leb, ltb, eqb, TraceLength, RoomLength, VehicleField, JobEndsEarly, BadGroup, BadVersion, BadHold, BytesAfter}
 use Prim.{tt}
 use Rattle.rules.specs.Words.{at}

@@ -1,5 +1,4 @@
 -- Where a trip lies: `start` and `stop` find the one unbroken run of moving seconds that a moving second lies in.
--- Assumes nothing.
 use Rattle.rules.proofs.Base.{ℕ, zero, suc, _+_, _-_, _≤_, _<_, add-zero, not-suc-le-zero, le-of-suc-le-suc, arith, _≡_, refl, sym, ap, _∙_, true, false, List, [], _∷_, length, drop, List·getD-eq-default, getD-drop}
 use Rattle.rules.specs.Words.{at}
 use Rattle.rules.specs.Units.{moving, start, run, stop}
@@ -92,7 +91,7 @@ module _ (vs : List ℕ) where
         let t = trip-of i (T .inside i p q) in
         let x = trip-le T (t .0) i p q (t .1) (t .2) in
         let y = trip-le (t .0) T i (t .1) (t .2) p q in
-        (omega arith, omega arith)
+        omega arith
 
     pub trip-start : start vs i ≡ a
     trip-start = one-trip .0

@@ -1,5 +1,4 @@
 -- A vehicle in bounds: what the thirteen tests say, as facts.
--- Assumes nothing.
 use Rattle.rules.proofs.Base.{ℕ, zero, suc, _+_, _-_, _≤_, _<_, not-suc-le-zero, le-of-suc-le-suc, arith, _≡_, refl, Bool, true, false, Option, none, some, List, [], _∷_, length, getD, leb, eqb, lit<, ℤ, pos, negsuc, negℤ, natAbs, leZ, leb-true, ltb-true, eqb-true, eq-eqb, ne-eqb, Vehicle}
 use Rattle.rules.specs.Inside.{InBounds}
 use Rattle.rules.specs.Words.{_and_, _or_, within, at, every}

@@ -1,5 +1,4 @@
 -- A search, and a test of every place, as a loop from left to right meets them: what is left, from here, is what was asked.
--- Assumes nothing.
 use Rattle.rules.proofs.Base.{ℕ, suc, _+_, _-_, _≤_, _<_, add-one, arith, _≡_, Bool, true, false, not, Option, none, some, eqb, ne-eqb}
 use Rattle.rules.specs.Words.{_and_, every, first, highest}
 use Rattle.rules.proofs.Laws.Words.{clash}

@@ -1,5 +1,4 @@
 -- Refused for want of a gear: refusal 10 of a trace that passes the other checks.
--- Assumes nothing.
 use Rattle.rules.proofs.Base.{ℕ, _-_, _≤_, sub-zero, le-trans, mul-le-mul-left, arith, _≡_, refl, sym, ap, _∙_, _↔_, true, false, Option, none, some, List, eqb, length, drop, leb-true, le-leb, eqb-true, eqb-false, eq-eqb, ne-eqb, not-true, Vehicle, Role, AfterLow}
 use Rattle.rules.specs.Inside.{InBounds, gear-fault}
 use Rattle.rules.specs.Words.{_and_, _or_, at, first}

@@ -1,6 +1,5 @@
 -- A window of seconds: where the checks passed before and say the same outside it, those of the window find what those of the whole find, and only
 -- bytes of the window are to be written.
--- Assumes nothing.
 use Rattle.rules.proofs.Base.{ℕ, _-_, _≤_, _<_, sub-zero, zero-add, arith, _≡_, refl, sym, _∙_, _⊎_, inl, inr, false, none, List, [], _∷_, lt-ltb, leb-false, ltb-false, length, Vehicle, leb, ltb}
 use Rattle.rules.specs.Words.{_and_, first, at, patch}
 use Rattle.rules.specs.Refusals.{refuse-at, Check, speed, step, ends, over-ng, at-rest, over-rev, no-gear, check-number, all-checks, bad, fault-of, span-fault, trace-fault, room-fault, work-fault}

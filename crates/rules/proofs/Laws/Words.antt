@@ -1,5 +1,4 @@
 -- Laws of tests, and of `pass`, `table`, `part` and `patch`.
--- Assumes nothing.
 use Rattle.rules.proofs.Base.{ℕ, zero, suc, _+_, _-_, _≤_, _<_, suc-add, add-suc, zero-add, add-zero, not-suc-le-zero, le-of-suc-le-suc, eq-or-lt-of-le, le-refl, arith, _≡_, refl, sym, ap, _∙_, inl, inr, Bool, true, false, true≢false, List, _∷_, _++_, length, take, drop, length-set, length-take, length-drop, List·getD-eq-default, leb, ltb, ltb-true, ltb-false, lt-ltb, le-ltb, le-leb, lt-leb, drop-cons, getD-set-same, getD-set-other, getD-take, getD-drop, ext-getD}
 use Rattle.rules.specs.Words.{if_then_else_, _and_, _or_, at, part, pass, table, patch}
 use Rattle.rules.specs.Vocabulary.{Out}
@@ -173,3 +172,17 @@ pub patch-none : (old : List ℕ) (lo : ℕ) (f : ℕ → ℕ) → patch old lo 
 unfolding patch
 patch-none old lo f =
     ext-getD 0 (patch old lo lo f) old (length-table _ 0 (length old)) (λ i h. patch-out old lo lo f i (by-order i lo inl inr))
+
+-- ---- a law of so many facts, which one call of omega finds together
+
+pub of₃ : {A B C D : Type 0} → (A → B → C → D) → A × B × C → D
+of₃ f h = f (h .0) (h .1) (h .2)
+
+pub of₄ : {A B C D E : Type 0} → (A → B → C → D → E) → A × B × C × D → E
+of₄ f h = f (h .0) (h .1) (h .2) (h .3)
+
+pub of₅ : {A B C D E F : Type 0} → (A → B → C → D → E → F) → A × B × C × D × E → F
+of₅ f h = f (h .0) (h .1) (h .2) (h .3) (h .4)
+
+pub of₈ : {A B C D E F G H I : Type 0} → (A → B → C → D → E → F → G → H → I) → A × B × C × D × E × F × G × H → I
+of₈ f h = f (h .0) (h .1) (h .2) (h .3) (h .4) (h .5) (h .6) (h .7)

@@ -1,5 +1,4 @@
 -- What is written reads back, and what is read is written as the same bytes.
--- Assumes nothing.
 use Rattle.rules.proofs.Base.{ℕ, zero, suc, _+_, _-_, _≤_, _<_, zero-add, arith, _≡_, refl, ap, _∙_, true, false, none, List, [], _∷_, map, length, drop, getD-drop, leb, ℤ, pos, negsuc, natAbs, _+ℤ_, _-ℤ_, +ℤ-negℤ-cancel, le-leb, le-ltb, ltb-false, not-false, Vehicle}
 use Prim.{Unit, tt}
 use Rattle.rules.specs.Inside.{InBounds}

@@ -1,5 +1,4 @@
 -- The checks and the card, with request Thirteen: want of a gear, holds kept, vans as cars.
--- Assumes nothing.
 use Rattle.rules.proofs.Base.{ℕ, _≤_, _<_, _%_, arith, _≡_, _∙_, _≢_, _↔_, true, none, some, List, map, length, Vehicle, Answer, AfterLow}
 use Rattle.rules.specs.Words.{at, pass}
 use Rattle.rules.specs.Units.{bad-field, low, moving}

@@ -1,5 +1,4 @@
 -- Trips, first choices and power, with requests Two, Four and Six.
--- Assumes nothing.
 use Rattle.rules.proofs.Base.{ℕ, suc, _-_, _*_, _≤_, _<_, arith, _≡_, _↔_, _⊎_, inl, inr, true, false, none, List, eqb, length, drop, ℤ, pos, natAbs, _*ℤ_, Vehicle, Role, AfterLow}
 use Rattle.rules.specs.Words.{if_then_else_, at}
 use Rattle.rules.specs.Units.{bad-field, fastest, steepest, moving, start, stop, rise}
@@ -30,7 +29,7 @@ same-first-and-last vs T i p q = (trip-start vs T i p q, trip-stop vs T i p q)
 
 -- two trips that share a second are one
 pub one-trip : (vs : List ℕ) {a b c d : ℕ} → IsTrip vs a b → IsTrip vs c d → (i : ℕ) → a ≤ i → i < b → c ≤ i → i < d → (a ≡ c) × (b ≡ d)
-one-trip vs T U i p q r s = let x = trip-le vs T U i p q r s in let y = trip-le vs U T i r s p q in (omega arith, omega arith)
+one-trip vs T U i p q r s = let x = trip-le vs T U i p q r s in let y = trip-le vs U T i r s p q in omega arith
 
 -- its neighbours are standing, or the trace ends
 pub neighbours : (vs : List ℕ) (i : ℕ) → moving (at vs i) ≡ true

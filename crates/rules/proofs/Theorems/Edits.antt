@@ -1,5 +1,4 @@
 -- One hold, the quick way, with requests Seven, Eight, Nine and Twelve: an edit of the screen, and edits one after the other.
--- Assumes nothing.
 use Rattle.rules.proofs.Base.{ℕ, suc, _-_, _≤_, _<_, _%_, min, _≡_, refl, sym, ap, _∙_, _≢_, inl, inr, true, false, none, some, List, eqb, length, set, set-getD, eqb-true, Vehicle, Edit, Hold, Release, Mend}
 use Rattle.rules.specs.Words.{if_then_else_, _or_, at, part}
 use Rattle.rules.specs.Units.{moving, start, stop}

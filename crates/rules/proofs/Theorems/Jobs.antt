@@ -1,5 +1,4 @@
 -- The job file and the card program, with requests One and Ten.
--- Assumes nothing.
 use Rattle.rules.proofs.Base.{ℕ, suc, _≤_, _<_, _≡_, refl, none, List, _++_, length, take, drop, Vehicle}
 use Rattle.rules.specs.Units.{longest}
 use Rattle.rules.specs.Job.{Job, filled, job-read, version, vehicle}

@@ -1,7 +1,6 @@
 -- Document 01: "Every product stays inside a signed 64-bit number". Beside the sums of the power comparison and of the required power (`enough-in-64-bits`,
 -- `most-in-64-bits`, `bench-in-64-bits`) and X and 1000 x idle (`speeds-in-64-bits`), these are all that the rules of a second form: the limits of the
 -- engine speed, the minimum speeds before they are rounded, the points of the curve, D and the step from the second before.
--- Assumes nothing.
 use Rattle.rules.proofs.Base.{ℕ, zero, suc, _+_, _-_, _*_, _/_, _≤_, _<_, arith, _≡_, refl, none, pos, _-ℤ_, Vehicle, Role, First, Closing, AfterLow, Inner}
 use Rattle.rules.specs.Inside.{InBounds}
 use Rattle.rules.specs.Words.{at}

@@ -1,7 +1,6 @@
 -- Request Ten: "Old jobs read unchanged, and jobs written before are the same bytes". The definitions that speak of the longest trace, once more for any
 -- longest trace: with `longest` they are the definitions themselves, with 2,048 those before the request. Of at most 2,048 seconds both say the same, and of
 -- more those before refuse by 1.
--- Assumes nothing.
 use Rattle.rules.proofs.Base.{ℕ, _≤_, _<_, arith, _≡_, refl, ap, true, not, Option, some, List, length, leb, ltb, eqb, le-leb, lt-leb, Vehicle, Edit}
 use Rattle.rules.specs.Words.{_and_, within}
 use Rattle.rules.specs.Units.{longest, newest, bounds, first-failed}

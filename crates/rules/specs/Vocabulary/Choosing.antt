@@ -1,18 +1,7 @@
 -- Words of the theorems on trips, first choices, power, want of a gear and the two profiles.
--- Assumes nothing.
-use Prim.Native.Nat.{ℕ, suc, _+_, _-_, _*_, _≤_, _<_}
-use mathlib.Core.Path.{_≡_}
-use mathlib.Core.Logic.{_≢_}
-use mathlib.Core.Bool.{Bool, true, false}
-use mathlib.Core.Option.{none}
-use mathlib.Core.List.{List}
-use lib.ListN.{length, drop}
-use lib.Dec.{eqb}
-use lib.IntN.{ℤ, pos, _-ℤ_, _*ℤ_}
-use lib.Signed.{leZ}
+use Rattle.rules.specs.Words.{ℕ, suc, _+_, _-_, _*_, _≤_, _<_, _≡_, _≢_, Bool, true, false, none, List, length, drop, eqb, ℤ, pos, _-ℤ_, _*ℤ_, leZ, at, if_then_else_, highest}
 use Rattle.rules.specs.declared.Vehicle.{Vehicle}
 use Rattle.rules.specs.declared.Role.{Role}
-use Rattle.rules.specs.Words.{at, if_then_else_, highest}
 use Rattle.rules.specs.Units.{ratio-of, low, moving, start}
 use Rattle.rules.specs.Gears.{engine, minimum, fits, power, enough, more, suits, required, Power, between, segment, power-speed}
 use Rattle.rules.specs.Refusals.{trace-fault, room-fault, vehicle-fault, seconds-fault}

@@ -1,16 +1,7 @@
 -- Words of the theorems on finished cards, edits of the screen and the summary.
--- Assumes nothing.
-use Prim.Native.Nat.{ℕ, suc, _+_, _-_, _*_, _≤_, _<_, zero}
-use mathlib.Core.Path.{_≡_}
-use mathlib.Core.Logic.{_≢_, _⊎_}
-use mathlib.Core.Bool.{Bool, true, false}
-use mathlib.Core.Option.{none}
-use mathlib.Core.List.{List}
-use lib.ListN.{length}
-use lib.Dec.{eqb}
+use Rattle.rules.specs.Words.{ℕ, suc, _+_, _-_, _*_, _≤_, _<_, zero, _≡_, _≢_, _⊎_, Bool, true, false, none, List, length, eqb, at}
 use Rattle.rules.specs.declared.Vehicle.{Vehicle}
 use Rattle.rules.specs.declared.Summary.{Summary}
-use Rattle.rules.specs.Words.{at}
 use Rattle.rules.specs.Units.{most-gears, low, moving, start}
 use Rattle.rules.specs.Gears.{engine}
 use Rattle.rules.specs.Refusals.{work-fault}

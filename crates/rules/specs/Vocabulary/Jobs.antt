@@ -1,12 +1,6 @@
 -- Words of the theorems on the job file.
--- Assumes nothing.
-use Prim.Native.Nat.{ℕ, _+_, _*_, _<_}
-use mathlib.Core.Path.{_≡_}
-use mathlib.Core.Option.{Option}
-use mathlib.Core.List.{List, _++_}
-use lib.ListN.{length}
+use Rattle.rules.specs.Words.{ℕ, _+_, _*_, _<_, _≡_, Option, List, _++_, length, at}
 use Rattle.rules.specs.declared.Vehicle.{Vehicle}
-use Rattle.rules.specs.Words.{at}
 use Rattle.rules.specs.Units.{most-gears, most-points}
 use Rattle.rules.specs.Refusals.{Fault, _orelse_, trace-fault, room-fault, vehicle-fault, seconds-fault}
 use Rattle.rules.specs.Groups.{got, group, form}

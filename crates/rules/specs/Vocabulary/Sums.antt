@@ -1,10 +1,6 @@
 -- Words of the theorems on 64-bit numbers: the sums of the power comparison, written out.
--- Assumes nothing.
-use Prim.Native.Nat.{ℕ, suc, _^_, _<_}
-use mathlib.Core.Path.{_≡_}
-use lib.IntN.{ℤ, pos, natAbs, _+ℤ_, _-ℤ_, _*ℤ_}
+use Rattle.rules.specs.Words.{ℕ, suc, _^_, _<_, _≡_, ℤ, pos, natAbs, _+ℤ_, _-ℤ_, _*ℤ_, at}
 use Rattle.rules.specs.declared.Vehicle.{Vehicle}
-use Rattle.rules.specs.Words.{at}
 use Rattle.rules.specs.Units.{ratio-of}
 
 -- ---- every product stays inside a signed 64-bit number

@@ -1,6 +1,5 @@
 -- `runs::run_all` is safe and ends: a line begins where the one before ended.
--- Assumes nothing.
-use Rattle.rules.proofs.Base.{_≤_, _-_, length, needs}
+use Rattle.rules.proofs.Offered.{_≤_, _-_, length, needs}
 use Rattle.runs.proofs.run_all.Statement.{statement}
 use Rattle.runs.proofs.run_all.Tie as tie
 
@@ -12,7 +11,7 @@ abbrev μ-loop : tie.MeasureT-loop
 
 pub run-all-spec : {M : Type 1} → statement M
 run-all-spec =
-    tie.close
-    (tie.spec Inv-loop μ-loop (λ c. search needs) (λ c. search needs) (λ c. search needs) (λ c. search needs)
+    let answers = tie.spec Inv-loop μ-loop (λ c. search needs) (λ c. search needs) (λ c. search needs) (λ c. search needs)
     (λ c. search needs) (λ c. search needs) (λ c κs. search needs) (λ c. search needs) (λ c. search needs)
-    (λ c. search needs) (λ c. search needs) (λ c. search needs))
+    (λ c. search needs) (λ c. search needs) (λ c. search needs) in
+    tie.close answers

@@ -1,7 +1,5 @@
 -- `cards::rework::rework` meets its contract. The trip is worked in its own part of the card, then the second before it.
--- Assumes nothing.
-use Rattle.rules.proofs.Base.{ℕ, _+_, _-_, _%_, arith, _≡_, ap, _∙_, List, _++_, set, take, drop, needs, postOf, post-is}
-use Rattle.rules.specs.Words.{at}
+use Rattle.rules.proofs.Offered.{ℕ, _+_, _-_, _%_, arith, _≡_, ap, _∙_, List, _++_, set, take, drop, needs, postOf, post-is, at}
 use Rattle.cards.proofs.Reworking.{ready, geared, worked}
 use Rattle.cards.proofs.rework.rework.Statement.{statement}
 use Rattle.cards.proofs.rework.rework.Tie as tie
@@ -22,8 +20,8 @@ returns c = λ car L.
 
 pub rework-spec : {M : Type 1} → statement M
 rework-spec =
-    tie.close
-    (tie.spec (λ c. search needs) (λ c. search needs) (λ c. search needs) (λ c. search needs) (λ c. search needs)
+    let answers = tie.spec (λ c. search needs) (λ c. search needs) (λ c. search needs) (λ c. search needs) (λ c. search needs)
     (λ c. search needs) (λ c. search needs) (λ c. search needs) (λ c. search needs) (λ c. search needs)
     (λ c. search needs) work-trip-requires (λ c. search needs) (λ c. search needs) (λ c. search needs)
-    (λ c. search needs) (λ c. search needs) returns)
+    (λ c. search needs) (λ c. search needs) returns in
+    tie.close answers

@@ -1,13 +1,8 @@
 -- `cards::rework::stretch` meets its contract. A standing second alone, or with the trip that follows.
--- Assumes nothing.
-use Rattle.rules.proofs.Base.{_+_, _-_, arith, _≡_, sym, _∙_, needs}
-use Rattle.rules.specs.Units.{stop}
+use Rattle.rules.proofs.Offered.{_+_, _-_, arith, _≡_, sym, _∙_, needs, stop}
 use Rattle.cards.proofs.Reworking.{rests, follows, follows-fit}
 use Rattle.cards.proofs.rework.stretch.Statement.{statement}
 use Rattle.cards.proofs.rework.stretch.Tie as tie
-
-slice-write-card : tie.Need-slice-write-card
-slice-write-card c = let A = c .before .before .before .before .before .pre .1 .0 in omega (arith, A .in-trace, A .range .room)
 
 returns : tie.Need-returns
 returns c =
@@ -32,8 +27,8 @@ returns-2 c =
 
 pub stretch-spec : {M : Type 1} → statement M
 stretch-spec =
-    tie.close
-    (tie.spec
+    let answers = tie.spec
     (λ c. let A = c .before .before .before .pre .1 .0 in omega (arith, A .in-trace))
     (λ c κs. let A = c .before .before .before .pre .1 .0 in omega (arith, A .in-trace))
-    slice-write-card (λ c. search needs) returns rework-requires (λ c. search needs) returns-2)
+    (λ c. let A = c .before .before .before .before .before .pre .1 .0 in omega (arith, A .in-trace, A .range .room)) (λ c. search needs) returns rework-requires (λ c. search needs) returns-2 in
+    tie.close answers

@@ -1,6 +1,5 @@
 -- `cards::rework::sweep` meets its contract. The invariant: the card is right up to a standing second.
--- Assumes nothing.
-use Rattle.rules.proofs.Base.{_-_, arith, needs}
+use Rattle.rules.proofs.Offered.{_-_, arith, needs}
 use Rattle.rules.specs.declared.Vehicle.{Vehicle}
 use Rattle.gears.specs.Parts.{Lent}
 use Rattle.cards.proofs.Reworking.{Swept, swept-none, swept-at, swept-more, swept-less, swept-all}
@@ -23,13 +22,9 @@ loop-less c = rw (c .before .before .stretch .ensures .0) (swept-less (c .before
 loop-again : tie.Need-loop-again Inv-loop μ-loop
 loop-again c = λ car L. swept-more (c .before .before .before .before .before .before .before .before .before .before .pre .1) (c .before .before .before .before .before .before .loop .inv car L) (omega arith) (c .before .before .stretch .ensures .0) (c .before .before .stretch .ensures .1 car L)
 
-same-length : tie.Need-same-length Inv-loop μ-loop
-same-length c = let P = c .before .before .before .before .before .before .pre .0 in c .before .before .loop .inv (P .car) (P .lent) .same-room
-
-returns : tie.Need-returns Inv-loop μ-loop
-returns c = λ car L. swept-all (c .before .before .before .before .before .before .pre .1) (c .before .before .loop .inv car L) (omega arith)
-
 pub sweep-spec : {M : Type 1} → statement M
 sweep-spec =
-    tie.close
-    (tie.spec Inv-loop μ-loop (λ c. λ car L. swept-none (c .before .before .before .pre .1)) stretch-requires loop-less loop-again same-length returns)
+    let answers = tie.spec Inv-loop μ-loop (λ c. λ car L. swept-none (c .before .before .before .pre .1)) stretch-requires loop-less loop-again
+    (λ c. let P = c .before .before .before .before .before .before .pre .0 in c .before .before .loop .inv (P .car) (P .lent) .same-room)
+    (λ c. λ car L. swept-all (c .before .before .before .before .before .before .pre .1) (c .before .before .loop .inv car L) (omega arith)) in
+    tie.close answers

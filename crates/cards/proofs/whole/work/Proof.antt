@@ -1,8 +1,6 @@
 -- `cards::whole::work` meets its contract. One law for each stage says what is known from there on, one of `Working` for each return.
--- Assumes nothing.
-use Rattle.rules.proofs.Base.{ℕ, _≡_, refl, sym, List, length-replicate, arith, needs}
+use Rattle.rules.proofs.Offered.{ℕ, _≡_, refl, sym, List, length-replicate, arith, needs, said}
 use Rattle.rules.specs.declared.Vehicle.{Vehicle}
-use Rattle.rules.specs.Refusals.{said}
 use Rattle.gears.specs.Parts.{Counts, Lent}
 use Rattle.checks.proofs.Rows.{opening, Opened, opened, opening-of, spanned}
 use Rattle.cards.proofs.Working.{work-opening, no-edit, work-span, work-range, work-passes, work-done, whole-resting}
@@ -63,7 +61,7 @@ returns-3 c =
 
 pub work-spec : {M : Type 1} → statement M
 work-spec =
-    tie.close
-    (tie.spec (λ c κs. search needs) (λ c κs. search needs) (λ c. search needs) (λ c. search needs) returns
+    let answers = tie.spec (λ c κs. search needs) (λ c κs. search needs) (λ c. search needs) (λ c. search needs) returns
     (λ c κs. derates _ (opened-at (c .before .before .before .before) .bounds))
-    check-span-requires (λ c. search needs) (λ c. search needs) returns-2 sweep-requires (λ c. search needs) returns-3)
+    check-span-requires (λ c. search needs) (λ c. search needs) returns-2 sweep-requires (λ c. search needs) returns-3 in
+    tie.close answers

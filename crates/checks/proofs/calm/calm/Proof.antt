@@ -1,8 +1,5 @@
 -- `checks::calm::calm` meets its contract: what is found of the pieces and of the second that is asked for is enough.
--- Assumes nothing.
-use Rattle.rules.proofs.Base.{_+_, _≤_, arith, refl, not-false, needs}
-use Rattle.rules.specs.Units.{fastest, steepest}
-use Rattle.rules.proofs.Laws.Words.{clash}
+use Rattle.rules.proofs.Offered.{_+_, _≤_, arith, refl, not-false, needs, fastest, steepest, clash}
 use Rattle.checks.proofs.Pieces.{quiet-part, calm-apart, calm-with}
 use Rattle.checks.proofs.calm.calm.Statement.{statement}
 use Rattle.checks.proofs.calm.calm.Tie as tie
@@ -31,7 +28,7 @@ returns-7 c = λ e.
 
 pub calm-spec : {M : Type 1} → statement M
 calm-spec =
-    tie.close
-    (tie.spec (λ c. λ e. clash e refl) (λ c. λ e. clash e refl) (λ c κs. search needs) (λ c. λ e. clash e refl)
+    let answers = tie.spec (λ c. λ e. clash e refl) (λ c. λ e. clash e refl) (λ c κs. search needs) (λ c. λ e. clash e refl)
     (λ c κs. search needs) returns-4 (λ c κs. search needs) (λ c. λ e. clash e refl) (λ c. search needs)
-    (λ c κs. search needs) (λ c. λ e. clash e refl) (λ c κs. search needs) returns-7)
+    (λ c κs. search needs) (λ c. λ e. clash e refl) (λ c κs. search needs) returns-7 in
+    tie.close answers

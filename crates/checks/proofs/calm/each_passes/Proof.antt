@@ -1,8 +1,5 @@
 -- `checks::calm::each_passes` meets its contract: each held second so far passes.
--- Assumes nothing.
-use Rattle.rules.proofs.Base.{_-_, _≤_, arith, _≡_, refl, sym, _∙_, ⊎-elim, needs}
-use Rattle.rules.specs.Words.{at}
-use Rattle.rules.proofs.Laws.Words.{clash}
+use Rattle.rules.proofs.Offered.{_-_, _≤_, arith, _≡_, refl, sym, _∙_, ⊎-elim, needs, at, clash}
 use Rattle.checks.specs.Calm.{Each, HoldsPass}
 use Rattle.checks.proofs.Calmness.{each-none, each-more}
 use Rattle.checks.proofs.calm.each_passes.Statement.{statement}
@@ -35,5 +32,6 @@ loop-again c =
 
 pub each-passes-spec : {M : Type 1} → statement M
 each-passes-spec =
-    tie.close
-    (tie.spec Inv-loop μ-loop loop-holds (λ c. search needs) (λ c. search needs) (λ c. search needs) (λ c κs. search needs) (λ c. λ e. clash e refl) (λ c. search needs) (λ c. search needs) loop-again (λ c. λ e i a b. c .before .before .loop .inv .2 i a (omega arith)))
+    let answers = tie.spec Inv-loop μ-loop loop-holds (λ c. search needs) (λ c. search needs) (λ c. search needs) (λ c κs. search needs) (λ c. λ e. clash e refl) (λ c. search needs)
+    (λ c. search needs) loop-again (λ c. λ e i a b. c .before .before .loop .inv .2 i a (omega arith)) in
+    tie.close answers

@@ -1,7 +1,5 @@
 -- `checks::calm::holds_pass` meets its contract: where no second has a hold there is nothing to pass.
--- Assumes nothing.
-use Rattle.rules.proofs.Base.{arith, _≡_, needs}
-use Rattle.rules.specs.Words.{at}
+use Rattle.rules.proofs.Offered.{arith, _≡_, needs, at}
 use Rattle.checks.proofs.calm.holds_pass.Statement.{statement}
 use Rattle.checks.proofs.calm.holds_pass.Tie as tie
 
@@ -12,4 +10,4 @@ returns c = λ e i x y held.
     absurd (held n)
 
 pub holds-pass-spec : {M : Type 1} → statement M
-holds-pass-spec = tie.close (tie.spec (λ c κs. search needs) returns (λ c κs. search needs) (λ c. search needs))
+holds-pass-spec = let answers = tie.spec (λ c κs. search needs) returns (λ c κs. search needs) (λ c. search needs) in tie.close answers

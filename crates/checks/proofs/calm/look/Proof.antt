@@ -1,7 +1,5 @@
 -- `checks::calm::look` meets its contract: none of the seconds so far is faster, and none of the steps larger, than what is kept.
--- Assumes nothing.
-use Rattle.rules.proofs.Base.{_+_, _-_, _≤_, _<_, arith, needs}
-use Rattle.rules.specs.Words.{at}
+use Rattle.rules.proofs.Offered.{_+_, _-_, _≤_, _<_, arith, needs, at}
 use Rattle.checks.specs.Calm.{AtMost, Seen, gap-at}
 use Rattle.checks.proofs.Calmness.{each-none, most-more}
 use Rattle.checks.proofs.calm.look.Statement.{statement}
@@ -39,10 +37,10 @@ returns-2 c =
 
 pub look-spec : {M : Type 1} → statement M
 look-spec =
-    tie.close
-    (tie.spec Inv-loop μ-loop
+    let answers = tie.spec Inv-loop μ-loop
     (λ c. record { speeds = λ i a b. absurd (omega arith); steps = λ i a b. absurd (omega arith) })
     (λ c. search needs) (λ c. search needs) (λ c. search needs) loop-holds (λ c. search needs) (λ c. search needs)
     (λ c κs. search needs) (λ c. search needs) (λ c. search needs) (λ c. search needs) (λ c. search needs)
     (λ c. search needs) (λ c κs. search needs) (λ c κs. search needs) (λ c. search needs) (λ c. search needs) loop-again
-    returns-2)
+    returns-2 in
+    tie.close answers

@@ -1,7 +1,5 @@
 -- `checks::calm::most_held` meets its contract: none of the holds so far is above what is kept.
--- Assumes nothing.
-use Rattle.rules.proofs.Base.{_-_, _≤_, arith, needs}
-use Rattle.rules.specs.Words.{at}
+use Rattle.rules.proofs.Offered.{_-_, _≤_, arith, needs, at}
 use Rattle.checks.specs.Calm.{AtMost}
 use Rattle.checks.proofs.Calmness.{each-none, most-more}
 use Rattle.checks.proofs.calm.most_held.Statement.{statement}
@@ -13,9 +11,6 @@ Inv-loop holds span most₀ i₀ most i = (span .lo ≤ i) × AtMost (at holds) 
 abbrev μ-loop : tie.MeasureT-loop
 μ-loop holds span most₀ i₀ most i = span .hi - i
 
-loop-holds : tie.Need-loop-holds Inv-loop μ-loop
-loop-holds c = let a = c .before .args in (omega arith, each-none (λ j. at (a .holds .now) j ≤ 0) (a .span .lo))
-
 loop-again : tie.Need-loop-again Inv-loop μ-loop
 loop-again c =
     let a = c .before .before .before .before .before .before .args in
@@ -24,7 +19,7 @@ loop-again c =
 
 pub most-held-spec : {M : Type 1} → statement M
 most-held-spec =
-    tie.close
-    (tie.spec Inv-loop μ-loop loop-holds (λ c. search needs) (λ c κs. search needs) (λ c. search needs)
+    let answers = tie.spec Inv-loop μ-loop (λ c. let a = c .before .args in (omega arith, each-none (λ j. at (a .holds .now) j ≤ 0) (a .span .lo))) (λ c. search needs) (λ c κs. search needs) (λ c. search needs)
     (λ c. search needs) loop-again
-    (λ c. λ i a b. c .before .before .loop .inv .1 i a (omega arith)))
+    (λ c. λ i a b. c .before .before .loop .inv .1 i a (omega arith)) in
+    tie.close answers

@@ -1,7 +1,5 @@
 -- `checks::calm::own_passes` meets its contract: the second is judged, and then the step from it.
--- Assumes nothing.
-use Rattle.rules.proofs.Base.{arith, _≡_, refl, sym, _∙_, not-true, needs}
-use Rattle.rules.proofs.Laws.Words.{clash}
+use Rattle.rules.proofs.Offered.{arith, _≡_, refl, sym, _∙_, not-true, needs, clash}
 use Rattle.checks.proofs.calm.own_passes.Statement.{statement}
 use Rattle.checks.proofs.calm.own_passes.Tie as tie
 
@@ -16,4 +14,4 @@ returns-3 c = λ e.
     record { here = λ car H hs g. sym passes ∙ c .before .before .before .before .fault-at .ensures car H hs g; next = λ h car hs. sym (c .step-over .ensures car hs) ∙ not-true _ e }
 
 pub own-passes-spec : {M : Type 1} → statement M
-own-passes-spec = tie.close (tie.spec (λ c κs. search needs) (λ c. λ e. clash e refl) (λ c. search needs) returns-2 (λ c κs. search needs) returns-3)
+own-passes-spec = let answers = tie.spec (λ c κs. search needs) (λ c. λ e. clash e refl) (λ c. search needs) returns-2 (λ c κs. search needs) returns-3 in tie.close answers

@@ -1,8 +1,5 @@
 -- `checks::calm::stands` meets its contract: the two speeds that it reads are the first and the last of the span.
--- Assumes nothing.
-use Rattle.rules.proofs.Base.{arith, refl, sym, ap, _∙_, needs}
-use Rattle.rules.specs.Units.{moving}
-use Rattle.rules.proofs.Laws.Words.{clash}
+use Rattle.rules.proofs.Offered.{arith, refl, sym, ap, _∙_, needs, moving, clash}
 use Rattle.checks.proofs.Scans.{not-so}
 use Rattle.checks.proofs.calm.stands.Statement.{statement}
 use Rattle.checks.proofs.calm.stands.Tie as tie
@@ -15,4 +12,4 @@ returns-3 c = λ e. record {
 }
 
 pub stands-spec : {M : Type 1} → statement M
-stands-spec = tie.close (tie.spec (λ c. λ e. clash e refl) (λ c κs. search needs) (λ c κs. search needs) (λ c. λ e. clash e refl) (λ c. search needs) (λ c κs. search needs) (λ c κs. search needs) returns-3)
+stands-spec = let answers = tie.spec (λ c. λ e. clash e refl) (λ c κs. search needs) (λ c κs. search needs) (λ c. λ e. clash e refl) (λ c. search needs) (λ c κs. search needs) (λ c κs. search needs) returns-3 in tie.close answers

@@ -1,14 +1,8 @@
 -- `checks::opening::check_opening` meets its contract. One line for each return.
--- Assumes nothing.
-use Rattle.rules.specs.Units.{bad-field}
-use Rattle.rules.specs.Refusals.{vehicle-fault}
+use Rattle.rules.proofs.Offered.{bad-field, vehicle-fault, needs}
 use Rattle.checks.proofs.Rows.{opening-lengths, opening-vehicle}
-use borrow.Author.Needs.{needs}
 use Rattle.checks.proofs.opening.check_opening.Statement.{statement}
 use Rattle.checks.proofs.opening.check_opening.Tie as tie
-
-returns : tie.Need-returns
-returns c vs hs old l h o = opening-lengths vs hs old _ (c .before .before .check-lengths .ensures vs hs old l h o) (c .enum-told2 .given .1)
 
 returns-2 : tie.Need-returns-2
 unfolding vehicle-fault bad-field
@@ -19,5 +13,6 @@ returns-2 c vs hs old l h o =
 
 pub check-opening-spec : {M : Type 1} → statement M
 check-opening-spec =
-    tie.close
-    (tie.spec (λ c κs. search needs) (λ c. search needs) (λ c. search needs) returns (λ c κs. search needs) returns-2)
+    let answers = tie.spec (λ c κs. search needs) (λ c. search needs) (λ c. search needs)
+    (λ c vs hs old l h o. opening-lengths vs hs old _ (c .before .before .check-lengths .ensures vs hs old l h o) (c .enum-told2 .given .1)) (λ c κs. search needs) returns-2 in
+    tie.close answers

@@ -1,14 +1,9 @@
 -- `checks::row::check_span` meets its contract: a refusal of 4 to 9 ends the row, and where there is none 10 decides.
--- Assumes nothing.
-use Rattle.rules.proofs.Base.{sym, _∙_, needs}
-use Rattle.rules.proofs.Laws.Checks.{none-orelse, gears-last}
+use Rattle.rules.proofs.Offered.{sym, _∙_, needs, none-orelse, gears-last}
 use Rattle.checks.proofs.Pieces.{most-asked}
 use Rattle.checks.proofs.Rows.{said-first, said-none}
 use Rattle.checks.proofs.row.check_span.Statement.{statement}
 use Rattle.checks.proofs.row.check_span.Tie as tie
-
-returns : tie.Need-returns
-returns c = λ car L. said-first _ (c .before .before .check-seen .ensures car (L .has)) (c .enum-told2 .given .1) ∙ sym (gears-last car _ _ _ _)
 
 check-gears-requires : tie.Need-check-gears-requires
 check-gears-requires c κs =
@@ -30,4 +25,7 @@ returns-2 c =
     ∙ sym (gears-last car _ _ _ _)
 
 pub check-span-spec : {M : Type 1} → statement M
-check-span-spec = tie.close (tie.spec (λ c κs. search needs) (λ c κs. let s = c .before .before .before in (s .pre .1, s .pre .2, c .look .ensures)) (λ c. search needs) (λ c. search needs) returns (λ c κs. search needs) check-gears-requires returns-2)
+check-span-spec =
+    let answers = tie.spec (λ c κs. search needs) (λ c κs. let s = c .before .before .before in (s .pre .1, s .pre .2, c .look .ensures)) (λ c. search needs) (λ c. search needs)
+    (λ c. λ car L. said-first _ (c .before .before .check-seen .ensures car (L .has)) (c .enum-told2 .given .1) ∙ sym (gears-last car _ _ _ _)) (λ c κs. search needs) check-gears-requires returns-2 in
+    tie.close answers

@@ -1,8 +1,5 @@
 -- `checks::seconds::end_moving` meets its contract: its three tests are check 6.
--- Assumes nothing.
-use Rattle.rules.proofs.Base.{ℕ, _+_, arith, _≡_, ap, _∙_, Bool, length, set, needs}
-use Rattle.rules.specs.Words.{at}
-use Rattle.rules.specs.Units.{moving}
+use Rattle.rules.proofs.Offered.{ℕ, _+_, arith, _≡_, ap, _∙_, Bool, length, set, needs, at, moving}
 use Rattle.checks.specs.Asked.{speeds-with}
 use Rattle.checks.proofs.Through.{length-speeds}
 use Rattle.checks.proofs.Scans.{not-so, so}
@@ -39,4 +36,4 @@ returns-4 c = λ car hs lo.
     ends-between car vs hs lo (a .i) (so (said-here (c .before .before .before)) (c .before .before .if1 .left)) (λ z. omega arith) (λ z. omega arith)
 
 pub end-moving-spec : {M : Type 1} → statement M
-end-moving-spec = tie.close (tie.spec (λ c κs. search needs) (λ c κs. search needs) returns returns-2 (λ c. search needs) returns-3 returns-4)
+end-moving-spec = let answers = tie.spec (λ c κs. search needs) (λ c κs. search needs) returns returns-2 (λ c. search needs) returns-3 returns-4 in tie.close answers

@@ -1,6 +1,5 @@
 -- `checks::seconds::fault_at` meets its contract: 4, 5, 6, and then those that look at a hold.
--- Assumes nothing.
-use Rattle.rules.proofs.Base.{ℕ, _≡_, sym, _∙_, List, arith, needs}
+use Rattle.rules.proofs.Offered.{ℕ, _≡_, sym, _∙_, List, arith, needs}
 use Rattle.checks.specs.Asked.{speeds-with}
 use Rattle.checks.proofs.Tests.{free-good, too-fast, stepped, ended, onward}
 use Rattle.checks.proofs.seconds.fault_at.Statement.{statement}
@@ -9,9 +8,6 @@ use Rattle.checks.proofs.seconds.fault_at.Tie as tie
 -- the speeds with the sample
 abbrev speeds-of : tie.After-speed-at → List ℕ
 speeds-of c = let a = c .before .before .args in speeds-with (a .asked) (a .speeds .now)
-
-returns : tie.Need-returns
-returns c = λ car H hs h. let a = c .before .before .before .args in too-fast car (speeds-of (c .before)) hs (a .lo) (a .i) (omega arith)
 
 returns-2 : tie.Need-returns-2
 returns-2 c = λ car H hs h.
@@ -42,4 +38,7 @@ returns-5 c = λ car H hs h.
     (c .held-fault .ensures car H vs hs (a .lo) (a .i) (sym (c .before .before .before .before .before .before .before .speed-at .ensures)) h)
 
 pub fault-at-spec : {M : Type 1} → statement M
-fault-at-spec = tie.close (tie.spec (λ c κs. search needs) returns (λ c κs. search needs) returns-2 (λ c κs. search needs) returns-3 returns-4 (λ c κs. search needs) returns-5)
+fault-at-spec =
+    let answers = tie.spec (λ c κs. search needs) (λ c. λ car H hs h. let a = c .before .before .before .args in too-fast car (speeds-of (c .before)) hs (a .lo) (a .i) (omega arith))
+    (λ c κs. search needs) returns-2 (λ c κs. search needs) returns-3 returns-4 (λ c κs. search needs) returns-5 in
+    tie.close answers

@@ -1,17 +1,11 @@
 -- `checks::seconds::held_fault` meets its contract: 7, then 8, then 9; each return has its own law.
--- Assumes nothing.
-use Rattle.rules.proofs.Base.{arith, _≡_, sym, ap, _∙_, false, not-false, needs}
+use Rattle.rules.proofs.Offered.{arith, _≡_, sym, ap, _∙_, false, not-false, needs, moving, not-driven}
 use Rattle.rules.specs.declared.Vehicle.{Vehicle}
-use Rattle.rules.specs.Units.{moving}
-use Rattle.rules.specs.Refusals.{not-driven}
 use Rattle.gears.specs.Parts.{Has}
 use Rattle.checks.proofs.Scans.{not-so, so}
 use Rattle.checks.proofs.Tests.{held-over, held-standing, held-over-rev, held-good}
 use Rattle.checks.proofs.seconds.held_fault.Statement.{statement}
 use Rattle.checks.proofs.seconds.held_fault.Tie as tie
-
-returns : tie.Need-returns
-returns c = λ car H vs hs lo i e h. held-over H vs hs lo i h (sym (c .if1 .taken) ∙ c .before .not-driven .ensures .1 car (H .counts))
 
 -- where 7 passes
 driven : (c : tie.Else1) (car : Vehicle) → Has car (c .before .before .args .k) (c .before .before .args .ratio .now) → false ≡ not-driven car (c .before .before .args .held)
@@ -35,4 +29,7 @@ returns-4 c = λ car H vs hs lo i e h.
     held-good H vs hs lo i h (λ z. omega arith) (driven (c .before .before .before .before .before) car H) (ap moving e ∙ so (c .before .before .before .before .moving .ensures) (c .before .before .before .if2 .left)) (rw e (omega arith))
 
 pub held-fault-spec : {M : Type 1} → statement M
-held-fault-spec = tie.close (tie.spec (λ c κs. search needs) returns (λ c κs. search needs) returns-2 (λ c κs. search needs) engine-requires returns-3 returns-4)
+held-fault-spec =
+    let answers = tie.spec (λ c κs. search needs) (λ c. λ car H vs hs lo i e h. held-over H vs hs lo i h (sym (c .if1 .taken) ∙ c .before .not-driven .ensures .1 car (H .counts)))
+    (λ c κs. search needs) returns-2 (λ c κs. search needs) engine-requires returns-3 returns-4 in
+    tie.close answers

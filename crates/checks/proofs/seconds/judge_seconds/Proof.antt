@@ -1,8 +1,6 @@
 -- `checks::seconds::judge_seconds` meets its contract. The invariant: what is kept is what the seconds so far are refused by.
--- Assumes nothing.
-use Rattle.rules.proofs.Base.{ℕ, _-_, arith, _≡_, sym, _∙_, ⊎-elim, needs}
+use Rattle.rules.proofs.Offered.{ℕ, _-_, arith, _≡_, sym, _∙_, ⊎-elim, needs, checks, seconds-fault}
 use Rattle.rules.specs.declared.Vehicle.{Vehicle}
-use Rattle.rules.specs.Refusals.{checks, seconds-fault}
 use Rattle.gears.specs.Parts.{Has}
 use Rattle.gears.proofs.Parts.{built, built-has}
 use Rattle.checks.specs.Checks.{fault-no}
@@ -34,9 +32,9 @@ loop-again c =
     (λ w. no-lower _ _ table-rises (l .inv) one is-one is (omega arith) (omega arith) (omega arith) (omega arith))
     (c .if2 .came)
 
-returns : tie.Need-returns Inv-loop μ-loop
-unfolding seconds-fault
-returns c = λ car H. c .answer-of .ensures ∙ done _ _ (c .before .before .before .loop .inv) (omega arith) car H
-
 pub judge-seconds-spec : {M : Type 1} → statement M
-judge-seconds-spec = tie.close (tie.spec Inv-loop μ-loop (λ c. begin _ _ (omega arith)) (λ c κs. search needs) (λ c κs. search needs) (λ c. search needs) (λ c. search needs) loop-again (λ c κs. search needs) returns)
+unfolding seconds-fault
+judge-seconds-spec =
+    let answers = tie.spec Inv-loop μ-loop (λ c. begin _ _ (omega arith)) (λ c κs. search needs) (λ c κs. search needs) (λ c. search needs) (λ c. search needs) loop-again (λ c κs. search needs)
+    (λ c. λ car H. c .answer-of .ensures ∙ done _ _ (c .before .before .before .loop .inv) (omega arith) car H) in
+    tie.close answers

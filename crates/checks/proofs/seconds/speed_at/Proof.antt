@@ -1,6 +1,5 @@
 -- `checks::seconds::speed_at` meets its contract: `set` changes the asked place and no other.
--- Assumes nothing.
-use Rattle.rules.proofs.Base.{_≡_, sym, arith, getD-set-same, getD-set-other, needs}
+use Rattle.rules.proofs.Offered.{_≡_, sym, arith, getD-set-same, getD-set-other, needs}
 use Rattle.checks.proofs.seconds.speed_at.Statement.{statement}
 use Rattle.checks.proofs.seconds.speed_at.Tie as tie
 
@@ -16,4 +15,4 @@ returns-2 c =
     sym (getD-set-other (a .speeds .now) (a .asked .second) (a .i) (a .asked .speed) 0 (λ z. omega arith))
 
 pub speed-at-spec : {M : Type 1} → statement M
-speed-at-spec = tie.close (tie.spec returns (λ c. search needs) (λ c. search needs) returns-2)
+speed-at-spec = let answers = tie.spec returns (λ c. search needs) (λ c. search needs) returns-2 in tie.close answers

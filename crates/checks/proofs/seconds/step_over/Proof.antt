@@ -1,6 +1,5 @@
 -- `checks::seconds::step_over` meets its contract: the gap of two speeds is over 150 exactly where check 5 fails.
--- Assumes nothing.
-use Rattle.rules.proofs.Base.{ℕ, List, arith, needs}
+use Rattle.rules.proofs.Offered.{ℕ, List, arith, needs}
 use Rattle.checks.specs.Asked.{speeds-with}
 use Rattle.checks.proofs.Tests.{step-out, step-large, step-small}
 use Rattle.checks.proofs.seconds.step_over.Statement.{statement}
@@ -22,4 +21,4 @@ returns-3 c = λ car hs.
     step-small car (speeds-with (a .asked) (a .speeds .now)) hs (a .lo) (a .i) (omega arith) (omega arith)
 
 pub step-over-spec : {M : Type 1} → statement M
-step-over-spec = tie.close (tie.spec returns (λ c. search needs) (λ c κs. search needs) (λ c κs. search needs) (λ c κs. search needs) returns-2 returns-3)
+step-over-spec = let answers = tie.spec returns (λ c. search needs) (λ c κs. search needs) (λ c κs. search needs) (λ c κs. search needs) returns-2 returns-3 in tie.close answers

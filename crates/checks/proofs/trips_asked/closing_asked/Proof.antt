@@ -1,7 +1,5 @@
 -- `checks::trips_asked::closing_asked` meets its contract. The loop's invariant: every second from j on is in the closing run.
--- Assumes nothing.
-use Rattle.rules.proofs.Base.{suc, _+_, _-_, _≤_, _<_, arith, _≡_, length, needs}
-use Rattle.rules.specs.Words.{part}
+use Rattle.rules.proofs.Offered.{suc, _+_, _-_, _≤_, _<_, arith, _≡_, length, needs, part}
 use Rattle.trips.proofs.Closing.{Closing, run-more, run-stops, run-whole}
 use Rattle.checks.specs.Asked.{speeds-with}
 use Rattle.checks.proofs.Through.{length-speeds}
@@ -45,4 +43,7 @@ returns-2 c =
     run-whole (part (speeds-with (a .asked) (a .speeds .now)) (a .trip .lo) (suc (a .trip .hi))) (c .before .loop .inv .2) (omega arith)
 
 pub closing-asked-spec : {M : Type 1} → statement M
-closing-asked-spec = tie.close (tie.spec Inv-loop μ-loop (λ c. let A = c .before .before .pre in omega (arith, A .order)) loop-holds (λ c. search needs) (λ c κs. let l = c .before .loop in (omega (arith, l .inv .0), l .inv .1)) (λ c κs. let l = c .before .before .loop in (l .inv .0, l .inv .1)) returns (λ c. search needs) loop-again returns-2)
+closing-asked-spec =
+    let answers = tie.spec Inv-loop μ-loop (λ c. let A = c .before .before .pre in omega (arith, A .order)) loop-holds (λ c. search needs)
+    (λ c κs. let l = c .before .loop in (omega (arith, l .inv .0), l .inv .1)) (λ c κs. let l = c .before .before .loop in (l .inv .0, l .inv .1)) returns (λ c. search needs) loop-again returns-2 in
+    tie.close answers

@@ -1,7 +1,5 @@
 -- `checks::trips_asked::stop_asked` meets its contract. The invariant: the trip of `k` ends where that of `i` does.
--- Assumes nothing.
-use Rattle.rules.proofs.Base.{_-_, _≤_, length, arith, _≡_, refl, sym, ap, _∙_, needs}
-use Rattle.rules.specs.Units.{moving, stop}
+use Rattle.rules.proofs.Offered.{_-_, _≤_, length, arith, _≡_, refl, sym, ap, _∙_, needs, moving, stop}
 use Rattle.checks.specs.Asked.{speeds-with}
 use Rattle.checks.proofs.Through.{length-speeds}
 use Rattle.checks.proofs.Scans.{not-so, so, stop-here, stop-more, stop-end}
@@ -35,4 +33,4 @@ returns-2 c =
     stop-end vs (c .before .loop .k) (omega (arith, length-speeds (a .asked) (a .speeds .now))) ∙ sym (c .before .loop .inv .1)
 
 pub stop-asked-spec : {M : Type 1} → statement M
-stop-asked-spec = tie.close (tie.spec Inv-loop μ-loop (λ c. (omega arith, refl)) (λ c κs. search needs) (λ c κs. search needs) returns (λ c. search needs) (λ c. search needs) loop-again returns-2)
+stop-asked-spec = let answers = tie.spec Inv-loop μ-loop (λ c. (omega arith, refl)) (λ c κs. search needs) (λ c κs. search needs) returns (λ c. search needs) (λ c. search needs) loop-again returns-2 in tie.close answers

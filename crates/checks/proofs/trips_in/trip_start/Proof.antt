@@ -1,7 +1,5 @@
 -- `checks::trips_in::trip_start` meets its contract. The invariant: the trip of `k` begins where that of `i` does.
--- Assumes nothing.
-use Rattle.rules.proofs.Base.{_≤_, arith, _≡_, refl, sym, _∙_, needs}
-use Rattle.rules.specs.Units.{start}
+use Rattle.rules.proofs.Offered.{_≤_, arith, _≡_, refl, sym, _∙_, needs, start}
 use Rattle.checks.proofs.Scans.{not-so, so, start-zero, start-here, start-more}
 use Rattle.checks.proofs.trips_in.trip_start.Statement.{statement}
 use Rattle.checks.proofs.trips_in.trip_start.Tie as tie
@@ -24,8 +22,8 @@ loop-again c =
     let vs = c .before .before .before .before .before .before .args .speeds .now in
     (omega arith, l .inv .1 ∙ start-more vs (l .k) (omega arith) (so (c .before .moving .ensures) (c .if1 .left)))
 
-returns-2 : tie.Need-returns-2 Inv-loop μ-loop
-returns-2 c = start-zero (c .before .before .before .args .speeds .now) (c .before .loop .k) (omega arith) ∙ sym (c .before .loop .inv .1)
-
 pub trip-start-spec : {M : Type 1} → statement M
-trip-start-spec = tie.close (tie.spec Inv-loop μ-loop (λ c. (omega arith, refl)) (λ c. search needs) (λ c. search needs) (λ c. search needs) (λ c κs. search needs) returns (λ c. search needs) (λ c. search needs) loop-again returns-2)
+trip-start-spec =
+    let answers = tie.spec Inv-loop μ-loop (λ c. (omega arith, refl)) (λ c. search needs) (λ c. search needs) (λ c. search needs) (λ c κs. search needs) returns (λ c. search needs) (λ c. search needs)
+    loop-again (λ c. start-zero (c .before .before .before .args .speeds .now) (c .before .loop .k) (omega arith) ∙ sym (c .before .loop .inv .1)) in
+    tie.close answers

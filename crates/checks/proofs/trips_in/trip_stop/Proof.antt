@@ -1,7 +1,5 @@
 -- `checks::trips_in::trip_stop` meets its contract. The invariant: the trip of `k` ends where that of `i` does.
--- Assumes nothing.
-use Rattle.rules.proofs.Base.{_-_, _≤_, length, arith, _≡_, refl, sym, _∙_, needs}
-use Rattle.rules.specs.Units.{stop}
+use Rattle.rules.proofs.Offered.{_-_, _≤_, length, arith, _≡_, refl, sym, _∙_, needs, stop}
 use Rattle.checks.proofs.Scans.{not-so, so, stop-here, stop-more, stop-end}
 use Rattle.checks.proofs.trips_in.trip_stop.Statement.{statement}
 use Rattle.checks.proofs.trips_in.trip_stop.Tie as tie
@@ -24,8 +22,8 @@ loop-again c =
     let vs = c .before .before .before .before .before .before .args .speeds .now in
     (omega arith, l .inv .1 ∙ stop-more vs (l .k) (omega arith) (so (c .before .moving .ensures) (c .if1 .left)))
 
-returns-2 : tie.Need-returns-2 Inv-loop μ-loop
-returns-2 c = stop-end (c .before .before .before .args .speeds .now) (c .before .loop .k) (omega arith) ∙ sym (c .before .loop .inv .1)
-
 pub trip-stop-spec : {M : Type 1} → statement M
-trip-stop-spec = tie.close (tie.spec Inv-loop μ-loop (λ c. (omega arith, refl)) (λ c. search needs) (λ c. search needs) (λ c κs. search needs) returns (λ c. search needs) (λ c. search needs) loop-again returns-2)
+trip-stop-spec =
+    let answers = tie.spec Inv-loop μ-loop (λ c. (omega arith, refl)) (λ c. search needs) (λ c. search needs) (λ c κs. search needs) returns (λ c. search needs) (λ c. search needs) loop-again
+    (λ c. stop-end (c .before .before .before .args .speeds .now) (c .before .loop .k) (omega arith) ∙ sym (c .before .loop .inv .1)) in
+    tie.close answers

@@ -1,7 +1,5 @@
 -- `checks::want::check_gears` meets its contract: where no speed lies between two gears no second wants one, and the dry run judges the rest.
--- Assumes nothing.
-use Rattle.rules.proofs.Base.{_≤_, _≡_, sym, _∙_, arith, length, needs}
-use Rattle.rules.specs.Refusals.{said}
+use Rattle.rules.proofs.Offered.{_≤_, _≡_, sym, _∙_, arith, length, needs, said}
 use Rattle.checks.specs.Asked.{speeds-with, holds-with}
 use Rattle.checks.proofs.Through.{length-speeds, length-holds}
 use Rattle.checks.proofs.Wanting.{no-want}
@@ -33,4 +31,4 @@ judge-gears-requires c κs =
     (P, level (P .car) vs hs (a .span .lo) (a .span .hi) (sym (s .pre .4 (P .car) (P .lent .has))) (s .pre .3) (omega (arith, s .pre .1 .inside, n)) (s .pre .1 .rooms ∙ sym n))
 
 pub check-gears-spec : {M : Type 1} → statement M
-check-gears-spec = tie.close (tie.spec (λ c κs. search needs) returns judge-gears-requires (λ c. search needs))
+check-gears-spec = let answers = tie.spec (λ c κs. search needs) returns judge-gears-requires (λ c. search needs) in tie.close answers

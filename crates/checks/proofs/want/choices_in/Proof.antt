@@ -1,8 +1,5 @@
 -- `checks::want::choices_in` meets its contract: what is lent on is the part's own seconds, with the speed that follows.
--- Assumes nothing.
-use Rattle.rules.proofs.Base.{_+_, _<_, arith, _≡_, refl, sym, _∙_, length, needs}
-use Rattle.rules.specs.Words.{part}
-use Rattle.rules.proofs.Laws.Words.{length-part}
+use Rattle.rules.proofs.Offered.{_+_, _<_, arith, _≡_, refl, sym, _∙_, length, needs, part, length-part}
 use Rattle.checks.specs.Asked.{speeds-with, holds-with}
 use Rattle.checks.proofs.Through.{length-speeds, length-holds}
 use Rattle.checks.proofs.Way.{Piece, piece-one, piece-part, piece-paced, piece-choices}
@@ -63,12 +60,12 @@ returns-2 c = λ car L last j x y.
 
 pub choices-in-spec : {M : Type 1} → statement M
 choices-in-spec =
-    tie.close
-    (tie.spec (λ c. search needs) (λ c κs. search needs)
+    let answers = tie.spec (λ c. search needs) (λ c κs. search needs)
     (λ c κs. let h = inside (c .before .before .before .before .before) in omega arith)
     (λ c. search needs)
     (λ c κs. let h = inside (c .before .before .before .before .before .before) in omega arith)
     (λ c κs. search needs) (λ c. search needs) (λ c. search needs) first-choices-requires (λ c. search needs) returns
     (λ c. search needs) (λ c. search needs) (λ c. search needs) (λ c. search needs) (λ c. search needs)
     (λ c. let h = inside (c .before .before .before .before .before) in omega arith)
-    (λ c. search needs) (λ c. search needs) (λ c. search needs) first-choices-requires-2 (λ c. search needs) returns-2)
+    (λ c. search needs) (λ c. search needs) (λ c. search needs) first-choices-requires-2 (λ c. search needs) returns-2 in
+    tie.close answers

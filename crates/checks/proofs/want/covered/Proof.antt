@@ -1,10 +1,7 @@
 -- `checks::want::covered` meets its contract: each gear so far hands on to the next.
--- Assumes nothing.
-use Rattle.rules.proofs.Base.{_+_, _-_, _≤_, arith, _≡_, refl, _∙_, not-false, needs}
+use Rattle.rules.proofs.Offered.{_+_, _-_, _≤_, arith, _≡_, refl, _∙_, not-false, needs, minimum, clash}
 use Rattle.rules.specs.declared.Vehicle.{Vehicle}
 use Rattle.rules.specs.declared.Role.the-variants.{AfterLow}
-use Rattle.rules.specs.Gears.{minimum}
-use Rattle.rules.proofs.Laws.Words.{clash}
 use Rattle.gears.specs.Parts.{low-in, Counts}
 use Rattle.gears.proofs.Parts.{low-of}
 use Rattle.gears.proofs.Speeds.{same-minimum}
@@ -41,11 +38,11 @@ loop-again c =
 
 pub covered-spec : {M : Type 1} → statement M
 covered-spec =
-    tie.close
-    (tie.spec Inv-loop μ-loop (λ c. search needs) (λ c κs. search needs) (λ c. search needs)
+    let answers = tie.spec Inv-loop μ-loop (λ c. search needs) (λ c κs. search needs) (λ c. search needs)
     (λ c κs. record { from = omega (arith, c .lowest .ensures); rated-from = c .before .before .pre .rated-from })
     (λ c. search needs)
     (λ c κs. record { from = omega (arith, c .before .lowest .ensures); rated-from = c .before .before .before .pre .rated-from })
     loop-holds (λ c. search needs) (λ c. search needs) (λ c. search needs) (λ c. search needs) (λ c. search needs)
     (λ c κs. c .before .before .before .loop .inv .1) (λ c. λ e. clash e refl) (λ c. search needs) (λ c. search needs) loop-again
-    (λ c. λ e g a b. c .before .loop .inv .3 g a (omega arith)))
+    (λ c. λ e g a b. c .before .loop .inv .3 g a (omega arith)) in
+    tie.close answers

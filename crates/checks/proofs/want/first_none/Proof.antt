@@ -1,7 +1,5 @@
 -- `checks::want::first_none` meets its contract: each place so far has a gear.
--- Assumes nothing.
-use Rattle.rules.proofs.Base.{ℕ, _-_, _≤_, _<_, arith, _≡_, false, eqb, length, eq-eqb, ne-eqb, needs}
-use Rattle.rules.specs.Words.{at}
+use Rattle.rules.proofs.Offered.{ℕ, _-_, _≤_, _<_, arith, _≡_, false, eqb, length, eq-eqb, ne-eqb, needs, at}
 use Rattle.checks.specs.Calm.{Each}
 use Rattle.checks.proofs.Calmness.{each-none, each-more}
 use Rattle.checks.proofs.want.first_none.Statement.{statement}
@@ -31,7 +29,7 @@ returns-2 c =
 
 pub first-none-spec : {M : Type 1} → statement M
 first-none-spec =
-    tie.close
-    (tie.spec Inv-loop μ-loop
+    let answers = tie.spec Inv-loop μ-loop
     (λ c. (omega arith, each-none (λ i. eqb (at (c .args .gs .now) i) 0 ≡ false) 0))
-    (λ c. search needs) returns (λ c. search needs) (λ c. search needs) loop-again returns-2)
+    (λ c. search needs) returns (λ c. search needs) (λ c. search needs) loop-again returns-2 in
+    tie.close answers

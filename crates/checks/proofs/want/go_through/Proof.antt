@@ -1,6 +1,5 @@
 -- `checks::want::go_through` meets its contract: the first place without a gear is the first second without one.
--- Assumes nothing.
-use Rattle.rules.proofs.Base.{ℕ, arith, _≡_, List, length, needs}
+use Rattle.rules.proofs.Offered.{ℕ, arith, _≡_, List, length, needs}
 use Rattle.checks.proofs.Way.{went-through}
 use Rattle.checks.proofs.want.go_through.Statement.{statement}
 use Rattle.checks.proofs.want.go_through.Tie as tie
@@ -15,6 +14,6 @@ returns c = λ car L last.
 
 pub go-through-spec : {M : Type 1} → statement M
 go-through-spec =
-    tie.close
-    (tie.spec (λ c κs. search needs) (λ c κs. search needs) (λ c. search needs) (λ c. search needs) (λ c. search needs)
-    (λ c. search needs) returns)
+    let answers = tie.spec (λ c κs. search needs) (λ c κs. search needs) (λ c. search needs) (λ c. search needs) (λ c. search needs)
+    (λ c. search needs) returns in
+    tie.close answers

@@ -1,12 +1,7 @@
 -- `checks::want::judge_gears` meets its contract: what is left of the search, from second a on, is what was asked, and the second before a stands.
--- Assumes nothing.
-use Rattle.rules.proofs.Base.{_+_, _-_, _≤_, _<_, arith, _≡_, refl, sym, _∙_, false, needs}
+use Rattle.rules.proofs.Offered.{_+_, _-_, _≤_, _<_, arith, _≡_, refl, sym, _∙_, false, needs, at, first, moving, stop, said, no-gear, bad, stop-le, stop-after, Left, stops, again}
 use Rattle.rules.specs.declared.Vehicle.{Vehicle}
-use Rattle.rules.specs.Words.{at, first}
-use Rattle.rules.specs.Units.{moving, stop}
-use Rattle.rules.specs.Refusals.{said, no-gear, bad}
-use Rattle.rules.proofs.Laws.Trips.{stop-le, stop-after}
-use Rattle.rules.proofs.Laws.Walk.{Left, start, stops, ends, again}
+use Rattle.rules.proofs.Laws.Walk.{start, ends}
 use Rattle.gears.specs.Parts.{Lent}
 use Rattle.checks.specs.Asked.{speeds-with, holds-with}
 use Rattle.checks.proofs.Through.{length-speeds}
@@ -105,4 +100,4 @@ returns-2 c = λ car L.
     not-wanted car (speeds-with (a .asked) (a .speeds .now)) (holds-with (a .asked) (a .holds .now)) (a .span .lo) (a .span .hi) (ends (c .before .before .loop .inv .3 car L) (omega arith))
 
 pub judge-gears-spec : {M : Type 1} → statement M
-judge-gears-spec = tie.close (tie.spec Inv-loop μ-loop add-a loop-holds stop-asked-requires wanting-requires returns add-a-2 loop-less loop-again returns-2)
+judge-gears-spec = let answers = tie.spec Inv-loop μ-loop add-a loop-holds stop-asked-requires wanting-requires returns add-a-2 loop-less loop-again returns-2 in tie.close answers

@@ -1,7 +1,5 @@
 -- `checks::want::no_gap` meets its contract: each of its tests is one of the facts.
--- Assumes nothing.
-use Rattle.rules.proofs.Base.{arith, refl, needs}
-use Rattle.rules.proofs.Laws.Words.{clash}
+use Rattle.rules.proofs.Offered.{arith, refl, needs, clash}
 use Rattle.checks.proofs.want.no_gap.Statement.{statement}
 use Rattle.checks.proofs.want.no_gap.Tie as tie
 
@@ -14,4 +12,7 @@ returns-4 c = λ e.
     record { some = omega (arith, l); at-first = rw (← l) (omega arith); at-most = omega arith; covered = c .covered .ensures e }
 
 pub no-gap-spec : {M : Type 1} → statement M
-no-gap-spec = tie.close (tie.spec (λ c. search needs) (λ c κs. search needs) (λ c. λ e. clash e refl) (λ c κs. search needs) engine-requires (λ c. λ e. clash e refl) (λ c κs. search needs) (λ c. λ e. clash e refl) (λ c κs. search needs) returns-4)
+no-gap-spec =
+    let answers = tie.spec (λ c. search needs) (λ c κs. search needs) (λ c. λ e. clash e refl) (λ c κs. search needs) engine-requires (λ c. λ e. clash e refl) (λ c κs. search needs)
+    (λ c. λ e. clash e refl) (λ c κs. search needs) returns-4 in
+    tie.close answers

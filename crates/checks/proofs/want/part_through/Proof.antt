@@ -1,15 +1,12 @@
 -- `checks::want::part_through` meets its contract: the room that is lent is as long as the part.
--- Assumes nothing.
-use Rattle.rules.proofs.Base.{arith, refl, sym, length-take-le, needs}
+use Rattle.rules.proofs.Offered.{arith, refl, sym, length-take-le, needs}
 use Rattle.checks.proofs.Way.{room-lent, room-through}
 use Rattle.checks.proofs.want.part_through.Statement.{statement}
 use Rattle.checks.proofs.want.part_through.Tie as tie
 
-go-through-requires : tie.Need-go-through-requires
-go-through-requires c κs = let s = c .before .before .before .before in (s .pre .0, s .pre .1, room-lent (s .pre .2) _ refl)
-
-returns : tie.Need-returns
-returns c = λ car L last. room-through (c .before .before .before .before .before .before .pre .2) _ refl (c .before .go-through .ensures car L last)
-
 pub part-through-spec : {M : Type 1} → statement M
-part-through-spec = tie.close (tie.spec (λ c. search needs) (λ c. search needs) (λ c. sym (length-take-le _ _ (omega arith))) go-through-requires returns)
+part-through-spec =
+    let answers = tie.spec (λ c. search needs) (λ c. search needs) (λ c. sym (length-take-le _ _ (omega arith)))
+    (λ c κs. let s = c .before .before .before .before in (s .pre .0, s .pre .1, room-lent (s .pre .2) _ refl))
+    (λ c. λ car L last. room-through (c .before .before .before .before .before .before .pre .2) _ refl (c .before .go-through .ensures car L last)) in
+    tie.close answers

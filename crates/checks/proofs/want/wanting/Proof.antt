@@ -1,6 +1,5 @@
 -- `checks::want::wanting` meets its contract: each first choice before second i is a gear.
--- Assumes nothing.
-use Rattle.rules.proofs.Base.{_-_, _≤_, arith, sym, _∙_, needs}
+use Rattle.rules.proofs.Offered.{_-_, _≤_, arith, sym, _∙_, needs}
 use Rattle.rules.specs.declared.Vehicle.{Vehicle}
 use Rattle.gears.specs.Parts.{Lent}
 use Rattle.checks.specs.Asked.{speeds-with, holds-with}
@@ -48,9 +47,9 @@ returns-2 c = λ car L lo.
 
 pub wanting-spec : {M : Type 1} → statement M
 wanting-spec =
-    tie.close
-    (tie.spec Inv-loop μ-loop (λ c κs. c .before .before .pre .1)
+    let answers = tie.spec Inv-loop μ-loop (λ c κs. c .before .before .pre .1)
     (λ c. (omega arith, c .before .before .before .pre .1 .order, λ car L. dry-start))
     (λ c κs. search needs) part-through-requires returns
     (λ c. let to = c .before .before .before .part-end .ensures in omega (arith, to .some, to .to))
-    loop-again returns-2)
+    loop-again returns-2 in
+    tie.close answers

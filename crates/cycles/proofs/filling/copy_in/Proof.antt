@@ -1,6 +1,5 @@
 -- `cycles::filling::copy_in` meets its contract: the invariant is `Copied`.
--- Assumes nothing.
-use Rattle.rules.proofs.Base.{_≤_, _-_, length, refl, arith, needs}
+use Rattle.rules.proofs.Offered.{_≤_, _-_, length, refl, arith, needs}
 use Rattle.cycles.proofs.Copied.{Copied, begin, more, done}
 use Rattle.cycles.proofs.filling.copy_in.Statement.{statement}
 use Rattle.cycles.proofs.filling.copy_in.Tie as tie
@@ -13,10 +12,10 @@ abbrev μ-loop : tie.MeasureT-loop
 
 pub copy-in-spec : {M : Type 1} → statement M
 copy-in-spec =
-    tie.close
-    (tie.spec Inv-loop μ-loop (λ c. (omega arith, begin)) (λ c. search needs) (λ c. search needs) (λ c. search needs)
+    let answers = tie.spec Inv-loop μ-loop (λ c. (omega arith, begin)) (λ c. search needs) (λ c. search needs) (λ c. search needs)
     (λ c. omega (arith, c .before .before .loop .inv .1 .size))
     (λ c. search needs) (λ c. search needs)
     (λ c. (omega arith, more (c .before .before .loop .inv .1) (omega arith) (omega arith) _ refl))
     (λ c. c .before .loop .inv .1 .size)
-    (λ c. done (c .before .loop .inv .1) (omega arith)))
+    (λ c. done (c .before .loop .inv .1) (omega arith)) in
+    tie.close answers

@@ -1,6 +1,5 @@
 -- `cycles::filling::fill` meets its contract: refused, or the table is copied, which is the definition's cycle.
--- Assumes nothing.
-use Rattle.rules.proofs.Base.{_∙_, needs}
+use Rattle.rules.proofs.Offered.{_∙_, needs}
 use Rattle.cycles.specs.Cycle.{cycle, low, medium, high, extra-high}
 use Rattle.cycles.specs.Parts.{fill-room}
 use Rattle.cycles.proofs.FillingEnds.{passed, untouched, written}
@@ -18,6 +17,6 @@ returns-2 c =
 pub fill-spec : {M : Type 1} → statement M
 unfolding fill-room
 fill-spec =
-    tie.close
-    (tie.spec (λ c κs. search needs) (λ c. search needs) (λ c. search needs) (λ c. let said = c .before .before .check .ensures in (said, untouched said _ _ (c .enum-told2 .given .1))) (λ c. search needs)
-    (λ c κs. accepted-room _ _ (passed (c .before .before .before .before .check .ensures) (c .before .before .enum-told .given .1))) (λ c. search needs) returns-2)
+    let answers = tie.spec (λ c κs. search needs) (λ c. search needs) (λ c. search needs) (λ c. let said = c .before .before .check .ensures in (said, untouched said _ _ (c .enum-told2 .given .1))) (λ c. search needs)
+    (λ c κs. accepted-room _ _ (passed (c .before .before .before .before .check .ensures) (c .before .before .enum-told .given .1))) (λ c. search needs) returns-2 in
+    tie.close answers

@@ -1,11 +1,9 @@
 -- `cycles::parts::check` meets its contract. One line for each return.
--- Assumes nothing.
-use Rattle.rules.proofs.Base.{arith, sym}
-use Rattle.rules.specs.Refusals.{said}
+use Rattle.rules.proofs.Offered.{arith, sym, said}
 use Rattle.cycles.proofs.Stretches.{bad-part, short-room, accepted}
 use Rattle.cycles.proofs.parts.check.Statement.{statement}
 use Rattle.cycles.proofs.parts.check.Tie as tie
 
 pub check-spec : {M : Type 1} → statement M
 unfolding said
-check-spec = tie.close (tie.spec (λ c. sym (bad-part _ _ (omega arith))) (λ c. sym (short-room _ _ (omega arith) (omega arith))) (λ c. sym (accepted _ _ (omega arith) (omega arith))))
+check-spec = let answers = tie.spec (λ c. sym (bad-part _ _ (omega arith))) (λ c. sym (short-room _ _ (omega arith) (omega arith))) (λ c. sym (accepted _ _ (omega arith) (omega arith))) in tie.close answers

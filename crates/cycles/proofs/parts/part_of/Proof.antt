@@ -1,6 +1,5 @@
 -- `cycles::parts::part_of` meets its contract: the places of the part are in the room and hold it.
--- Assumes nothing.
-use Rattle.rules.proofs.Base.{_+_, _≤_, length, now, needs}
+use Rattle.rules.proofs.Offered.{_+_, _≤_, length, now, needs}
 use Rattle.cycles.proofs.Stretches.{in-room, part-there}
 use Rattle.cycles.proofs.parts.part_of.Statement.{statement}
 use Rattle.cycles.proofs.parts.part_of.Tie as tie
@@ -11,8 +10,8 @@ there c = rw (c .stretch-of .ensures) (in-room (c .before .before .args .part) (
 
 pub part-of-spec : {M : Type 1} → statement M
 part-of-spec =
-    tie.close
-    (tie.spec (λ c κs. search needs) (λ c. let h = there (c .before) in search needs)
+    let answers = tie.spec (λ c κs. search needs) (λ c. let h = there (c .before) in search needs)
     (λ c. let h = there (c .before) in search needs) (λ c. search needs) (λ c. search needs)
     (λ c. let h = there (c .before) in search needs)
-    (λ c. rw (c .before .before .stretch-of .ensures) (part-there _ _)))
+    (λ c. rw (c .before .before .stretch-of .ensures) (part-there _ _)) in
+    tie.close answers

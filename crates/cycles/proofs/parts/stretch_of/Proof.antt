@@ -1,7 +1,5 @@
 -- `cycles::parts::stretch_of` meets its contract: no seconds where filling refuses, else the part's.
--- Assumes nothing.
-use Rattle.rules.proofs.Base.{arith, sym, ap, _∙_, needs}
-use Rattle.rules.specs.Refusals.{said}
+use Rattle.rules.proofs.Offered.{arith, sym, ap, _∙_, needs, said}
 use Rattle.cycles.proofs.FillingEnds.{passed}
 use Rattle.cycles.proofs.Stretches.{ordered, stretch-part, no-stretch}
 use Rattle.cycles.proofs.parts.stretch_of.Statement.{statement}
@@ -15,6 +13,7 @@ returns-2 c =
 pub stretch-of-spec : {M : Type 1} → statement M
 unfolding said
 stretch-of-spec =
-    tie.close
-    (tie.spec (λ c κs. search needs) (λ c. search needs) (λ c. search needs) (λ c. sym (no-stretch _ _ (sym (c .before .before .check .ensures) ∙ ap said (c .enum-told2 .given .1)))) (λ c κs. search needs)
-    (λ c κs. search needs) (λ c. omega (arith, ordered (c .before .before .before .before .before .args .part) .1, c .last-second .ensures)) (λ c. omega (arith, ordered (c .before .before .before .before .before .args .part) .0, c .last-second .ensures, c .before .first-second .ensures)) returns-2)
+    let answers = tie.spec (λ c κs. search needs) (λ c. search needs) (λ c. search needs) (λ c. sym (no-stretch _ _ (sym (c .before .before .check .ensures) ∙ ap said (c .enum-told2 .given .1))))
+    (λ c κs. search needs) (λ c κs. search needs) (λ c. omega (arith, ordered (c .before .before .before .before .before .args .part) .1, c .last-second .ensures))
+    (λ c. omega (arith, ordered (c .before .before .before .before .before .args .part) .0, c .last-second .ensures, c .before .first-second .ensures)) returns-2 in
+    tie.close answers

@@ -1,6 +1,5 @@
 -- `downscale::closed::downscale` meets its contract: refused, or the cycle with its two stretches drawn.
--- Assumes nothing.
-use Rattle.rules.proofs.Base.{_≤_, arith, _≡_, ap, _∙_, none, length, now, needs}
+use Rattle.rules.proofs.Offered.{_≤_, arith, _≡_, ap, _∙_, none, length, now, needs}
 use Rattle.cycles.specs.Cycle.{cycle}
 use Rattle.cycles.proofs.FillingEnds.{passed, untouched, written}
 use Rattle.cycles.proofs.Table.{length-cycle}
@@ -48,6 +47,6 @@ returns-2 c =
 pub downscale-spec : {M : Type 1} → statement M
 unfolding down-room
 downscale-spec =
-    tie.close
-    (tie.spec (λ c κs. search needs) (λ c. search needs) (λ c. search needs) (λ c. let said = c .before .before .check .ensures in (said, untouched said _ _ (c .enum-told2 .given .1))) (λ c κs. search needs)
-    draw-requires (λ c. search needs) draw-requires-2 (λ c. search needs) returns-2)
+    let answers = tie.spec (λ c κs. search needs) (λ c. search needs) (λ c. search needs) (λ c. let said = c .before .before .check .ensures in (said, untouched said _ _ (c .enum-told2 .given .1))) (λ c κs. search needs)
+    draw-requires (λ c. search needs) draw-requires-2 (λ c. search needs) returns-2 in
+    tie.close answers

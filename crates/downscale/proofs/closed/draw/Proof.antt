@@ -1,7 +1,5 @@
 -- `downscale::closed::draw` meets its contract: the invariant is `Changed`, up to here.
--- Assumes nothing.
-use Rattle.rules.proofs.Base.{_≤_, _-_, ap, _∙_, le-refl, arith, needs}
-use Rattle.rules.specs.Words.{at}
+use Rattle.rules.proofs.Offered.{_≤_, _-_, ap, _∙_, le-refl, arith, needs, at}
 use Rattle.downscale.specs.Closed.{drawn-speed, Changed}
 use Rattle.downscale.proofs.Changes.{begin, more, upto}
 use Rattle.downscale.proofs.closed.draw.Statement.{statement}
@@ -25,10 +23,10 @@ loop-again c =
 
 pub draw-spec : {M : Type 1} → statement M
 draw-spec =
-    tie.close
-    (tie.spec Inv-loop μ-loop (λ c. (le-refl _, c .before .pre .1, begin _ _ _)) (λ c. search needs)
+    let answers = tie.spec Inv-loop μ-loop (λ c. (le-refl _, c .before .pre .1, begin _ _ _)) (λ c. search needs)
     (λ c. omega (arith, c .before .before .loop .inv .2 .size))
     (λ c κs. c .before .before .before .before .pre .0) (λ c. search needs)
     (λ c. omega (arith, c .before .before .before .loop .inv .2 .size))
     (λ c. search needs) (λ c. search needs) loop-again (λ c. c .before .loop .inv .2 .size)
-    (λ c. upto (c .before .loop .inv .2) (omega arith)))
+    (λ c. upto (c .before .loop .inv .2) (omega arith)) in
+    tie.close answers

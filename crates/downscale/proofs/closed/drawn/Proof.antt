@@ -1,6 +1,5 @@
 -- `downscale::closed::drawn` meets its contract: the sum is at most 65,535 wholes.
--- Assumes nothing.
-use Rattle.rules.proofs.Base.{_*_, _+_, _-_, _≤_, arith, needs}
+use Rattle.rules.proofs.Offered.{_*_, _+_, _-_, _≤_, arith, needs}
 use Rattle.downscale.specs.Closed.{drawn, drawn-speed}
 use Rattle.downscale.proofs.Rounding.{drawn-most}
 use Rattle.downscale.proofs.closed.drawn.Statement.{statement}
@@ -14,4 +13,6 @@ sum-most c = drawn-most (c .args .whole) (c .args .parts) (c .args .rest) (c .pr
 pub drawn-spec : {M : Type 1} → statement M
 unfolding drawn-speed drawn
 drawn-spec =
-    tie.close (tie.spec (λ c. search needs) (λ c. let h = sum-most c in search needs) (λ c. let h = sum-most c in search needs) (λ c. let h = sum-most c in search needs) (λ c κs. (c .pre .from, c .pre .to, sum-most c)) (λ c. c .nearest .ensures))
+    let answers = tie.spec (λ c. search needs) (λ c. let h = sum-most c in search needs) (λ c. let h = sum-most c in search needs) (λ c. let h = sum-most c in search needs)
+    (λ c κs. (c .pre .from, c .pre .to, sum-most c)) (λ c. c .nearest .ensures) in
+    tie.close answers

@@ -1,6 +1,5 @@
 -- `downscale::stepwise::add_steps` meets its contract: the invariant is `Stepped`.
--- Assumes nothing.
-use Rattle.rules.proofs.Base.{_-_, refl, arith, needs}
+use Rattle.rules.proofs.Offered.{_-_, refl, arith, needs}
 use Rattle.downscale.proofs.Stepping.{Stepped, start, ends, asks, rounds, again}
 use Rattle.downscale.proofs.Changes.{upto}
 use Rattle.downscale.proofs.stepwise.add_steps.Statement.{statement}
@@ -14,15 +13,10 @@ abbrev μ-loop : tie.MeasureT-loop
 
 pub add-steps-spec : {M : Type 1} → statement M
 add-steps-spec =
-    tie.close
-    (tie.spec Inv-loop μ-loop
-    (λ c. let h = c .before .pre .in-cycle in let o = c .before .pre .ordered in search needs)
-    (λ c. start (c .before .pre))
-    (λ c. let h = c .before .loop .inv .in-cycle in search needs)
-    (λ c. let h = c .before .before .loop .inv in omega (arith, h .changed .size, h .long))
-    (λ c κs. asks (c .before .before .loop .inv))
-    (λ c κs. rounds (c .before .before .before .loop .inv) (omega arith) refl (c .step-on .ensures))
-    (λ c. let h = c .before .before .before .before .loop .inv .in-cycle in search needs)
-    (λ c. let h = c .before .before .before .before .loop .inv in omega (arith, h .changed .size, h .long))
-    (λ c. let h = c .before .before .before .before .loop .inv .in-cycle in search needs)
-    (λ c. search needs) (λ c. again (c .before .before .before .before .loop .inv) (omega arith) refl (c .before .step-on .ensures) _ (c .nearest .ensures)) (λ c. c .before .loop .inv .changed .size) (λ c. let h = c .before .loop .inv in (ends h (omega (arith, h .to)), upto (h .changed) (omega (arith, h .to)))))
+    let answers = tie.spec Inv-loop μ-loop (λ c. let h = c .before .pre .in-cycle in let o = c .before .pre .ordered in search needs) (λ c. start (c .before .pre))
+    (λ c. let h = c .before .loop .inv .in-cycle in search needs) (λ c. let h = c .before .before .loop .inv in omega (arith, h .changed .size, h .long)) (λ c κs. asks (c .before .before .loop .inv))
+    (λ c κs. rounds (c .before .before .before .loop .inv) (omega arith) refl (c .step-on .ensures)) (λ c. let h = c .before .before .before .before .loop .inv .in-cycle in search needs)
+    (λ c. let h = c .before .before .before .before .loop .inv in omega (arith, h .changed .size, h .long)) (λ c. let h = c .before .before .before .before .loop .inv .in-cycle in search needs)
+    (λ c. search needs) (λ c. again (c .before .before .before .before .loop .inv) (omega arith) refl (c .before .step-on .ensures) _ (c .nearest .ensures)) (λ c. c .before .loop .inv .changed .size)
+    (λ c. let h = c .before .loop .inv in (ends h (omega (arith, h .to)), upto (h .changed) (omega (arith, h .to)))) in
+    tie.close answers

@@ -1,6 +1,5 @@
 -- `downscale::stepwise::downscale_steps` meets its contract: refused, or the cycle with its two stretches stepped.
--- Assumes nothing.
-use Rattle.rules.proofs.Base.{_+_, _-_, _*_, _≤_, arith, _≡_, _∙_, none, length, now, needs}
+use Rattle.rules.proofs.Offered.{_+_, _-_, _*_, _≤_, arith, _≡_, _∙_, none, length, now, needs}
 use Rattle.cycles.specs.Cycle.{cycle}
 use Rattle.cycles.proofs.FillingEnds.{passed, untouched, written}
 use Rattle.downscale.specs.Steps.{down-fault, down-room}
@@ -56,8 +55,8 @@ returns-2 c =
 pub downscale-steps-spec : {M : Type 1} → statement M
 unfolding down-room
 downscale-steps-spec =
-    tie.close
-    (tie.spec (λ c κs. search needs) (λ c. search needs) (λ c. search needs) (λ c. let said = c .before .before .check .ensures in (said, untouched said _ _ (c .enum-told2 .given .1))) (λ c κs. search needs)
+    let answers = tie.spec (λ c κs. search needs) (λ c. search needs) (λ c. search needs) (λ c. let said = c .before .before .check .ensures in (said, untouched said _ _ (c .enum-told2 .given .1))) (λ c κs. search needs)
     (λ c. let f = factor-fine (c .before .before .before .before .before) in omega arith)
     (λ c. search needs) (λ c κs. rise-begins _ (factor-fine (c .before .before .before .before .before)) (filled-is (c .before .before .before))) (λ c. search needs) sub-add-steps-2 mul-add-steps-3 add-steps-requires-2
-    (λ c. search needs) returns-2)
+    (λ c. search needs) returns-2 in
+    tie.close answers

@@ -1,8 +1,6 @@
 -- `edits::buttons::hold` meets its contract: `Carried` has what the sweep asks and what is left.
--- Assumes nothing.
-use Rattle.rules.proofs.Base.{ℕ, length-replicate, arith, _≡_, sym, ap, _∙_, needs}
+use Rattle.rules.proofs.Offered.{ℕ, length-replicate, arith, _≡_, sym, ap, _∙_, needs, Screen, second, asked-speeds, asked-holds}
 use Rattle.rules.specs.declared.Edit.the-variants.{Hold}
-use Rattle.rules.specs.Edit.{Screen, second, asked-speeds, asked-holds}
 use Rattle.edits.proofs.Carried.{Judges, Accepted, refused-left, in-trace-at, in-holds-at, parts-at, range-at, passes-there, countable-again, speeds-at, holds-at, card-left-at, summary-at}
 use Rattle.edits.proofs.buttons.hold.Statement.{statement}
 use Rattle.edits.proofs.buttons.hold.Tie as tie
@@ -23,17 +21,9 @@ returns c =
     let z = refused-left _ _ _ says (c .enum-told2 .given .1) in
     (says, (sym (ap (λ (x : Screen). x .summary) z), (sym (ap (λ (x : Screen). x .holds) z), sym (ap (λ (x : Screen). x .card) z))))
 
-slice-write-holds : tie.Need-slice-write-holds
-unfolding second
-slice-write-holds c = in-holds-at (accepted-at c)
-
 sweep-requires : tie.Need-sweep-requires
 unfolding asked-speeds asked-holds
 sweep-requires c κs = let A = accepted-at (c .before .before .before .before .before .before) in rw (c .before .before .before .before .before .before .before .before .before .before .before .before .before .before .before .before .before .numbers-of .ensures) (parts-at A, range-at A, passes-there A)
-
-count-requires : tie.Need-count-requires
-unfolding asked-speeds
-count-requires c κs = countable-again (accepted-at (c .before .before .before .before .before .before .before .before .before .before)) (search needs)
 
 returns-2 : tie.Need-returns-2
 unfolding asked-speeds asked-holds
@@ -43,8 +33,9 @@ returns-2 c =
     (A .says, (summary-at A r (c .updated .ensures ∙ rw (c .before .count .ensures)), (holds-at A, card-left-at A r)))
 
 pub hold-spec : {M : Type 1} → statement M
+unfolding second asked-speeds
 hold-spec =
-    tie.close
-    (tie.spec (λ c κs. search needs) (λ c κs. length-replicate {A = ℕ} 64 0) (λ c. search needs) (λ c. search needs) (λ c. search needs) (λ c. search needs)
-    returns slice-write-holds sweep-requires count-requires (λ c κs. search needs) (λ c. search needs) (λ c. search needs)
-    returns-2)
+    let answers = tie.spec (λ c κs. search needs) (λ c κs. length-replicate {A = ℕ} 64 0) (λ c. search needs) (λ c. search needs) (λ c. search needs) (λ c. search needs) returns
+    (λ c. in-holds-at (accepted-at c)) sweep-requires (λ c κs. countable-again (accepted-at (c .before .before .before .before .before .before .before .before .before .before)) (search needs))
+    (λ c κs. search needs) (λ c. search needs) (λ c. search needs) returns-2 in
+    tie.close answers

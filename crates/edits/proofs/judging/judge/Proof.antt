@@ -1,10 +1,7 @@
 -- `edits::judging::judge` meets its contract: one law for each stage says what is known from there on, one of `Answers` for each return.
--- Assumes nothing.
-use Rattle.rules.proofs.Base.{arith, _≡_, refl, sym, ap, _∙_, List, ℕ, _+_, _<_, min, length, needs}
+use Rattle.rules.proofs.Offered.{arith, _≡_, refl, sym, ap, _∙_, List, ℕ, _+_, _<_, min, length, needs, said, second, span, asked-fault}
 use Rattle.rules.specs.declared.Vehicle.{Vehicle}
 use Rattle.rules.specs.declared.Edit.{Edit}
-use Rattle.rules.specs.Refusals.{said}
-use Rattle.rules.specs.Edit.{second, span, asked-fault}
 use Rattle.gears.specs.Parts.{numbers-of, whole, Lent}
 use Rattle.gears.proofs.Derating.{derates, powers-lent}
 use Rattle.checks.proofs.Rows.{Opened, opened, said-none}
@@ -113,9 +110,9 @@ returns-4 c =
 
 pub judge-spec : {M : Type 1} → statement M
 judge-spec =
-    tie.close
-    (tie.spec (λ c κs. search needs) (λ c. search needs) (λ c. search needs) (λ c κs. search needs) returns
+    let answers = tie.spec (λ c κs. search needs) (λ c. search needs) (λ c. search needs) (λ c κs. search needs) returns
     (λ c κs. search needs) (λ c κs. search needs) returns-2 (λ c κs. search needs)
     (λ c κs. derates _ (opened-at (c .before .before .before .before) .bounds))
     asked-of-requires (λ c κs. search needs) check-span-requires (λ c. search needs)
-    (λ c. search needs) (λ c κs. search needs) returns-3 count-requires returns-4)
+    (λ c. search needs) (λ c κs. search needs) returns-3 count-requires returns-4 in
+    tie.close answers

@@ -1,8 +1,5 @@
 -- `edits::spans::around` meets its contract: the two scans, and the second before the first.
--- Assumes nothing.
-use Rattle.rules.proofs.Base.{ℕ, _-_, add-one, _≡_, ap, _∙_, needs}
-use Rattle.rules.specs.Units.{stop}
-use Rattle.rules.specs.Edit.{around}
+use Rattle.rules.proofs.Offered.{ℕ, _-_, add-one, _≡_, ap, _∙_, needs, stop, around}
 use Rattle.edits.proofs.spans.around.Statement.{statement}
 use Rattle.edits.proofs.spans.around.Tie as tie
 
@@ -14,5 +11,5 @@ returns c =
 
 pub around-spec : {M : Type 1} → statement M
 around-spec =
-    tie.close
-    (tie.spec (λ c κs. search needs) (λ c κs. search needs) (λ c. search needs) (λ c κs. search needs) returns)
+    let answers = tie.spec (λ c κs. search needs) (λ c κs. search needs) (λ c. search needs) (λ c κs. search needs) returns in
+    tie.close answers

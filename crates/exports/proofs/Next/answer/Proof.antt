@@ -1,8 +1,7 @@
 -- `exports::Next::answer` meets its contract: in each arm the case is known.
--- Assumes nothing.
 use borrow.Author.Needs.{needs}
 use Rattle.exports.proofs.Next.answer.Statement.{statement}
 use Rattle.exports.proofs.Next.answer.Tie as tie
 
 pub answer-spec : {M : Type 1} → statement M
-answer-spec = tie.close (tie.spec (λ c. search needs) (λ c. search needs) (λ c. search needs) (λ c. rw (c .before .self .given .1)))
+answer-spec = let answers = tie.spec (λ c. search needs) (λ c. search needs) (λ c. search needs) (λ c. rw (c .before .self .given .1)) in tie.close answers

@@ -1,6 +1,5 @@
 -- `exports::fields::in_bounds` meets its contract: from 2^23 on a value is beyond every bound.
--- Assumes nothing.
-use Rattle.rules.proofs.Base.{arith, sym, toZ-ofZ, needs}
+use Rattle.rules.proofs.Offered.{arith, sym, toZ-ofZ, needs}
 use Rattle.exports.specs.Fields.{units, in-bounds}
 use Rattle.exports.proofs.Values.{no-nan, beyond}
 use Rattle.exports.proofs.fields.in_bounds.Statement.{statement}
@@ -21,6 +20,6 @@ returns-2 c =
 
 pub in-bounds-spec : {M : Type 1} → statement M
 in-bounds-spec =
-    tie.close
-    (tie.spec (λ c. no-nan (c .args .x) (c .pre .0 .number)) (λ c κs. search needs) returns (λ c κs. search needs)
-    (λ c κs. search needs) returns-2)
+    let answers = tie.spec (λ c. no-nan (c .args .x) (c .pre .0 .number)) (λ c κs. search needs) returns (λ c κs. search needs)
+    (λ c κs. search needs) returns-2 in
+    tie.close answers

@@ -1,6 +1,5 @@
 -- `exports::fields::in_units` meets its contract, field by field.
--- Assumes nothing.
-use Rattle.rules.proofs.Base.{toZ-ofZ, needs}
+use Rattle.rules.proofs.Offered.{toZ-ofZ, needs}
 use Rattle.exports.specs.Fields.{F0, F2}
 use Rattle.exports.proofs.Sizes.{f1-short, f0-plain, f2-plain}
 use Rattle.exports.proofs.fields.in_units.Statement.{statement}
@@ -15,4 +14,4 @@ returns c =
 
 pub in-units-spec : {M : Type 1} → statement M
 unfolding F0 F2
-in-units-spec = tie.close (tie.spec (λ c κs. (c .pre .f0-in, f0-plain)) (λ c κs. search needs) (λ c κs. (c .before .before .pre .f2-in, f2-plain)) returns)
+in-units-spec = let answers = tie.spec (λ c κs. (c .pre .f0-in, f0-plain)) (λ c κs. search needs) (λ c κs. (c .before .before .pre .f2-in, f2-plain)) returns in tie.close answers

@@ -1,6 +1,5 @@
 -- `exports::fields::whole` meets its contract: within bounds that are not negative a value is its size.
--- Assumes nothing.
-use Rattle.rules.proofs.Base.{arith, _∙_, ap, pos}
+use Rattle.rules.proofs.Offered.{arith, _∙_, ap, pos}
 use Rattle.exports.proofs.Values.{no-nan, moderate}
 use Rattle.exports.proofs.Sizes.{size-is}
 use Rattle.exports.proofs.fields.whole.Statement.{statement}
@@ -10,4 +9,7 @@ cast-result : tie.Need-cast-result
 cast-result c = let n = size-is (c .before .args .field) (c .before .args .x) (c .before .pre .1) (c .before .pre .0) in let e = c .size-of .ensures in omega (arith, n)
 
 pub whole-spec : {M : Type 1} → statement M
-whole-spec = tie.close (tie.spec (λ c. no-nan (c .args .x) (c .pre .0 .is .number)) (λ c κs. let m = moderate (c .args .field) (c .args .x) (c .pre .1 .fair) (c .pre .0) in (m .below, m .scale)) cast-result (λ c. ap pos (c .size-of .ensures .0) ∙ size-is (c .before .args .field) (c .before .args .x) (c .before .pre .1) (c .before .pre .0) .0))
+whole-spec =
+    let answers = tie.spec (λ c. no-nan (c .args .x) (c .pre .0 .is .number)) (λ c κs. let m = moderate (c .args .field) (c .args .x) (c .pre .1 .fair) (c .pre .0) in (m .below, m .scale)) cast-result
+    (λ c. ap pos (c .size-of .ensures .0) ∙ size-is (c .before .args .field) (c .before .args .x) (c .before .pre .1) (c .before .pre .0) .0) in
+    tie.close answers

@@ -1,7 +1,5 @@
 -- `exports::fields::within` meets its contract: the two tests, of numbers read back from their bits.
--- Assumes nothing.
-use mir.Facts.{toZ-ofZ}
-use Rattle.rules.specs.Words.{_and_}
+use Rattle.rules.proofs.Offered.{toZ-ofZ, _and_}
 use Rattle.exports.proofs.Sizes.{less-no, less-yes}
 use Rattle.exports.proofs.fields.within.Statement.{statement}
 use Rattle.exports.proofs.fields.within.Tie as tie
@@ -19,4 +17,4 @@ returns-2 c =
     rw (toZ-ofZ (s .fits .x), toZ-ofZ (s .fits .hi), less-yes (s .args .x) (s .args .lo) (rw (toZ-ofZ (s .fits .x), toZ-ofZ (s .fits .lo)) at (c .if1 .left)))
 
 pub within-spec : {M : Type 1} → statement M
-within-spec = tie.close (tie.spec returns returns-2)
+within-spec = let answers = tie.spec returns returns-2 in tie.close answers

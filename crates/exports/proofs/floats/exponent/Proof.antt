@@ -1,5 +1,4 @@
 -- `exports::floats::exponent` meets its contract.
--- Assumes nothing.
 use native.Mathlib.Omega.{arith}
 use Rattle.exports.specs.Bits.{exponent}
 use Rattle.exports.proofs.floats.exponent.Statement.{statement}
@@ -7,4 +6,4 @@ use Rattle.exports.proofs.floats.exponent.Tie as tie
 
 pub exponent-spec : {M : Type 1} → statement M
 unfolding exponent
-exponent-spec = tie.close (tie.spec (λ c. omega arith))
+exponent-spec = let answers = tie.spec (λ c. omega arith) in tie.close answers

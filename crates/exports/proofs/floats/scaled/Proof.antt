@@ -1,6 +1,5 @@
 -- `exports::floats::scaled` meets its contract: the exact value's size, and the sign in front of it.
--- Assumes nothing.
-use Rattle.rules.proofs.Base.{arith, needs}
+use Rattle.rules.proofs.Offered.{arith, needs}
 use Rattle.exports.proofs.Values.{no-nan}
 use Rattle.exports.proofs.Sizes.{plain, minus-short, turned}
 use Rattle.exports.proofs.floats.scaled.Statement.{statement}
@@ -25,5 +24,4 @@ returns-2 c =
     turned (s .args .scale) (s .args .x) (s .pre) (r .result) (r .ensures .0) (r .ensures .1) (omega arith)
 
 pub scaled-spec : {M : Type 1} → statement M
-scaled-spec =
-    tie.close (tie.spec (λ c. no-nan (c .args .x) (c .pre .number)) (λ c κs. search needs) (λ c. record { sfits = omega arith }) returns sub-result returns-2)
+scaled-spec = let answers = tie.spec (λ c. no-nan (c .args .x) (c .pre .number)) (λ c κs. search needs) (λ c. record { sfits = omega arith }) returns sub-result returns-2 in tie.close answers

@@ -1,6 +1,5 @@
 -- `exports::floats::size_of` meets its contract: the product is below 2^41, and what is shifted away is less than a half.
--- Assumes nothing.
-use Rattle.rules.proofs.Base.{arith, _*_, sym, _∙_, needs}
+use Rattle.rules.proofs.Offered.{arith, _*_, sym, _∙_, needs}
 use Rattle.exports.specs.Bits.{size-of}
 use Rattle.exports.proofs.Sizes.{product-low, tiny-size, rounded, sum-low, rounded-low}
 use Rattle.exports.proofs.floats.size_of.Statement.{statement}
@@ -34,6 +33,6 @@ returns-2 c =
 
 pub size-of-spec : {M : Type 1} → statement M
 size-of-spec =
-    tie.close
-    (tie.spec (λ c κs. search needs) (λ c. let m = product-low (c .before .args .scale) (c .significand .result) (omega arith) (omega arith) in omega arith) (λ c κs. search needs) returns mul-result (λ c. search needs)
-    (λ c. search needs) add-result (λ c. search needs) (λ c. search needs) (λ c. search needs) returns-2)
+    let answers = tie.spec (λ c κs. search needs) (λ c. let m = product-low (c .before .args .scale) (c .significand .result) (omega arith) (omega arith) in omega arith) (λ c κs. search needs) returns mul-result (λ c. search needs)
+    (λ c. search needs) add-result (λ c. search needs) (λ c. search needs) (λ c. search needs) returns-2 in
+    tie.close answers

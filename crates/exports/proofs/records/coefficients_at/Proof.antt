@@ -1,5 +1,4 @@
 -- `exports::records::coefficients_at` meets its contract: a fault is handed up, the three floats come judged.
--- Assumes nothing.
 use Rattle.exports.specs.Fields.{F0, F1, F2}
 use Rattle.exports.proofs.RecordAnswers.{f0-stops, f1-stops, f2-stops, three-come}
 use borrow.Author.Needs.{needs}
@@ -49,7 +48,7 @@ returns-4 c =
 
 pub coefficients-at-spec : {M : Type 1} → statement M
 coefficients-at-spec =
-    tie.close
-    (tie.spec (λ c κs. search needs) (λ c. search needs) (λ c. search needs) (λ c κs. search needs) returns
+    let answers = tie.spec (λ c κs. search needs) (λ c. search needs) (λ c. search needs) (λ c κs. search needs) returns
     (λ c κs. search needs) (λ c. search needs) (λ c. search needs) (λ c κs. search needs) returns-2
-    (λ c κs. search needs) (λ c. search needs) (λ c. search needs) (λ c κs. search needs) returns-3 returns-4)
+    (λ c κs. search needs) (λ c. search needs) (λ c. search needs) (λ c κs. search needs) returns-3 returns-4 in
+    tie.close answers

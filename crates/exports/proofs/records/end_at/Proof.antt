@@ -1,5 +1,4 @@
 -- `exports::records::end_at` meets its contract: one law for each `return`.
--- Assumes nothing.
 use borrow.Author.Tests.{not-true, not-false}
 use Rattle.exports.proofs.RecordAnswers.{end-lacks-coefficients, end-lacks-mass, end-comes}
 use Rattle.exports.proofs.records.end_at.Statement.{statement}
@@ -23,4 +22,4 @@ returns-3 c =
     (λ bytes. end-comes bytes (s .args .spot) (s .args .found) (s .args .at) a b, ((a, b), tt))
 
 pub end-at-spec : {M : Type 1} → statement M
-end-at-spec = tie.close (tie.spec returns returns-2 returns-3)
+end-at-spec = let answers = tie.spec returns returns-2 returns-3 in tie.close answers

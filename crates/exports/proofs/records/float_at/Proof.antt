@@ -1,6 +1,5 @@
 -- `exports::records::float_at` meets its contract: an exponent's field of 255 is an infinity or a NaN, and none other is.
--- Assumes nothing.
-use Rattle.rules.proofs.Base.{arith, _<_, _≤_, _%_, sym, _∙_, le-ltb, nanBits-above, needs}
+use Rattle.rules.proofs.Offered.{arith, _<_, _≤_, _%_, sym, _∙_, le-ltb, nanBits-above, needs}
 use Rattle.exports.specs.Floats.{float-of}
 use Rattle.exports.specs.Bits.{exponent}
 use Rattle.exports.proofs.RecordAnswers.{comes, float-short, float-bad, float-good}
@@ -42,6 +41,6 @@ returns-4 c =
 
 pub float-at-spec : {M : Type 1} → statement M
 float-at-spec =
-    tie.close
-    (tie.spec returns (λ c. search needs) returns-2 (λ c κs. search needs) (λ c κs. search needs) returns-3
-    float-from-bits-t12 (λ c. search needs) returns-4)
+    let answers = tie.spec returns (λ c. search needs) returns-2 (λ c κs. search needs) (λ c κs. search needs) returns-3
+    float-from-bits-t12 (λ c. search needs) returns-4 in
+    tie.close answers

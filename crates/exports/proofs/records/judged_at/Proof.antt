@@ -1,6 +1,5 @@
 -- `exports::records::judged_at` meets its contract: one law for each `return`.
--- Assumes nothing.
-use Rattle.rules.proofs.Base.{sym, _∙_, not-true, not-false, needs}
+use Rattle.rules.proofs.Offered.{sym, _∙_, not-true, not-false, needs}
 use Rattle.exports.proofs.RecordAnswers.{judged-stops, judged-out, judged-good}
 use Rattle.exports.proofs.records.judged_at.Statement.{statement}
 use Rattle.exports.proofs.records.judged_at.Tie as tie
@@ -34,6 +33,6 @@ returns-3 c =
 
 pub judged-at-spec : {M : Type 1} → statement M
 judged-at-spec =
-    tie.close
-    (tie.spec (λ c κs. search needs) (λ c. search needs) (λ c. search needs) returns in-bounds-requires returns-2
-    returns-3)
+    let answers = tie.spec (λ c κs. search needs) (λ c. search needs) (λ c. search needs) returns in-bounds-requires returns-2
+    returns-3 in
+    tie.close answers

@@ -1,5 +1,4 @@
 -- `exports::records::mass_at` meets its contract: a fault is handed up, a float comes judged.
--- Assumes nothing.
 use Rattle.exports.specs.Fields.{TM}
 use Rattle.exports.proofs.RecordAnswers.{mass-stops, mass-comes}
 use borrow.Author.Needs.{needs}
@@ -23,5 +22,4 @@ returns-2 c =
     (mass-comes (s .args .bytes .now) (s .args .spot) (s .args .at) (rw g at (r .ensures .0)), λ found t. (t, rw g at (r .ensures .1)))
 
 pub mass-at-spec : {M : Type 1} → statement M
-mass-at-spec =
-    tie.close (tie.spec (λ c κs. search needs) (λ c. search needs) (λ c. search needs) (λ c κs. search needs) returns returns-2)
+mass-at-spec = let answers = tie.spec (λ c κs. search needs) (λ c. search needs) (λ c. search needs) (λ c κs. search needs) returns returns-2 in tie.close answers

@@ -1,6 +1,5 @@
 -- `exports::records::record_at` meets its contract: one law for each `return`.
--- Assumes nothing.
-use Rattle.rules.proofs.Base.{arith, needs}
+use Rattle.rules.proofs.Offered.{arith, needs}
 use Rattle.exports.proofs.RecordAnswers.{no-kind, kind-0, kind-1-twice, kind-1, kind-2-twice, kind-2, kind-unknown}
 use Rattle.exports.proofs.records.record_at.Statement.{statement}
 use Rattle.exports.proofs.records.record_at.Tie as tie
@@ -42,7 +41,7 @@ returns-7 c =
 
 pub record-at-spec : {M : Type 1} → statement M
 record-at-spec =
-    tie.close
-    (tie.spec returns (λ c. search needs) (λ c. search needs) (λ c κs. search needs) returns-2 returns-3
+    let answers = tie.spec returns (λ c. search needs) (λ c. search needs) (λ c κs. search needs) returns-2 returns-3
     (λ c. search needs) (λ c κs. search needs) returns-4 returns-5 (λ c. search needs) (λ c κs. search needs) returns-6
-    returns-7)
+    returns-7 in
+    tie.close answers

@@ -1,6 +1,5 @@
 -- `gearcard::text::answer` meets its contract: the rooms begin with what was read, and what is put at place 0 begins the memory.
--- Assumes nothing.
-use Rattle.rules.proofs.Base.{arith, _≡_, sym, _∙_, length, take, length-take-le, needs}
+use Rattle.rules.proofs.Offered.{arith, _≡_, sym, _∙_, length, take, length-take-le, needs}
 use Rattle.gearcard.proofs.TextInTurn.{begins}
 use Rattle.reading.proofs.Rooms.{rooms}
 use Rattle.gearcard.proofs.Jobs.{room-is, printed-done, printed-stop}
@@ -28,9 +27,12 @@ returns-2 c =
 
 pub answer-spec : {M : Type 1} → statement M
 answer-spec =
-    tie.close
-    (tie.spec (λ c. search needs) (λ c. search needs) (λ c κs. search needs) (λ c. search needs)
+    let answers = tie.spec (λ c. search needs) (λ c. search needs) (λ c κs. search needs) (λ c. search needs)
     (λ c. let w = rooms (c .before .before .before .before .before .read .ensures) in w .speeds-fit)
-    (λ c. let w = rooms (c .before .before .before .before .before .before .read .ensures) in sym (length-take-le _ _ (w .speeds-fit))) (λ c. let w = rooms (c .before .before .before .before .before .before .read .ensures) in w .holds-fit) (λ c. let w = rooms (c .before .before .before .before .before .before .before .read .ensures) in sym (length-take-le _ _ (w .holds-fit))) (λ c. let w = rooms (c .before .before .before .before .before .before .before .read .ensures) in w .few)
-    (λ c. let w = rooms (c .before .before .before .before .before .before .before .before .read .ensures) in sym (length-take-le _ _ (w .few))) put-worked-requires (λ c. search needs) (λ c κs. search needs) (λ c κs. search needs)
-    returns returns-2)
+    (λ c. let w = rooms (c .before .before .before .before .before .before .read .ensures) in sym (length-take-le _ _ (w .speeds-fit)))
+    (λ c. let w = rooms (c .before .before .before .before .before .before .read .ensures) in w .holds-fit)
+    (λ c. let w = rooms (c .before .before .before .before .before .before .before .read .ensures) in sym (length-take-le _ _ (w .holds-fit)))
+    (λ c. let w = rooms (c .before .before .before .before .before .before .before .read .ensures) in w .few)
+    (λ c. let w = rooms (c .before .before .before .before .before .before .before .before .read .ensures) in sym (length-take-le _ _ (w .few))) put-worked-requires (λ c. search needs)
+    (λ c κs. search needs) (λ c κs. search needs) returns returns-2 in
+    tie.close answers

@@ -1,6 +1,5 @@
 -- `gearcard::text::put` meets its contract. The loop's invariant: the bytes that are left, put after those that are put, make it whole.
--- Assumes nothing.
-use Rattle.rules.proofs.Base.{_+_, _-_, _≤_, arith, add-zero, add-assoc, add-one, length, drop, drop-of-length-le, drop-cons, needs}
+use Rattle.rules.proofs.Offered.{_+_, _-_, _≤_, arith, add-zero, add-assoc, add-one, length, drop, drop-of-length-le, drop-cons, needs}
 use Rattle.reading.proofs.PutInTurn.{Left, all-left, fewer-left, none-left, said-as, put-byte}
 use Rattle.gearcard.proofs.text.put.Statement.{statement}
 use Rattle.gearcard.proofs.text.put.Tie as tie
@@ -19,6 +18,6 @@ loop-again c =
 
 pub put-spec : {M : Type 1} → statement M
 put-spec =
-    tie.close
-    (tie.spec Inv-loop μ-loop (λ c. (omega arith, rw add-zero (all-left (c .args .out .now) (c .args .at) (c .args .src .now) (c .pre)))) (λ c. search needs) (λ c. omega arith) (λ c. omega arith) (λ c. search needs)
-    (λ c. search needs) loop-again (λ c. search needs) (λ c. c .before .loop .inv .1 .long) (λ c. let l = c .before .loop in none-left (said-as (drop-of-length-le _ {i = l .i} (omega arith)) (l .inv .1))))
+    let answers = tie.spec Inv-loop μ-loop (λ c. (omega arith, rw add-zero (all-left (c .args .out .now) (c .args .at) (c .args .src .now) (c .pre)))) (λ c. search needs) (λ c. omega arith) (λ c. omega arith) (λ c. search needs)
+    (λ c. search needs) loop-again (λ c. search needs) (λ c. c .before .loop .inv .1 .long) (λ c. let l = c .before .loop in none-left (said-as (drop-of-length-le _ {i = l .i} (omega arith)) (l .inv .1))) in
+    tie.close answers

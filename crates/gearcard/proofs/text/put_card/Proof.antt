@@ -1,12 +1,12 @@
 -- `gearcard::text::put_card` meets its contract: the heading and the lines.
--- Assumes nothing.
-use Rattle.rules.specs.Text.{heading, card-text}
+use Rattle.rules.proofs.Offered.{heading, card-text, needs}
 use Rattle.reading.proofs.PutInTurn.{put-both}
-use borrow.Author.Needs.{needs}
 use Rattle.gearcard.proofs.text.put_card.Statement.{statement}
 use Rattle.gearcard.proofs.text.put_card.Tie as tie
 
 pub put-card-spec : {M : Type 1} → statement M
 unfolding card-text heading
 put-card-spec =
-    tie.close (tie.spec (λ c. search needs) (λ c κs. search needs) (λ c κs. search needs) (λ c. search needs) (λ c. put-both (c .before .before .before .before .before .before .put .ensures) (c .before .before .put-lines .ensures)))
+    let answers = tie.spec (λ c. search needs) (λ c κs. search needs) (λ c κs. search needs) (λ c. search needs)
+    (λ c. put-both (c .before .before .before .before .before .before .put .ensures) (c .before .before .put-lines .ensures)) in
+    tie.close answers

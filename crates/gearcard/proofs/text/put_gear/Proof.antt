@@ -1,6 +1,5 @@
 -- `gearcard::text::put_gear` meets its contract: three pieces in a row.
--- Assumes nothing.
-use Rattle.rules.proofs.Base.{arith, needs}
+use Rattle.rules.proofs.Offered.{arith, needs}
 use Rattle.reading.proofs.PutInTurn.{put-both}
 use Rattle.gearcard.proofs.TextInTurn.{gear-length}
 use Rattle.gearcard.proofs.text.put_gear.Statement.{statement}
@@ -11,6 +10,7 @@ returns c = put-both (c .before .before .before .before .before .before .before 
 
 pub put-gear-spec : {M : Type 1} → statement M
 put-gear-spec =
-    tie.close
-    (tie.spec (λ c. search needs) (λ c κs. search needs) (λ c. search needs) (λ c κs. let s = c .before .before .before .before .before .before .before in omega (arith, gear-length (s .args .byte))) (λ c κs. let s = c .before .before .before .before .before .before .before .before .before .before .before in omega (arith, gear-length (s .args .byte)))
-    (λ c. search needs) returns)
+    let answers = tie.spec (λ c. search needs) (λ c κs. search needs) (λ c. search needs)
+    (λ c κs. let s = c .before .before .before .before .before .before .before in omega (arith, gear-length (s .args .byte)))
+    (λ c κs. let s = c .before .before .before .before .before .before .before .before .before .before .before in omega (arith, gear-length (s .args .byte))) (λ c. search needs) returns in
+    tie.close answers

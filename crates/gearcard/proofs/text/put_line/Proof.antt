@@ -1,6 +1,5 @@
 -- `gearcard::text::put_line` meets its contract: four pieces in a row.
--- Assumes nothing.
-use Rattle.rules.proofs.Base.{arith, needs}
+use Rattle.rules.proofs.Offered.{arith, needs}
 use Rattle.reading.proofs.PutInTurn.{put-both}
 use Rattle.gearcard.proofs.TextInTurn.{line-is, line-lengths}
 use Rattle.gearcard.proofs.text.put_line.Statement.{statement}
@@ -33,6 +32,6 @@ returns c =
 
 pub put-line-spec : {M : Type 1} → statement M
 put-line-spec =
-    tie.close
-    (tie.spec (λ c κs. let s = c .before .before in omega (arith, line-lengths (s .args .i) (s .args .v) (s .args .byte))) (λ c. search needs) put-requires put-speed-requires put-gear-requires
-    (λ c. search needs) returns)
+    let answers = tie.spec (λ c κs. let s = c .before .before in omega (arith, line-lengths (s .args .i) (s .args .v) (s .args .byte))) (λ c. search needs) put-requires put-speed-requires put-gear-requires
+    (λ c. search needs) returns in
+    tie.close answers

@@ -1,7 +1,5 @@
 -- `gearcard::text::put_lines` meets its contract. The loop's invariant: the lines of the first i seconds are put.
--- Assumes nothing.
-use Rattle.rules.proofs.Base.{_-_, _<_, arith, length, getD, needs}
-use Rattle.rules.proofs.Laws.Lines.{line-short}
+use Rattle.rules.proofs.Offered.{_-_, _<_, arith, length, getD, needs, line-short}
 use Rattle.gearcard.proofs.TextInTurn.{Lined, lines-begin, lines-again, lines-end}
 use Rattle.gearcard.proofs.text.put_lines.Statement.{statement}
 use Rattle.gearcard.proofs.text.put_lines.Tie as tie
@@ -28,8 +26,8 @@ loop-again c =
 
 pub put-lines-spec : {M : Type 1} → statement M
 put-lines-spec =
-    tie.close
-    (tie.spec Inv-loop μ-loop (λ c. lines-begin _ _ _ _ (omega arith)) (λ c. search needs) (λ c. search needs)
+    let answers = tie.spec Inv-loop μ-loop (λ c. lines-begin _ _ _ _ (omega arith)) (λ c. search needs) (λ c. search needs)
     (λ c. search needs) put-line-requires (λ c. search needs) (λ c. search needs) loop-again
     (λ c. c .before .loop .inv .same)
-    (λ c. lines-end _ _ _ _ (c .before .loop .inv) (omega arith)))
+    (λ c. lines-end _ _ _ _ (c .before .loop .inv) (omega arith)) in
+    tie.close answers

@@ -1,8 +1,5 @@
 -- `gearcard::text::put_refusal` meets its contract: five pieces in a row.
--- Assumes nothing.
-use Rattle.rules.proofs.Base.{_≤_, arith, length, needs}
-use Rattle.rules.specs.Text.{decimal, refusal-text}
-use Rattle.rules.proofs.Laws.Lines.{tens, decimal-short}
+use Rattle.rules.proofs.Offered.{_≤_, arith, length, needs, decimal, refusal-text, tens, decimal-short}
 use Rattle.reading.proofs.PutInTurn.{put-both}
 use Rattle.gearcard.proofs.text.put_refusal.Statement.{statement}
 use Rattle.gearcard.proofs.text.put_refusal.Tie as tie
@@ -31,9 +28,9 @@ returns c =
 
 pub put-refusal-spec : {M : Type 1} → statement M
 put-refusal-spec =
-    tie.close
-    (tie.spec (λ c κs. search needs) (λ c. search needs) (λ c κs. search needs) (λ c. search needs)
-    (λ c κs. search needs)
-    (λ c κs. omega (arith, short-at (c .before .before .before .before .before .before)))
-    (λ c. search needs) (λ c κs. omega (arith, short-at (c .before .before .before .before .before .before .before .before .before .before .before))) (λ c κs. omega (arith, short-at (c .before .before .before .before .before .before .before .before .before .before .before .before .before .before .before))) (λ c. search needs) put-requires-3 (λ c. search needs)
-    returns)
+    let answers = tie.spec (λ c κs. search needs) (λ c. search needs) (λ c κs. search needs) (λ c. search needs) (λ c κs. search needs)
+    (λ c κs. omega (arith, short-at (c .before .before .before .before .before .before))) (λ c. search needs)
+    (λ c κs. omega (arith, short-at (c .before .before .before .before .before .before .before .before .before .before .before)))
+    (λ c κs. omega (arith, short-at (c .before .before .before .before .before .before .before .before .before .before .before .before .before .before .before))) (λ c. search needs) put-requires-3
+    (λ c. search needs) returns in
+    tie.close answers

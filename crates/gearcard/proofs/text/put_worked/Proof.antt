@@ -1,5 +1,4 @@
 -- `gearcard::text::put_worked` meets its contract: what the working answers is what the text says.
--- Assumes nothing.
 use Rattle.gearcard.proofs.Jobs.{done-text, stop-text, room-is}
 use borrow.Author.Needs.{needs}
 use Rattle.gearcard.proofs.text.put_worked.Statement.{statement}
@@ -25,7 +24,7 @@ returns-2 c =
 
 pub put-worked-spec : {M : Type 1} → statement M
 put-worked-spec =
-    tie.close
-    (tie.spec (λ c κs. search needs) (λ c. search needs) (λ c κs. let e = room-is in search needs) (λ c. search needs)
+    let answers = tie.spec (λ c κs. search needs) (λ c. search needs) (λ c κs. let e = room-is in search needs) (λ c. search needs)
     (λ c κs. let e = room-is in search needs) (λ c. search needs) (λ c. search needs) returns (λ c. search needs)
-    (λ c. search needs) returns-2)
+    (λ c. search needs) returns-2 in
+    tie.close answers

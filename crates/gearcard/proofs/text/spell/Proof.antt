@@ -1,6 +1,5 @@
 -- `gearcard::text::spell` meets its contract. The loop's invariant: the digits of the rest, and those that stand behind, make the number.
--- Assumes nothing.
-use Rattle.rules.proofs.Base.{arith, sym, _∙_, length-set, needs}
+use Rattle.rules.proofs.Offered.{arith, sym, _∙_, length-set, needs}
 use Rattle.gearcard.proofs.TextInTurn.{Spelt, spell-begins, spell-place, spell-more, spell-last}
 use Rattle.gearcard.proofs.text.spell.Statement.{statement}
 use Rattle.gearcard.proofs.text.spell.Tie as tie
@@ -13,12 +12,12 @@ abbrev μ-loop : tie.MeasureT-loop
 
 pub spell-spec : {M : Type 1} → statement M
 spell-spec =
-    tie.close
-    (tie.spec Inv-loop μ-loop
+    let answers = tie.spec Inv-loop μ-loop
     (λ c. spell-begins _ _ (c .before .pre) (omega arith))
     (λ c κs. search needs) (λ c. search needs)
     (λ c. omega (arith, spell-place (c .before .before .loop .inv) (omega arith)))
     (λ c. search needs)
     (λ c. spell-more (c .before .before .loop .inv) (c .digit .ensures) (omega arith))
     (λ c κs. search needs) (λ c. search needs) (λ c. simp length-set (c .before .before .loop .inv .size ∙ sym (c .before .before .before .before .pre)))
-    (λ c. spell-last (c .before .before .loop .inv) (c .digit2 .ensures) (omega arith)))
+    (λ c. spell-last (c .before .before .loop .inv) (c .digit2 .ensures) (omega arith)) in
+    tie.close answers

@@ -1,11 +1,6 @@
 -- `gears::bounds::check_vehicle` meets its contract: the tests before a return hold, so the first that fails is that return's own.
--- Assumes nothing.
-use Rattle.rules.proofs.Base.{ℕ, _+_, _≡_, refl, sym, _∙_, w32, toZ, ofZ, toZ-ofZ, true, arith, leb, eqb, lit<, le-leb, lt-leb, not-true, not-false, needs}
-use Rattle.rules.specs.Words.{_and_, _or_, within}
-use Rattle.rules.specs.Units.{bounds}
+use Rattle.rules.proofs.Offered.{ℕ, _+_, _≡_, refl, sym, _∙_, w32, toZ, ofZ, toZ-ofZ, true, arith, leb, eqb, lit<, le-leb, lt-leb, not-true, not-false, needs, _and_, _or_, within, bounds, within-lo, within-hi, and-right}
 use Rattle.rules.specs.declared.Vehicle.{Vehicle}
-use Rattle.rules.proofs.Laws.Vehicle.{within-lo, within-hi}
-use Rattle.rules.proofs.Laws.Words.{and-right}
 use Rattle.gears.specs.Parts.{whole}
 use Rattle.gears.specs.Second.{CurveOf}
 use Rattle.gears.proofs.Fields.{Passed, passed-none, passed-more, refused-here, passed-all}
@@ -93,37 +88,17 @@ returns-2 : tie.Need-returns-2
 unfolding bounds
 returns-2 c = refused-here (passed-1 (c .before .before)) (lit< tt) (sym (c .before .ratios-good .ensures _ refl) ∙ not-true (c .before .ratios-good .result) (c .if2 .taken))
 
-returns-3 : tie.Need-returns-3
-unfolding bounds
-returns-3 c = refused-here (passed-2 (c .before .before)) (lit< tt) (sym (c .before .within .ensures) ∙ not-true (c .before .within .result) (c .if3 .taken))
-
-returns-4 : tie.Need-returns-4
-unfolding bounds
-returns-4 c = refused-here (passed-3 (c .before .before)) (lit< tt) (sym (c .before .above .ensures) ∙ not-true (c .before .above .result) (c .if4 .taken))
-
 returns-5 : tie.Need-returns-5
 unfolding bounds
 returns-5 c = refused-here (passed-4 (c .before .before)) (lit< tt) (sym (c .before .within2 .ensures) ∙ not-true (c .before .within2 .result) (c .if5 .taken))
-
-returns-6 : tie.Need-returns-6
-unfolding bounds
-returns-6 c = refused-here (passed-5 (c .before .before)) (lit< tt) (lt-leb _ _ (c .if6 .taken))
 
 returns-7 : tie.Need-returns-7
 unfolding bounds
 returns-7 c = refused-here (passed-6 (c .before .before .before)) (lit< tt) (rw (f1-back (c .before .before)) at (sym (c .before .f1-good .ensures) ∙ not-true (c .before .f1-good .result) (c .if7 .taken)))
 
-returns-8 : tie.Need-returns-8
-unfolding bounds
-returns-8 c = refused-here (passed-7 (c .before .before)) (lit< tt) (lt-leb _ _ (c .if8 .taken))
-
 returns-9 : tie.Need-returns-9
 unfolding bounds
 returns-9 c = refused-here (passed-8 (c .before .before)) (lit< tt) (sym (c .before .within3 .ensures) ∙ not-true (c .before .within3 .result) (c .if9 .taken))
-
-returns-10 : tie.Need-returns-10
-unfolding bounds
-returns-10 c = refused-here (passed-9 (c .before)) (lit< tt) (lt-leb _ _ (c .if10 .taken))
 
 returns-11 : tie.Need-returns-11
 unfolding bounds
@@ -144,12 +119,13 @@ unfolding bounds
 returns-13 c = refused-here (passed-12 (c .before .before)) (lit< tt) (sym (c .before .ends-good .ensures) ∙ not-true (c .before .ends-good .result) (c .if13 .taken))
 
 pub check-vehicle-spec : {M : Type 1} → statement M
+unfolding bounds
 check-vehicle-spec =
-    tie.close
-    (tie.spec (λ c κs. search needs) returns
-    (λ c κs. within-hi _ _ _ (and-right _ _ (good-1 c)))
-    returns-2 (λ c κs. search needs) returns-3 (λ c κs. search needs) returns-4 (λ c κs. search needs) returns-5
-    returns-6 (λ c κs. search needs) returns-7 returns-8 (λ c κs. search needs) returns-9 returns-10
-    (λ c κs. search needs) returns-11
-    (λ c κs. (within-hi _ _ _ (good-11 c), omega arith))
-    returns-12 ends-good-requires returns-13 (λ c. passed-all (passed-13 c)))
+    let answers = tie.spec (λ c κs. search needs) returns (λ c κs. within-hi _ _ _ (and-right _ _ (good-1 c))) returns-2 (λ c κs. search needs)
+    (λ c. refused-here (passed-2 (c .before .before)) (lit< tt) (sym (c .before .within .ensures) ∙ not-true (c .before .within .result) (c .if3 .taken))) (λ c κs. search needs)
+    (λ c. refused-here (passed-3 (c .before .before)) (lit< tt) (sym (c .before .above .ensures) ∙ not-true (c .before .above .result) (c .if4 .taken))) (λ c κs. search needs) returns-5
+    (λ c. refused-here (passed-5 (c .before .before)) (lit< tt) (lt-leb _ _ (c .if6 .taken))) (λ c κs. search needs) returns-7
+    (λ c. refused-here (passed-7 (c .before .before)) (lit< tt) (lt-leb _ _ (c .if8 .taken))) (λ c κs. search needs) returns-9
+    (λ c. refused-here (passed-9 (c .before)) (lit< tt) (lt-leb _ _ (c .if10 .taken))) (λ c κs. search needs) returns-11 (λ c κs. (within-hi _ _ _ (good-11 c), omega arith)) returns-12
+    ends-good-requires returns-13 (λ c. passed-all (passed-13 c)) in
+    tie.close answers

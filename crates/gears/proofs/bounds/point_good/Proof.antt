@@ -1,14 +1,7 @@
 -- `gears::bounds::point_good` meets its contract: the tests of `point-good`, one after the other.
--- Assumes nothing.
-use Rattle.rules.proofs.Base.{le-leb, lt-leb, not-true, not-false, needs}
-use Rattle.rules.specs.Words.{_and_}
-use Rattle.rules.specs.Units.{margin-good, point-good}
+use Rattle.rules.proofs.Offered.{le-leb, lt-leb, not-true, not-false, needs, _and_, margin-good, point-good}
 use Rattle.gears.proofs.bounds.point_good.Statement.{statement}
 use Rattle.gears.proofs.bounds.point_good.Tie as tie
-
-returns : tie.Need-returns
-unfolding point-good _and_
-returns c = λ car C. rw (C .speeds, ← c .before .within .ensures, not-true (c .before .within .result) (c .if1 .taken))
 
 returns-2 : tie.Need-returns-2
 unfolding point-good _and_
@@ -23,8 +16,9 @@ unfolding point-good margin-good _and_
 returns-4 c = λ car C. let e = c .before .before in let d = e .before .before in rw (C .speeds, C .powers, C .margins, C .margin-is, ← d .before .before .before .within .ensures, not-false (d .before .before .before .within .result) (d .before .before .if1 .left), ← d .before .point-rises .ensures, not-false (d .before .point-rises .result) (d .if2 .left), le-leb _ _ (e .if3 .left)) (c .margin-good .ensures)
 
 pub point-good-spec : {M : Type 1} → statement M
+unfolding point-good _and_
 point-good-spec =
-    tie.close
-    (tie.spec (λ c. search needs) (λ c. search needs) (λ c κs. search needs) returns (λ c κs. search needs) returns-2
+    let answers = tie.spec (λ c. search needs) (λ c. search needs) (λ c κs. search needs) (λ c. λ car C. rw (C .speeds, ← c .before .within .ensures, not-true (c .before .within .result) (c .if1 .taken))) (λ c κs. search needs) returns-2
     (λ c. search needs) (λ c. search needs) returns-3 (λ c. search needs) (λ c. search needs) (λ c κs. search needs)
-    returns-4)
+    returns-4 in
+    tie.close answers

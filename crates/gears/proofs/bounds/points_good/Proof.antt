@@ -1,11 +1,7 @@
 -- `gears::bounds::points_good` meets its contract: what is left to test, from point k on, is what was asked.
--- Assumes nothing.
-use Rattle.rules.proofs.Base.{_-_, _≤_, arith, _≡_, sym, _∙_, needs, not-true, not-false}
+use Rattle.rules.proofs.Offered.{_-_, _≤_, arith, _≡_, sym, _∙_, needs, not-true, not-false, every, point-good, Every, all-start, all-stops, all-again, all-ends}
 use Rattle.rules.specs.declared.Vehicle.{Vehicle}
-use Rattle.rules.specs.Words.{every}
-use Rattle.rules.specs.Units.{point-good}
 use Rattle.gears.specs.Second.{CurveOf}
-use Rattle.rules.proofs.Laws.Walk.{Every, all-start, all-stops, all-again, all-ends}
 use Rattle.gears.proofs.bounds.points_good.Statement.{statement}
 use Rattle.gears.proofs.bounds.points_good.Tie as tie
 
@@ -23,8 +19,8 @@ loop-again c = (omega arith, λ car C. all-again (c .before .before .before .loo
 
 pub points-good-spec : {M : Type 1} → statement M
 points-good-spec =
-    tie.close
-    (tie.spec Inv-loop μ-loop
+    let answers = tie.spec Inv-loop μ-loop
     (λ c. (omega arith, λ car C. all-start (omega arith)))
     (λ c κs. search needs) returns (λ c. search needs) (λ c. search needs) loop-again
-    (λ c. λ car C. all-ends (c .before .loop .inv .1 car C) (omega arith)))
+    (λ c. λ car C. all-ends (c .before .loop .inv .1 car C) (omega arith)) in
+    tie.close answers

@@ -1,14 +1,7 @@
 -- `gears::bounds::ratio_good` meets its contract: the tests of `ratio-good`, one after the other.
--- Assumes nothing.
-use Rattle.rules.proofs.Base.{_-_, arith, _≡_, eq-eqb, ne-eqb, not-true, not-false, needs}
-use Rattle.rules.specs.Words.{_and_, _or_}
-use Rattle.rules.specs.Units.{ratio-good, ratio-of}
+use Rattle.rules.proofs.Offered.{_-_, arith, _≡_, eq-eqb, ne-eqb, not-true, not-false, needs, _and_, _or_, ratio-good, ratio-of}
 use Rattle.gears.proofs.bounds.ratio_good.Statement.{statement}
 use Rattle.gears.proofs.bounds.ratio_good.Tie as tie
-
-returns : tie.Need-returns
-unfolding ratio-good ratio-of _and_
-returns c = λ car e. rw (e, ← c .before .within .ensures, not-true (c .before .within .result) (c .if1 .taken))
 
 returns-2 : tie.Need-returns-2
 unfolding ratio-good ratio-of _and_ _or_
@@ -21,7 +14,8 @@ returns-3 c = λ car e.
     rw (e, ← c .before .before .before .within .ensures, not-false (c .before .before .before .within .result) (c .before .before .if1 .left), ne-eqb _ _ (c .before .if2 .left), z)
 
 pub ratio-good-spec : {M : Type 1} → statement M
+unfolding ratio-good ratio-of _and_
 ratio-good-spec =
-    tie.close
-    (tie.spec (λ c. search needs) (λ c. search needs) (λ c. search needs) (λ c κs. search needs) returns returns-2
-    (λ c. search needs) (λ c. search needs) (λ c. search needs) returns-3)
+    let answers = tie.spec (λ c. search needs) (λ c. search needs) (λ c. search needs) (λ c κs. search needs) (λ c. λ car e. rw (e, ← c .before .within .ensures, not-true (c .before .within .result) (c .if1 .taken))) returns-2
+    (λ c. search needs) (λ c. search needs) (λ c. search needs) returns-3 in
+    tie.close answers

@@ -1,10 +1,6 @@
 -- `gears::bounds::ratios_good` meets its contract: what is left to test, from gear g on, is what was asked.
--- Assumes nothing.
-use Rattle.rules.proofs.Base.{suc, _-_, _≤_, arith, _≡_, sym, _∙_, needs, not-true, not-false}
+use Rattle.rules.proofs.Offered.{suc, _-_, _≤_, arith, _≡_, sym, _∙_, needs, not-true, not-false, every, ratio-good, Every, all-start, all-stops, all-again, all-ends}
 use Rattle.rules.specs.declared.Vehicle.{Vehicle}
-use Rattle.rules.specs.Words.{every}
-use Rattle.rules.specs.Units.{ratio-good}
-use Rattle.rules.proofs.Laws.Walk.{Every, all-start, all-stops, all-again, all-ends}
 use Rattle.gears.proofs.bounds.ratios_good.Statement.{statement}
 use Rattle.gears.proofs.bounds.ratios_good.Tie as tie
 
@@ -22,8 +18,8 @@ loop-again c = (omega arith, omega arith, λ car e. all-again (c .before .before
 
 pub ratios-good-spec : {M : Type 1} → statement M
 ratios-good-spec =
-    tie.close
-    (tie.spec Inv-loop μ-loop
+    let answers = tie.spec Inv-loop μ-loop
     (λ c. (omega arith, omega arith, λ car e. all-start (omega arith)))
     (λ c κs. search needs) returns (λ c. search needs) (λ c. search needs) loop-again
-    (λ c. λ car e. all-ends (c .before .loop .inv .2 car e) (omega arith)))
+    (λ c. λ car e. all-ends (c .before .loop .inv .2 car e) (omega arith)) in
+    tie.close answers

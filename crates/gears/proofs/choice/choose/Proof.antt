@@ -1,12 +1,5 @@
 -- `gears::choice::choose` meets its contract: one law of the choice for each return.
--- Assumes nothing.
-use Rattle.rules.proofs.Base.{ℕ, _+_, _≤_, _<_, arith, true, false, _≡_, refl, sym, _∙_, natAbs, needs, eqb-true, le-leb, toZ-ofZ}
-use Rattle.rules.proofs.Laws.Choice.{choose-to}
-use Rattle.rules.proofs.Laws.Sizes.{required-size}
-use Rattle.rules.proofs.Laws.Range.{rd, result}
-use Rattle.rules.proofs.Laws.Words.{and-left}
-use Rattle.rules.specs.Gears.{fits, required, choose}
-use Rattle.rules.specs.Corrections.{role-of}
+use Rattle.rules.proofs.Offered.{ℕ, _+_, _≤_, _<_, arith, true, false, _≡_, refl, sym, _∙_, natAbs, needs, eqb-true, le-leb, toZ-ofZ, choose-to, required-size, rd, result, and-left, fits, required, choose, role-of}
 use Rattle.rules.specs.declared.Vehicle.{Vehicle}
 use Rattle.rules.specs.declared.Role.{Role}
 use Rattle.gears.specs.Parts.{Counts, Lent}
@@ -79,12 +72,6 @@ searched c car L =
     let s = c .before .before .before .before .before .before .before .before .before .before .before .before in
     c .choose-from .ensures car L ∙ choice-for car (here s car) (s .args .v) (s .args .d) (load (c .before .before .before .before) car (L .has .counts))
 
-shared-least-requires : tie.Need-shared-least-requires
-shared-least-requires c κs = let L = c .pre .0 .lent in omega (arith, idle-of (L .has .counts), rated-of (L .has .counts), L .bounds .rated-from)
-
-reached-requires : tie.Need-reached-requires
-reached-requires c κs = let s = c .before in let h = s .pre .2 in (falling-of (s .pre .0 .lent) (s .args .v), record { from = h .from; to = h .to })
-
 only-lowest-requires : tie.Need-only-lowest-requires
 only-lowest-requires c κs =
     let L = c .before .before .before .before .before .pre .0 .lent in
@@ -96,9 +83,6 @@ cast-t20 c =
     let car = s .pre .0 .car in
     let L = s .pre .0 .lent in
     omega (arith, only c car L, choose-to car (here s car) (s .args .v) (s .args .d), L .bounds .ng-to)
-
-returns : tie.Need-returns
-returns c = (only c, hints (c .before .before .before .before) (c .before .before .before .before .before .before .pre .2 .near))
 
 returns-2 : tie.Need-returns-2
 returns-2 c =
@@ -120,9 +104,6 @@ required-requires c κs =
       v-to = s .pre .1 .v-to;
       d-in = s .pre .1 .d-in;
     })
-
-cast-t22 : tie.Need-cast-t22
-cast-t22 c = omega (arith, to-ten (c .before .before .before .before .before .before .before))
 
 returns-3 : tie.Need-returns-3
 returns-3 c =
@@ -176,9 +157,9 @@ returns-4 c = (searched c, hints (c .before .before .before .before .before .bef
 
 pub choose-spec : {M : Type 1} → statement M
 choose-spec =
-    tie.close
-    (tie.spec shared-least-requires reached-requires
-    (λ c κs. record { from = in-gear c .from; to = to-ten c })
-    (λ c κs. search needs) only-lowest-requires cast-t20 returns
-    (λ c κs. search needs) returns-2 required-requires cast-t22 returns-3 segment-at-requires power-at-requires
-    choose-from-requires cast-t24 returns-4)
+    let answers = tie.spec (λ c κs. let L = c .pre .0 .lent in omega (arith, idle-of (L .has .counts), rated-of (L .has .counts), L .bounds .rated-from))
+    (λ c κs. let s = c .before in let h = s .pre .2 in (falling-of (s .pre .0 .lent) (s .args .v), record { from = h .from; to = h .to })) (λ c κs. record { from = in-gear c .from; to = to-ten c })
+    (λ c κs. search needs) only-lowest-requires cast-t20 (λ c. (only c, hints (c .before .before .before .before) (c .before .before .before .before .before .before .pre .2 .near)))
+    (λ c κs. search needs) returns-2 required-requires (λ c. omega (arith, to-ten (c .before .before .before .before .before .before .before))) returns-3 segment-at-requires power-at-requires
+    choose-from-requires cast-t24 returns-4 in
+    tie.close answers

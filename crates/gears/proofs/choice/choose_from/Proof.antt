@@ -1,9 +1,5 @@
 -- `gears::choice::choose_from` meets its contract: before each turn the gears from `g` on have been tried.
--- Assumes nothing.
-use Rattle.rules.proofs.Base.{ℕ, _+_, _-_, _≤_, _<_, min, ℤ, arith, true, false, _≡_, refl, sym, _∙_, needs, le-leb, toZ-ofZ, w64, toZ, ofZ}
-use Rattle.rules.proofs.Laws.Words.{by-order, and-right, and-fails}
-use Rattle.rules.specs.Gears.{fits}
-use Rattle.rules.specs.Corrections.{role-of}
+use Rattle.rules.proofs.Offered.{ℕ, _+_, _-_, _≤_, _<_, min, ℤ, arith, true, false, _≡_, refl, sym, _∙_, needs, le-leb, toZ-ofZ, w64, toZ, ofZ, by-order, and-right, and-fails, fits, role-of}
 use Rattle.rules.specs.declared.Vehicle.{Vehicle}
 use Rattle.rules.specs.declared.Role.{Role}
 use Rattle.gears.specs.declared.Best.{Best}
@@ -54,7 +50,7 @@ next c =
     let l = c .before .if2 .left in
     let w = c .before .before .before .before .before .before .lowest .ensures in
     let h = s .pre .3 in
-    (omega (arith, h .from), omega (arith, h .from), omega (arith, h .from, h .to), omega (arith, h .from))
+    omega (arith, h .from, h .to)
 
 in-gear : (c : tie.After-below Inv-loop μ-loop) → InGear (c .before .before .before .before .before .before .before .args .k) (c .below .result)
 in-gear c = record { from = omega (arith, next c .0); to = next c .2 }
@@ -80,9 +76,6 @@ turns c = let s = c .before .before .before .before .before .before .before .bef
 again : {car : Vehicle} {here : Role} {v : ℕ} {e : ℤ} {b : Best} (g h r : ℕ) → r ≡ min g h - 1 → Tried car here v e (min g h - 1) b → Tried car here v e r b
 again g h r is T = rw is T
 
-loop-holds : tie.Need-loop-holds Inv-loop μ-loop
-loop-holds c = let s = c .before .before in (s .pre .2, λ o. refl, λ car L o. absurd (omega (arith, s .pre .3 .to)))
-
 suffices-requires : tie.Need-suffices-requires Inv-loop μ-loop
 suffices-requires c κs =
     let s = c .before .before .before in
@@ -90,7 +83,7 @@ suffices-requires c κs =
     record { sized = highest-sized (s .pre .4 (s .pre .0 .car) L .0) L; e-in = rw (toZ-ofZ (s .fits .e)) (s .pre .1) }
 
 below-requires : tie.Need-below-requires Inv-loop μ-loop
-below-requires c κs = let h = c .before .before .before .before .before .before .pre .3 in (omega (arith, c .if2 .left, c .before .before .before .before .before .lowest .ensures), omega (arith, h .from))
+below-requires c κs = let h = c .before .before .before .before .before .before .pre .3 in omega (arith, c .if2 .left, c .before .before .before .before .before .lowest .ensures, h .from)
 
 fits-in-reach-requires : tie.Need-fits-in-reach-requires Inv-loop μ-loop
 fits-in-reach-requires c κs =
@@ -104,9 +97,6 @@ segment-at-requires c κs =
     let L = s .pre .0 .lent in
     let x = next (c .before .before) in
     (record { from = omega (arith, x .0); to = omega (arith, x .2, ng-of (L .has .counts), L .bounds .ng-to) }, turned-curve L _ _ (turns c), c .before .before .before .before .before .before .loop .inv .0)
-
-power-at-requires : tie.Need-power-at-requires Inv-loop μ-loop
-power-at-requires c κs = (c .before .before .before .before .before .before .before .before .before .before .pre .0, turns (c .before), c .segment-at .ensures)
 
 enough-requires : tie.Need-enough-requires Inv-loop μ-loop
 enough-requires c κs =
@@ -164,8 +154,8 @@ returns-3 c = λ car L.
 
 pub choose-from-spec : {M : Type 1} → statement M
 choose-from-spec =
-    tie.close
-    (tie.spec Inv-loop μ-loop (λ c κs. search needs) (λ c. search needs) loop-holds suffices-requires below-requires
-    fits-in-reach-requires segment-at-requires power-at-requires enough-requires stronger-requires
+    let answers = tie.spec Inv-loop μ-loop (λ c κs. search needs) (λ c. search needs) (λ c. let s = c .before .before in (s .pre .2, λ o. refl, λ car L o. absurd (omega (arith, s .pre .3 .to)))) suffices-requires below-requires
+    fits-in-reach-requires segment-at-requires (λ c κs. (c .before .before .before .before .before .before .before .before .before .before .pre .0, turns (c .before), c .segment-at .ensures)) enough-requires stronger-requires
     (λ c. omega (arith, next (c .before .before .before .before .before .before .before) .3))
-    loop-again (λ c. omega (arith, next (c .before .before) .3)) loop-again-2 returns returns-2 returns-3)
+    loop-again (λ c. omega (arith, next (c .before .before) .3)) loop-again-2 returns returns-2 returns-3 in
+    tie.close answers

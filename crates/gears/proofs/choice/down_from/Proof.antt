@@ -1,6 +1,5 @@
 -- `gears::choice::down_from` meets its contract: the gears from g on do not reach.
--- Assumes nothing.
-use Rattle.rules.proofs.Base.{_-_, _≤_, arith, needs}
+use Rattle.rules.proofs.Offered.{_-_, _≤_, arith, needs}
 use Rattle.gears.proofs.Reach.{Above, out-from, goes-on, ends-there}
 use Rattle.gears.proofs.choice.down_from.Statement.{statement}
 use Rattle.gears.proofs.choice.down_from.Tie as tie
@@ -10,9 +9,6 @@ Inv-loop ratio ng second v least from g₀ g = (second ≤ g) × (g ≤ ng) × A
 
 abbrev μ-loop : tie.MeasureT-loop
 μ-loop ratio ng second v least from g₀ g = g
-
-loop-holds : tie.Need-loop-holds Inv-loop μ-loop
-loop-holds c = (c .pre .2, c .pre .3, out-from (c .pre .0) _ _ _ (omega (arith, c .pre .1, c .pre .2)) (c .pre .4))
 
 engine-requires : tie.Need-engine-requires Inv-loop μ-loop
 engine-requires c κs =
@@ -35,4 +31,7 @@ returns-2 c =
     record { from = i .0; to = i .1; above = λ j a b. i .2 .out j (omega (arith, a)) b; over = λ o. absurd (omega (arith, c .loop-test)) }
 
 pub down-from-spec : {M : Type 1} → statement M
-down-from-spec = tie.close (tie.spec Inv-loop μ-loop loop-holds (λ c. search needs) engine-requires returns (λ c. search needs) loop-again returns-2)
+down-from-spec =
+    let answers = tie.spec Inv-loop μ-loop (λ c. (c .pre .2, c .pre .3, out-from (c .pre .0) _ _ _ (omega (arith, c .pre .1, c .pre .2)) (c .pre .4))) (λ c. search needs) engine-requires returns
+    (λ c. search needs) loop-again returns-2 in
+    tie.close answers

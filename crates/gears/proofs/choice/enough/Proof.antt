@@ -1,7 +1,6 @@
 -- `gears::choice::enough` meets its contract: both products stay inside an i64, by the sizes of their parts.
--- Assumes nothing.
-use Rattle.rules.proofs.Base.{pos, needs}
-use Rattle.rules.proofs.Laws.Range.{E, lit, var, _⊗_, fits, le-read}
+use Rattle.rules.proofs.Offered.{pos, needs, E, lit, var, _⊗_, le-read}
+use Rattle.rules.proofs.Laws.Range.{fits}
 use Rattle.gears.specs.Choosing.{most-E, enough-for}
 use Rattle.gears.proofs.choice.enough.Statement.{statement}
 use Rattle.gears.proofs.choice.enough.Tie as tie
@@ -20,4 +19,4 @@ returns c =
     le-read (asked s) (q s ⊗ lit (pos 3240000)) tt tt
 
 pub enough-spec : {M : Type 1} → statement M
-enough-spec = tie.close (tie.spec (λ c. fits (q (c .before .before) ⊗ lit (pos 3240000)) tt) (λ c. fits (asked (c .before .before .before .before)) tt) returns)
+enough-spec = let answers = tie.spec (λ c. fits (q (c .before .before) ⊗ lit (pos 3240000)) tt) (λ c. fits (asked (c .before .before .before .before)) tt) returns in tie.close answers

@@ -1,6 +1,5 @@
 -- `gears::choice::fits_in_reach` meets its contract: the gear above the lowest by its minimum, and then nmax decides.
--- Assumes nothing.
-use Rattle.rules.proofs.Base.{refl, sym, _∙_, needs}
+use Rattle.rules.proofs.Offered.{refl, sym, _∙_, needs}
 use Rattle.gears.proofs.Reach.{later, fits-under-own, fits-else}
 use Rattle.gears.proofs.choice.fits_in_reach.Statement.{statement}
 use Rattle.gears.proofs.choice.fits_in_reach.Tie as tie
@@ -16,5 +15,4 @@ returns-2 c = λ car H R.
     rw (c .top .ensures) (fits-else H _ (later car (s .args .closes) (s .args .before)) _ _ refl (c .before .before .before .engine .ensures) (s .pre .1) R (sym (c .before .if1 .left) ∙ c .before .before .below-minimum .ensures car (H .counts)))
 
 pub fits-in-reach-spec : {M : Type 1} → statement M
-fits-in-reach-spec =
-    tie.close (tie.spec (λ c κs. search needs) (λ c κs. search needs) returns (λ c κs. search needs) returns-2)
+fits-in-reach-spec = let answers = tie.spec (λ c κs. search needs) (λ c κs. search needs) returns (λ c κs. search needs) returns-2 in tie.close answers

@@ -1,7 +1,6 @@
 -- `gears::choice::more` meets its contract: both products stay inside an i64, by the sizes of their parts.
--- Assumes nothing.
-use Rattle.rules.specs.Gears.{more}
-use Rattle.rules.proofs.Laws.Range.{E, var, _⊗_, fits, lt-read}
+use Rattle.rules.proofs.Offered.{more, E, var, _⊗_, lt-read}
+use Rattle.rules.proofs.Laws.Range.{fits}
 use Rattle.gears.proofs.choice.more.Statement.{statement}
 use Rattle.gears.proofs.choice.more.Tie as tie
 
@@ -11,9 +10,9 @@ left c = var (c .args .b .q) 1000000000000 (c .pre .1 .q-in) ⊗ var (c .args .a
 abbrev right : tie.Start → E
 right c = var (c .args .a .q) 1000000000000 (c .pre .0 .q-in) ⊗ var (c .args .b .w) 1000 (c .pre .1 .w-in)
 
-returns : tie.Need-returns
-unfolding more
-returns c = let s = c .before .before .before .before .before .before .before .before in lt-read (left s) (right s) tt tt
-
 pub more-spec : {M : Type 1} → statement M
-more-spec = tie.close (tie.spec (λ c. fits (left (c .before .before .before .before)) tt) (λ c. fits (right (c .before .before .before .before .before .before .before .before)) tt) returns)
+unfolding more
+more-spec =
+    let answers = tie.spec (λ c. fits (left (c .before .before .before .before)) tt) (λ c. fits (right (c .before .before .before .before .before .before .before .before)) tt)
+    (λ c. let s = c .before .before .before .before .before .before .before .before in lt-read (left s) (right s) tt tt) in
+    tie.close answers

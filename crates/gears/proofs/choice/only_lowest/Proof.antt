@@ -1,6 +1,5 @@
 -- `gears::choice::only_lowest` meets its contract: one law of `fits` for each return.
--- Assumes nothing.
-use Rattle.rules.proofs.Base.{arith, eq-eqb, needs}
+use Rattle.rules.proofs.Offered.{arith, eq-eqb, needs}
 use Rattle.gears.specs.Choosing.{only-lowest}
 use Rattle.gears.proofs.Parts.{low-of}
 use Rattle.gears.proofs.Speeds.{fits-over, fits-one}
@@ -18,5 +17,4 @@ returns-2 c = λ car H here.
     rw (low-of (H .counts), ← l, ← fits-one H here _ _ (omega (arith, l)) (rw (c .before .before .top .ensures, c .before .engine .ensures) at (c .if1 .left)), eq-eqb _ _ l)
 
 pub only-lowest-spec : {M : Type 1} → statement M
-only-lowest-spec =
-    tie.close (tie.spec (λ c κs. search needs) (λ c κs. search needs) (λ c κs. search needs) returns returns-2)
+only-lowest-spec = let answers = tie.spec (λ c κs. search needs) (λ c κs. search needs) (λ c κs. search needs) returns returns-2 in tie.close answers

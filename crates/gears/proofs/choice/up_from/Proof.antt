@@ -1,8 +1,5 @@
 -- `gears::choice::up_from` meets its contract: the gears up to g reach, and the next one up does not.
--- Assumes nothing.
-use Rattle.rules.proofs.Base.{_+_, _-_, _*_, _≤_, arith, sym, _∙_, leb-true}
-use Rattle.rules.specs.Words.{at}
-use Rattle.rules.proofs.Laws.Words.{and-left, and-right}
+use Rattle.rules.proofs.Offered.{_+_, _-_, _*_, _≤_, arith, sym, _∙_, leb-true, at, and-left, and-right}
 use Rattle.gears.proofs.Reach.{turns-back, ends-there}
 use Rattle.gears.proofs.choice.up_from.Statement.{statement}
 use Rattle.gears.proofs.choice.up_from.Tie as tie
@@ -26,4 +23,7 @@ returns c = λ second l.
     ends-there (turns-back (c .before .before .before .pre .0) _ _ _ (sym (c .if1 .left) ∙ c .before .reaches .ensures)) (omega (arith, i .0, l)) (i .1) (λ o. i .2)
 
 pub up-from-spec : {M : Type 1} → statement M
-up-from-spec = tie.close (tie.spec Inv-loop μ-loop (λ c. (omega arith, c .pre .2, c .pre .3)) (λ c. omega (arith, c .loop .inv .1, c .before .pre .0 .ng-to)) (λ c κs. (omega arith, c .before .pre .0 .ng-to)) (λ c. omega (arith, c .before .before .loop .inv .1, c .before .before .before .pre .0 .ng-to)) (λ c. let h = higher-one c in omega (arith, h)) loop-again returns)
+up-from-spec =
+    let answers = tie.spec Inv-loop μ-loop (λ c. (omega arith, c .pre .2, c .pre .3)) (λ c. omega (arith, c .loop .inv .1, c .before .pre .0 .ng-to)) (λ c κs. (omega arith, c .before .pre .0 .ng-to))
+    (λ c. omega (arith, c .before .before .loop .inv .1, c .before .before .before .pre .0 .ng-to)) (λ c. let h = higher-one c in omega (arith, h)) loop-again returns in
+    tie.close answers

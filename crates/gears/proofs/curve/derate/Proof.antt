@@ -1,6 +1,5 @@
 -- `gears::curve::derate` meets its contract. The loop's invariant: the powers of the points up to i are there.
--- Assumes nothing.
-use Rattle.rules.proofs.Base.{ℕ, _-_, _≤_, arith, _≡_, ap, _∙_, needs}
+use Rattle.rules.proofs.Offered.{ℕ, _-_, _≤_, arith, _≡_, ap, _∙_, needs}
 use Rattle.gears.specs.Choosing.{available}
 use Rattle.gears.proofs.Derating.{begun, goes-on}
 use Rattle.gears.proofs.curve.derate.Statement.{statement}
@@ -12,9 +11,6 @@ Inv-loop margin p m points powers₀ end i₀ powers i = (i ≤ end) × (powers 
 abbrev μ-loop : tie.MeasureT-loop
 μ-loop margin p m points powers₀ end i₀ powers i = end - i
 
-loop-again : tie.Need-loop-again Inv-loop μ-loop
-loop-again c = let l = c .before .before .before .before in (omega arith, goes-on _ _ _ _ (l .loop .i) (l .loop .inv .1) (c .derated .ensures))
-
 returns : tie.Need-returns Inv-loop μ-loop
 returns c =
     let s = c .before .before in
@@ -24,8 +20,8 @@ returns c =
 
 pub derate-spec : {M : Type 1} → statement M
 derate-spec =
-    tie.close
-    (tie.spec Inv-loop μ-loop (λ c. (omega arith, begun _ _ _ _)) (λ c. search needs) (λ c. search needs)
+    let answers = tie.spec Inv-loop μ-loop (λ c. (omega arith, begun _ _ _ _)) (λ c. search needs) (λ c. search needs)
     (λ c. search needs) (λ c. search needs)
     (λ c κs. let l = c .before .before .before in l .before .pre .left (l .loop .i) (omega arith))
-    (λ c. search needs) (λ c. search needs) (λ c. search needs) (λ c. search needs) loop-again returns)
+    (λ c. search needs) (λ c. search needs) (λ c. search needs) (λ c. search needs) (λ c. let l = c .before .before .before .before in (omega arith, goes-on _ _ _ _ (l .loop .i) (l .loop .inv .1) (c .derated .ensures))) returns in
+    tie.close answers

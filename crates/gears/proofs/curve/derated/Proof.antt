@@ -1,6 +1,5 @@
 -- `gears::curve::derated` meets its contract: of 100 per cent both margins leave something, and the product has room.
--- Assumes nothing.
-use Rattle.rules.proofs.Base.{_-_, _*_, _≤_, mul-le-mul, arith, needs}
+use Rattle.rules.proofs.Offered.{_-_, _*_, _≤_, mul-le-mul, arith, needs}
 use Rattle.gears.proofs.curve.derated.Statement.{statement}
 use Rattle.gears.proofs.curve.derated.Tie as tie
 
@@ -12,4 +11,4 @@ mul-result c =
     omega arith
 
 pub derated-spec : {M : Type 1} → statement M
-derated-spec = tie.close (tie.spec (λ c. search needs) (λ c. search needs) (λ c. search needs) mul-result (λ c. search needs))
+derated-spec = let answers = tie.spec (λ c. search needs) (λ c. search needs) (λ c. search needs) mul-result (λ c. search needs) in tie.close answers

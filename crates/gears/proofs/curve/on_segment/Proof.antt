@@ -1,9 +1,6 @@
 -- `gears::curve::on_segment` meets its contract: every step of Q stays inside an i64, by the sizes of its parts.
--- Assumes nothing.
-use Rattle.rules.proofs.Base.{ℕ, add-one, _≡_, ap, _∙_, ℤ, pos, needs}
-use Rattle.rules.specs.Words.{at}
-use Rattle.rules.proofs.Laws.Range.{E, lit, var, is, _⊕_, _⊖_, _⊗_, fits, read}
-use Rattle.rules.specs.Gears.{Power, between}
+use Rattle.rules.proofs.Offered.{ℕ, add-one, _≡_, ap, _∙_, ℤ, pos, needs, at, E, lit, var, is, _⊕_, _⊖_, _⊗_, read, Power, between}
+use Rattle.rules.proofs.Laws.Range.{fits}
 use Rattle.gears.proofs.curve.on_segment.Statement.{statement}
 use Rattle.gears.proofs.curve.on_segment.Tie as tie
 
@@ -49,8 +46,7 @@ returns c =
 
 pub on-segment-spec : {M : Type 1} → statement M
 on-segment-spec =
-    tie.close
-    (tie.spec (λ c. search needs) (λ c. search needs) (λ c κs. search needs) (λ c. search needs) (λ c. search needs)
+    let answers = tie.spec (λ c. search needs) (λ c. search needs) (λ c κs. search needs) (λ c. search needs) (λ c. search needs)
     (λ c κs. search needs) (λ c. search needs) (λ c. search needs) (λ c. search needs) (λ c κs. search needs)
     (λ c. fits (w c) tt)
     (λ c. fits (lit (pos 1000) ⊗ p1 (c .before .before)) tt)
@@ -58,4 +54,5 @@ on-segment-spec =
     (λ c. search needs) (λ c. search needs) (λ c. search needs) (λ c κs. search needs) (λ c. fits (climb c) tt)
     (λ c. search needs)
     (λ c. fits (lit (pos 1000) ⊗ n1 (c .before .before .before .before .before .before)) tt)
-    (λ c. fits (past c) tt) (λ c. fits (climb c ⊗ past c) tt) (λ c. fits (q c) tt) returns)
+    (λ c. fits (past c) tt) (λ c. fits (climb c ⊗ past c) tt) (λ c. fits (q c) tt) returns in
+    tie.close answers

@@ -1,7 +1,5 @@
 -- `gears::curve::power_at` meets its contract: the engine speed lies on the curve, and the segment given is read.
--- Assumes nothing.
-use Rattle.rules.proofs.Base.{arith, _≡_, _∙_, needs}
-use Rattle.rules.specs.Gears.{power-speed}
+use Rattle.rules.proofs.Offered.{arith, _≡_, _∙_, needs, power-speed}
 use Rattle.rules.specs.declared.Vehicle.{Vehicle}
 use Rattle.gears.specs.Parts.{Lent}
 use Rattle.gears.specs.Choosing.{segment-in, turned}
@@ -20,15 +18,9 @@ found : (c : tie.After-power-speed) → let s = c .before .before in s .args .s 
 unfolding turned
 found c = rw (c .power-speed .ensures, c .before .engine .ensures) (c .before .before .pre .2)
 
-engine-requires : tie.Need-engine-requires
-engine-requires c κs = let L = c .pre .0 .lent in record { from = c .pre .1 .from; to = omega (arith, c .pre .1 .to, ng-of (L .has .counts), L .bounds .ng-to) }
-
-on-segment-requires : tie.Need-on-segment-requires
-on-segment-requires c κs = let s = c .before .before in let L = s .pre .0 .lent in turning-segment L _ _ (s .pre .1) (speed c (s .pre .0 .car) L) (found c)
-
-returns : tie.Need-returns
-returns c = λ car L. c .on-segment .ensures ∙ power-is L _ _ (c .before .before .before .pre .1) (speed (c .before) car L) (found (c .before))
-
 pub power-at-spec : {M : Type 1} → statement M
 power-at-spec =
-    tie.close (tie.spec engine-requires (λ c κs. search needs) on-segment-requires returns)
+    let answers = tie.spec (λ c κs. let L = c .pre .0 .lent in record { from = c .pre .1 .from; to = omega (arith, c .pre .1 .to, ng-of (L .has .counts), L .bounds .ng-to) }) (λ c κs. search needs)
+    (λ c κs. let s = c .before .before in let L = s .pre .0 .lent in turning-segment L _ _ (s .pre .1) (speed c (s .pre .0 .car) L) (found c))
+    (λ c. λ car L. c .on-segment .ensures ∙ power-is L _ _ (c .before .before .before .pre .1) (speed (c .before) car L) (found (c .before))) in
+    tie.close answers

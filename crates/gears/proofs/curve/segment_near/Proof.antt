@@ -1,6 +1,5 @@
 -- `gears::curve::segment_near` meets its contract: up to a segment that reaches x, then down to the first that does.
--- Assumes nothing.
-use Rattle.rules.proofs.Base.{_-_, arith, inl, inr, needs}
+use Rattle.rules.proofs.Offered.{_-_, arith, inl, inr, needs}
 use Rattle.gears.proofs.Near.{Up, Near, higher, turn, down, ends}
 use Rattle.gears.proofs.curve.segment_near.Statement.{statement}
 use Rattle.gears.proofs.curve.segment_near.Tie as tie
@@ -19,8 +18,7 @@ abbrev μ-loop2 : tie.MeasureT-loop2
 
 pub segment-near-spec : {M : Type 1} → statement M
 segment-near-spec =
-    tie.close
-    (tie.spec Inv-loop μ-loop Inv-loop2 μ-loop2
+    let answers = tie.spec Inv-loop μ-loop Inv-loop2 μ-loop2
     (λ c. record { curve = c .pre .0; last = c .pre .1 })
     (λ c. search needs) (λ c. search needs) (λ c. search needs) (λ c κs. search needs) (λ c. search needs)
     (λ c. search needs)
@@ -30,4 +28,5 @@ segment-near-spec =
     (λ c. ends (c .before .before .before .before .loop2 .inv) (inr (omega arith)))
     (λ c. search needs) (λ c. search needs)
     (λ c. down (c .before .before .before .before .loop2 .inv) (omega arith) (omega arith))
-    (λ c. ends (c .before .loop2 .inv) (inl (omega arith))))
+    (λ c. ends (c .before .loop2 .inv) (inl (omega arith))) in
+    tie.close answers

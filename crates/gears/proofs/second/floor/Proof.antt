@@ -1,7 +1,6 @@
 -- `gears::second::floor` meets its contract: what is left of the search, from gear g on, is what was asked.
--- Assumes nothing.
-use Rattle.rules.proofs.Base.{suc, _+_, _-_, _≤_, arith, needs, lt-leb}
-use Rattle.rules.proofs.Laws.Walk.{start, again}
+use Rattle.rules.proofs.Offered.{suc, _+_, _-_, _≤_, arith, needs, lt-leb, again}
+use Rattle.rules.proofs.Laws.Walk.{start}
 use Rattle.gears.proofs.Speeds.{LeftFrom, floor-here, floor-none}
 use Rattle.gears.proofs.second.floor.Statement.{statement}
 use Rattle.gears.proofs.second.floor.Tie as tie
@@ -18,9 +17,6 @@ loop-holds c =
     let b = c .before .before .before .pre .low-to in
     (omega (arith, l), omega (arith, l, b), start (omega (arith, l, b)))
 
-engine-requires : tie.Need-engine-requires Inv-loop μ-loop
-engine-requires c κs = record { from = c .loop .inv .0; to = omega (arith, c .loop .inv .1, c .before .before .before .before .pre .ng-to) }
-
 -- past a gear that turns too fast the search goes on
 on : (c : tie.Then1 Inv-loop μ-loop) → LeftFrom (c .before .before .before .before .before .before .args .ratio .now) (c .before .before .before .before .before .before .args .v) (c .before .before .before .before .top .result) (c .before .before .before .before .before .before .args .k .ng) (c .before .before .before .lowest .result) (c .before .before .loop .g + 1)
 on c = again (c .before .before .loop .inv .2) (omega (arith, c .before .before .loop .inv .1)) (lt-leb _ _ (rw (c .before .engine .ensures) at (c .if1 .taken)))
@@ -33,7 +29,7 @@ returns-2 c = λ car H. floor-here H _ (c .before .before .before .before .top .
 
 pub floor-spec : {M : Type 1} → statement M
 floor-spec =
-    tie.close
-    (tie.spec Inv-loop μ-loop (λ c. search needs) (λ c κs. search needs) (λ c κs. search needs) loop-holds
-    engine-requires (λ c. search needs) returns (λ c. search needs) (λ c. (omega arith, c .if2 .left, on (c .before)))
-    returns-2)
+    let answers = tie.spec Inv-loop μ-loop (λ c. search needs) (λ c κs. search needs) (λ c κs. search needs) loop-holds
+    (λ c κs. record { from = c .loop .inv .0; to = omega (arith, c .loop .inv .1, c .before .before .before .before .pre .ng-to) }) (λ c. search needs) returns (λ c. search needs) (λ c. (omega arith, c .if2 .left, on (c .before)))
+    returns-2 in
+    tie.close answers

@@ -1,8 +1,6 @@
 -- `gears::second::minimum` meets its contract: each arm of the match is a clause of `minimum-of`.
--- Assumes nothing.
-use Rattle.rules.proofs.Base.{arith, _≡_, sym, _∙_, needs}
+use Rattle.rules.proofs.Offered.{arith, _≡_, sym, _∙_, needs, low}
 use Rattle.rules.specs.declared.Vehicle.{Vehicle}
-use Rattle.rules.specs.Units.{low}
 use Rattle.gears.specs.Parts.{Counts}
 use Rattle.gears.proofs.Speeds.{minimum-one, minimum-two, minimum-above}
 use Rattle.gears.proofs.Parts.{low-of, idle-of, rated-of}
@@ -29,7 +27,7 @@ returns-3 c = (
 
 pub minimum-spec : {M : Type 1} → statement M
 minimum-spec =
-    tie.close
-    (tie.spec (λ c κs. search needs) (λ c κs. search needs) (λ c κs. search needs)
+    let answers = tie.spec (λ c κs. search needs) (λ c κs. search needs) (λ c κs. search needs)
     (λ c. omega (arith, c .lowest .ensures, c .before .before .before .pre .from))
-    (λ c κs. search needs) (λ c. search needs) (λ c. search needs) (λ c. search needs) returns returns-2 returns-3)
+    (λ c κs. search needs) (λ c. search needs) (λ c. search needs) (λ c. search needs) returns returns-2 returns-3 in
+    tie.close answers

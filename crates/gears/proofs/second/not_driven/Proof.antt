@@ -1,11 +1,6 @@
 -- `gears::second::not_driven` meets its contract: one side of the rule for each return.
--- Assumes nothing.
-use Rattle.rules.proofs.Base.{ℕ, _≤_, arith, _≡_, refl, _∙_, false, ltb, lt-ltb, le-ltb, needs}
+use Rattle.rules.proofs.Offered.{ℕ, _≤_, arith, _≡_, refl, _∙_, false, ltb, lt-ltb, le-ltb, needs, _and_, _or_, low, not-driven, clash}
 use Rattle.rules.specs.declared.Vehicle.{Vehicle}
-use Rattle.rules.specs.Words.{_and_, _or_}
-use Rattle.rules.specs.Units.{low}
-use Rattle.rules.specs.Refusals.{not-driven}
-use Rattle.rules.proofs.Laws.Words.{clash}
 use Rattle.gears.proofs.Parts.{low-of, ng-of}
 use Rattle.gears.proofs.second.not_driven.Statement.{statement}
 use Rattle.gears.proofs.second.not_driven.Tie as tie
@@ -14,14 +9,6 @@ use Rattle.gears.proofs.second.not_driven.Tie as tie
 by-lowest : (car : Vehicle) (g : ℕ) → g ≤ car .ng → (g ≡ 0 → ⊥) → ltb g (low car) ≡ not-driven car g
 unfolding not-driven _and_ _or_
 by-lowest car g to some = rw (le-ltb (car .ng) g to, lt-ltb 0 g (omega arith))
-
-returns : tie.Need-returns
-unfolding not-driven _or_
-returns c = (λ e. clash refl e, λ car K. rw (ng-of K, lt-ltb _ _ (c .if1 .taken)))
-
-returns-2 : tie.Need-returns-2
-unfolding not-driven _and_ _or_
-returns-2 c = (λ e. omega arith, λ car K. rw (ng-of K, le-ltb _ _ (c .before .if1 .left), le-ltb 0 (c .before .before .before .args .gear) (omega arith)))
 
 returns-3 : tie.Need-returns-3
 returns-3 c = (
@@ -33,4 +20,8 @@ returns-3 c = (
 )
 
 pub not-driven-spec : {M : Type 1} → statement M
-not-driven-spec = tie.close (tie.spec returns returns-2 (λ c κs. search needs) returns-3)
+unfolding not-driven _or_ _and_
+not-driven-spec =
+    let answers = tie.spec (λ c. (λ e. clash refl e, λ car K. rw (ng-of K, lt-ltb _ _ (c .if1 .taken))))
+    (λ c. (λ e. omega arith, λ car K. rw (ng-of K, le-ltb _ _ (c .before .if1 .left), le-ltb 0 (c .before .before .before .args .gear) (omega arith)))) (λ c κs. search needs) returns-3 in
+    tie.close answers

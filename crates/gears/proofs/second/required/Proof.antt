@@ -1,7 +1,6 @@
 -- `gears::second::required` meets its contract: each product and sum is an expression whose size antt computes.
--- Assumes nothing.
-use Rattle.rules.proofs.Base.{arith, pos, toZ-ofZ, _∙_, needs}
-use Rattle.rules.proofs.Laws.Range.{E, lit, var, is, _⊕_, _⊗_, fits, read, from-i32-fits, small-i32}
+use Rattle.rules.proofs.Offered.{arith, pos, toZ-ofZ, _∙_, needs, E, lit, var, is, _⊕_, _⊗_, read, from-i32-fits, small-i32}
+use Rattle.rules.proofs.Laws.Range.{fits}
 use Rattle.gears.proofs.Parts.{required-of}
 use Rattle.gears.proofs.second.required.Statement.{statement}
 use Rattle.gears.proofs.second.required.Tie as tie
@@ -40,17 +39,13 @@ outer s = lit (pos 9000000) ⊗ f0 s ⊕ mass s ⊕ v s ⊗ inner s
 abbrev power : tie.Start → E
 power s = v s ⊗ outer s
 
-cast-result-3 : tie.Need-cast-result-3
-cast-result-3 c = from-i32-fits (small-i32 (c .before .before .before .before .args .k .f1) (omega (arith, c .before .before .before .before .pre .f1-in)))
-
-mul-result-6 : tie.Need-mul-result-6
-mul-result-6 c = fits (v (c .before .before .before .before .before) ⊗ square (c .before .before .before .before .before)) tt
-
-mul-result-7 : tie.Need-mul-result-7
-mul-result-7 c = fits (v (c .before .before .before .before .before) ⊗ inner (c .before .before .before .before .before)) tt
-
-returns : tie.Need-returns
-returns c = λ car C. let s = c .before .before .before .before .before in read (power s) tt ∙ required-of C (s .args .v) (s .args .d)
-
 pub required-spec : {M : Type 1} → statement M
-required-spec = tie.close (tie.spec (λ c. search needs) (λ c. search needs) (λ c. fits (lit (pos 9000000) ⊗ f0 (c .before)) tt) (λ c. fits (lit (pos 2575000) ⊗ d (c .before)) tt) (λ c. search needs) (λ c. fits (mass (c .before .before)) tt) (λ c. fits (lit (pos 9000000) ⊗ f0 (c .before .before) ⊕ mass (c .before .before)) tt) cast-result-3 (λ c. fits (lit (pos 9000) ⊗ f1 (c .before .before .before .before)) tt) (λ c. search needs) (λ c. fits (square (c .before .before .before .before .before)) tt) mul-result-6 (λ c. fits (inner (c .before .before .before .before .before)) tt) mul-result-7 (λ c. fits (outer (c .before .before .before .before .before)) tt) (λ c. fits (power (c .before .before .before .before .before)) tt) returns)
+required-spec =
+    let answers = tie.spec (λ c. search needs) (λ c. search needs) (λ c. fits (lit (pos 9000000) ⊗ f0 (c .before)) tt) (λ c. fits (lit (pos 2575000) ⊗ d (c .before)) tt) (λ c. search needs)
+    (λ c. fits (mass (c .before .before)) tt) (λ c. fits (lit (pos 9000000) ⊗ f0 (c .before .before) ⊕ mass (c .before .before)) tt)
+    (λ c. from-i32-fits (small-i32 (c .before .before .before .before .args .k .f1) (omega (arith, c .before .before .before .before .pre .f1-in))))
+    (λ c. fits (lit (pos 9000) ⊗ f1 (c .before .before .before .before)) tt) (λ c. search needs) (λ c. fits (square (c .before .before .before .before .before)) tt)
+    (λ c. fits (v (c .before .before .before .before .before) ⊗ square (c .before .before .before .before .before)) tt) (λ c. fits (inner (c .before .before .before .before .before)) tt)
+    (λ c. fits (v (c .before .before .before .before .before) ⊗ inner (c .before .before .before .before .before)) tt) (λ c. fits (outer (c .before .before .before .before .before)) tt)
+    (λ c. fits (power (c .before .before .before .before .before)) tt) (λ c. λ car C. let s = c .before .before .before .before .before in read (power s) tt ∙ required-of C (s .args .v) (s .args .d)) in
+    tie.close answers

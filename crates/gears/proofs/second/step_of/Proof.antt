@@ -1,7 +1,6 @@
 -- `gears::second::step_of` meets its contract: a difference of two numbers of 16 bits fits.
--- Assumes nothing.
-use Rattle.rules.proofs.Base.{arith, pos, needs}
-use Rattle.rules.proofs.Laws.Range.{E, var, _⊖_, fits, read}
+use Rattle.rules.proofs.Offered.{arith, pos, needs, E, var, _⊖_, read}
+use Rattle.rules.proofs.Laws.Range.{fits}
 use Rattle.gears.proofs.second.step_of.Statement.{statement}
 use Rattle.gears.proofs.second.step_of.Tie as tie
 
@@ -12,4 +11,4 @@ abbrev next : tie.Start → E
 next c = var (pos (c .args .next)) 65535 (omega arith)
 
 pub step-of-spec : {M : Type 1} → statement M
-step-of-spec = tie.close (tie.spec (λ c. search needs) (λ c. search needs) (λ c. fits (next c ⊖ this c) tt) (λ c. read (next c ⊖ this c) tt))
+step-of-spec = let answers = tie.spec (λ c. search needs) (λ c. search needs) (λ c. fits (next c ⊖ this c) tt) (λ c. read (next c ⊖ this c) tt) in tie.close answers

@@ -1,8 +1,7 @@
 -- `reading::Group::came` meets its contract: in each arm the case is known.
--- Assumes nothing.
 use borrow.Author.Needs.{needs}
 use Rattle.reading.proofs.Group.came.Statement.{statement}
 use Rattle.reading.proofs.Group.came.Tie as tie
 
 pub came-spec : {M : Type 1} → statement M
-came-spec = tie.close (tie.spec (λ c. search needs) (λ c. search needs) (λ c. rw (c .before .self .given .1)) (λ c. rw (c .before .self2 .given .1)))
+came-spec = let answers = tie.spec (λ c. search needs) (λ c. search needs) (λ c. rw (c .before .self .given .1)) (λ c. rw (c .before .self2 .given .1)) in tie.close answers

@@ -1,7 +1,5 @@
 -- `reading::calm::end_of` meets its contract. The loop's invariant: the groups that are left, and those that ended so far, are what was asked.
--- Assumes nothing.
-use Rattle.rules.proofs.Base.{_+_, _-_, _≤_, _<_, arith, _≡_, length, needs}
-use Rattle.rules.specs.Words.{at}
+use Rattle.rules.proofs.Offered.{_+_, _-_, _≤_, _<_, arith, _≡_, length, needs, at}
 use Rattle.reading.specs.Calm.{ended}
 use Rattle.reading.proofs.Calmness.{few, ended-none, ended-both, all-last}
 use Rattle.reading.proofs.calm.end_of.Statement.{statement}
@@ -45,7 +43,7 @@ returns-2 c = λ h.
 
 pub end-of-spec : {M : Type 1} → statement M
 end-of-spec =
-    tie.close
-    (tie.spec Inv-loop μ-loop loop-holds (λ c. search needs) (λ c. λ h. absurd (omega (arith, h))) (λ c. search needs)
-    (λ c κs. (omega arith, omega arith, omega arith)) (λ c. search needs) sub-left (λ c. search needs) loop-again
-    returns-2)
+    let answers = tie.spec Inv-loop μ-loop loop-holds (λ c. search needs) (λ c. λ h. absurd (omega (arith, h))) (λ c. search needs)
+    (λ c κs. omega arith) (λ c. search needs) sub-left (λ c. search needs) loop-again
+    returns-2 in
+    tie.close answers

@@ -1,7 +1,5 @@
 -- `reading::calm::lasts` meets its contract. The loop's invariant: so many of the bytes so far are last ones.
--- Assumes nothing.
-use Rattle.rules.proofs.Base.{_-_, _≤_, arith, _≡_, sym, needs}
-use Rattle.rules.specs.Words.{at}
+use Rattle.rules.proofs.Offered.{_-_, _≤_, arith, _≡_, sym, needs, at}
 use Rattle.reading.specs.Calm.{ended}
 use Rattle.reading.proofs.Calmness.{last-few, few, ended-none, ended-more}
 use Rattle.reading.proofs.calm.lasts.Statement.{statement}
@@ -23,7 +21,7 @@ loop-again : tie.Need-loop-again Inv-loop μ-loop
 loop-again c =
     let s = c .before .before .before .before .before in
     let l = c .before .before .before .loop in
-    (omega arith, omega arith, omega (arith, ended-more (s .args .job .now) (s .args .lo) (l .i) (l .inv .0), c .last .ensures, l .inv .2))
+    omega (arith, ended-more (s .args .job .now) (s .args .lo) (l .i) (l .inv .0), c .last .ensures, l .inv .2)
 
 returns : tie.Need-returns Inv-loop μ-loop
 returns c =
@@ -33,6 +31,6 @@ returns c =
 
 pub lasts-spec : {M : Type 1} → statement M
 lasts-spec =
-    tie.close
-    (tie.spec Inv-loop μ-loop (λ c. let s = c .before in (omega arith, s .pre .0, sym (ended-none (s .args .job .now) (s .args .lo)))) (λ c. search needs) (λ c κs. search needs) add-count (λ c. search needs)
-    (λ c. search needs) loop-again returns)
+    let answers = tie.spec Inv-loop μ-loop (λ c. let s = c .before in (omega arith, s .pre .0, sym (ended-none (s .args .job .now) (s .args .lo)))) (λ c. search needs) (λ c κs. search needs) add-count (λ c. search needs)
+    (λ c. search needs) loop-again returns in
+    tie.close answers

@@ -1,6 +1,5 @@
 -- `reading::calm::odd` meets its contract: the smaller of two is from 128 on where both are.
--- Assumes nothing.
-use Rattle.rules.proofs.Base.{arith, needs}
+use Rattle.rules.proofs.Offered.{arith, needs}
 use Rattle.reading.proofs.calm.odd.Statement.{statement}
 use Rattle.reading.proofs.calm.odd.Tie as tie
 
@@ -13,5 +12,5 @@ returns c =
 
 pub odd-spec : {M : Type 1} → statement M
 odd-spec =
-    tie.close
-    (tie.spec (λ c κs. search needs) (λ c κs. search needs) (λ c κs. search needs) (λ c κs. search needs) (λ c κs. search needs) returns)
+    let answers = tie.spec (λ c κs. search needs) (λ c κs. search needs) (λ c κs. search needs) (λ c κs. search needs) (λ c κs. search needs) returns in
+    tie.close answers

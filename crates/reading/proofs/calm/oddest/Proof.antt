@@ -1,6 +1,5 @@
 -- `reading::calm::oddest` meets its contract. The loop's invariant: below 128, nothing is wrong with the bytes so far.
--- Assumes nothing.
-use Rattle.rules.proofs.Base.{_-_, _≤_, _<_, arith, needs}
+use Rattle.rules.proofs.Offered.{_-_, _≤_, _<_, arith, needs}
 use Rattle.reading.specs.Calm.{Calm}
 use Rattle.reading.proofs.Calmness.{calm-more, fine-of}
 use Rattle.reading.proofs.calm.oddest.Statement.{statement}
@@ -22,9 +21,9 @@ loop-again c =
 
 pub oddest-spec : {M : Type 1} → statement M
 oddest-spec =
-    tie.close
-    (tie.spec Inv-loop μ-loop
+    let answers = tie.spec Inv-loop μ-loop
     (λ c. (omega arith, c .before .pre .0, λ h j a b. absurd (omega (arith, a, b))))
     (λ c. search needs) (λ c. search needs) (λ c. search needs) (λ c. search needs) (λ c. search needs)
     (λ c κs. search needs) (λ c κs. search needs) (λ c. search needs) (λ c. search needs) loop-again
-    (λ c. λ h j a b. c .before .loop .inv .2 h j a (omega (arith, b))))
+    (λ c. λ h j a b. c .before .loop .inv .2 h j a (omega (arith, b))) in
+    tie.close answers

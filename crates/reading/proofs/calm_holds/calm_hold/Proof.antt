@@ -1,9 +1,5 @@
 -- `reading::calm_holds::calm_hold` meets its contract: the second is a group of one byte or two.
--- Assumes nothing.
-use Rattle.rules.proofs.Base.{_+_, _<_, arith, sym, needs}
-use Rattle.rules.specs.Words.{at}
-use Rattle.rules.proofs.Laws.Reading.{one, two}
-use Rattle.reading.proofs.Steps.{of₃, of₅}
+use Rattle.rules.proofs.Offered.{_+_, _<_, arith, sym, needs, at, one, two, of₃, of₅}
 use Rattle.reading.proofs.GroupAnswers.{two-is}
 use Rattle.reading.proofs.Calmness.{follows-held}
 use Rattle.reading.proofs.calm_holds.calm_hold.Statement.{statement}
@@ -27,4 +23,7 @@ returns-5 c = λ e.
     (rw (c .before .before .before .before .byte-at .ensures .is, c .before .before .byte-at2 .ensures .is, of₃ (two-is (at job i) (at job (i + 1))) (omega arith)) (sym (of₅ (two job i) (omega arith)))) f
 
 pub calm-hold-spec : {M : Type 1} → statement M
-calm-hold-spec = tie.close (tie.spec (λ c. λ e. absurd (omega (arith, e))) (λ c. λ e. absurd (omega (arith, e))) (λ c κs. search needs) (λ c. search needs) (λ c κs. search needs) returns-3 (λ c. search needs) (λ c κs. search needs) (λ c. λ e. absurd (omega (arith, e))) (λ c. search needs) (λ c. search needs) (λ c. search needs) (λ c. search needs) (λ c κs. search needs) returns-5)
+calm-hold-spec =
+    let answers = tie.spec (λ c. λ e. absurd (omega (arith, e))) (λ c. λ e. absurd (omega (arith, e))) (λ c κs. search needs) (λ c. search needs) (λ c κs. search needs) returns-3 (λ c. search needs)
+    (λ c κs. search needs) (λ c. λ e. absurd (omega (arith, e))) (λ c. search needs) (λ c. search needs) (λ c. search needs) (λ c. search needs) (λ c κs. search needs) returns-5 in
+    tie.close answers

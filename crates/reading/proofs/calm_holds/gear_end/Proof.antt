@@ -1,8 +1,5 @@
 -- `reading::calm_holds::gear_end` meets its contract: one law of a group for each way through it.
--- Assumes nothing.
-use Rattle.rules.proofs.Base.{arith, _≡_, sym, needs}
-use Rattle.rules.specs.Words.{at}
-use Rattle.rules.proofs.Laws.Reading.{two-of, one, two}
+use Rattle.rules.proofs.Offered.{arith, _≡_, sym, needs, at, two-of, one, two, of₅}
 use Rattle.reading.proofs.GroupAnswers.{bounded-gives}
 use Rattle.reading.proofs.calm_holds.gear_end.Statement.{statement}
 use Rattle.reading.proofs.calm_holds.gear_end.Tie as tie
@@ -21,9 +18,9 @@ returns-4 c = λ e spot.
     let i = s .args .place in
     let a = c .before .before .before .before .shared-slice-known .given i in
     let v : two-of job i ≡ at job i = omega (arith, a) in
-    bounded-gives job 1 255 15 spot i (rw v at (sym (two job i (omega arith) (omega arith) (omega arith) (omega arith) (omega arith)))) (omega arith) (omega (arith, a))
+    bounded-gives job 1 255 15 spot i (rw v at (sym (of₅ (two job i) (omega arith)))) (omega arith) (omega (arith, a))
 
 pub gear-end-spec : {M : Type 1} → statement M
 gear-end-spec =
-    tie.close
-    (tie.spec (λ c. search needs) (λ c. λ e. absurd (omega (arith, e))) (λ c. search needs) returns-2 (λ c. search needs) (λ c. search needs) (λ c. λ e. absurd (omega (arith, e))) (λ c. search needs) returns-4)
+    let answers = tie.spec (λ c. search needs) (λ c. λ e. absurd (omega (arith, e))) (λ c. search needs) returns-2 (λ c. search needs) (λ c. search needs) (λ c. λ e. absurd (omega (arith, e))) (λ c. search needs) returns-4 in
+    tie.close answers

@@ -1,7 +1,5 @@
 -- `reading::groups::bounded` meets its contract: one law for each `return`.
--- Assumes nothing.
-use Rattle.rules.proofs.Base.{arith, needs}
-use Rattle.rules.specs.Refusals.{fault}
+use Rattle.rules.proofs.Offered.{arith, needs, fault}
 use Rattle.reading.proofs.GroupAnswers.{bounded-stops, bounded-refuses, bounded-gives}
 use Rattle.reading.proofs.groups.bounded.Statement.{statement}
 use Rattle.reading.proofs.groups.bounded.Tie as tie
@@ -36,5 +34,5 @@ returns-4 c =
 
 pub bounded-spec : {M : Type 1} → statement M
 bounded-spec =
-    tie.close
-    (tie.spec (λ c κs. search needs) (λ c. search needs) (λ c. search needs) returns returns-2 returns-3 returns-4)
+    let answers = tie.spec (λ c κs. search needs) (λ c. search needs) (λ c. search needs) returns returns-2 returns-3 returns-4 in
+    tie.close answers

@@ -1,7 +1,5 @@
 -- `reading::groups::fill` meets its contract. The loop's invariant: the groups that are left, put after those that are read, are what was asked.
--- Assumes nothing.
-use Rattle.rules.proofs.Base.{_≤_, _-_, add-one, arith, _≡_, refl, length, length-set, sets, needs}
-use Rattle.rules.specs.Forms.{value, many}
+use Rattle.rules.proofs.Offered.{_≤_, _-_, add-one, arith, _≡_, refl, length, length-set, sets, needs, value, many}
 use Rattle.reading.specs.Progress.{used}
 use Rattle.reading.proofs.Loops.{Many, many-begins, ends, value-stops, value-again}
 use Rattle.reading.proofs.groups.fill.Statement.{statement}
@@ -28,8 +26,8 @@ loop-again c =
 
 pub fill-spec : {M : Type 1} → statement M
 fill-spec =
-    tie.close
-    (tie.spec Inv-loop μ-loop (λ c. (omega arith, refl, many-begins _ _ _ _ _)) (λ c κs. search needs)
+    let answers = tie.spec Inv-loop μ-loop (λ c. (omega arith, refl, many-begins _ _ _ _ _)) (λ c κs. search needs)
     (λ c. search needs) (λ c. search needs) (λ c κs. search needs) (λ c. search needs) returns (λ c. search needs)
     (λ c. search needs) (λ c. search needs) (λ c. search needs) loop-again (λ c. search needs)
-    (λ c. ends (c .before .loop .inv .2) (omega arith)))
+    (λ c. ends (c .before .loop .inv .2) (omega arith)) in
+    tie.close answers

@@ -1,9 +1,5 @@
 -- `reading::groups::group_at` meets its contract: at each `return` one law of `group` says what the tests that led there come to.
--- Assumes nothing.
-use Rattle.rules.proofs.Base.{arith, sym, needs}
-use Rattle.rules.proofs.Laws.Reading.{ends-first, one, ends-second, two, two-bad, ends-third, three, three-bad}
-use Rattle.rules.specs.Groups.{early}
-use Rattle.reading.proofs.Steps.{of₃, of₄, of₅, of₈}
+use Rattle.rules.proofs.Offered.{arith, sym, needs, ends-first, one, ends-second, two, two-bad, ends-third, three, three-bad, early, of₃, of₄, of₅, of₈}
 use Rattle.reading.proofs.groups.group_at.Statement.{statement}
 use Rattle.reading.proofs.groups.group_at.Tie as tie
 
@@ -24,4 +20,11 @@ returns-9 c = let s = c .before .before .before .before .before .before .before 
 
 pub group-at-spec : {M : Type 1} → statement M
 unfolding early
-group-at-spec = tie.close (tie.spec (λ c. let s = c .before .before in sym (ends-first (s .args .job .now) (s .args .at) (omega arith))) (λ c κs. search needs) (λ c. search needs) (λ c. search needs) returns-2 (λ c. search needs) (λ c. let s = c .before .before .before .before .before in sym (of₃ (ends-second (s .args .job .now) (s .args .at)) (omega arith))) (λ c. search needs) (λ c κs. search needs) (λ c. search needs) (λ c. search needs) (λ c. let s = c .before .before .before .before .before .before .before .before in sym (of₄ (two-bad (s .args .job .now) (s .args .at)) (omega arith))) (λ c. search needs) (λ c. search needs) returns-5 (λ c. search needs) (λ c. let s = c .before .before .before .before .before .before .before .before in sym (of₅ (ends-third (s .args .job .now) (s .args .at)) (omega arith))) (λ c. search needs) (λ c κs. search needs) (λ c. search needs) (λ c. search needs) returns-7 returns-8 (λ c. search needs) (λ c. search needs) returns-9)
+group-at-spec =
+    let answers = tie.spec (λ c. let s = c .before .before in sym (ends-first (s .args .job .now) (s .args .at) (omega arith))) (λ c κs. search needs) (λ c. search needs) (λ c. search needs) returns-2
+    (λ c. search needs) (λ c. let s = c .before .before .before .before .before in sym (of₃ (ends-second (s .args .job .now) (s .args .at)) (omega arith))) (λ c. search needs) (λ c κs. search needs)
+    (λ c. search needs) (λ c. search needs) (λ c. let s = c .before .before .before .before .before .before .before .before in sym (of₄ (two-bad (s .args .job .now) (s .args .at)) (omega arith)))
+    (λ c. search needs) (λ c. search needs) returns-5 (λ c. search needs)
+    (λ c. let s = c .before .before .before .before .before .before .before .before in sym (of₅ (ends-third (s .args .job .now) (s .args .at)) (omega arith))) (λ c. search needs)
+    (λ c κs. search needs) (λ c. search needs) (λ c. search needs) returns-7 returns-8 (λ c. search needs) (λ c. search needs) returns-9 in
+    tie.close answers

@@ -1,8 +1,7 @@
 -- `reading::groups::judge_speeds` meets its contract: what the bytes show is what is judged.
--- Assumes nothing.
-use Rattle.rules.proofs.Base.{arith, needs}
+use Rattle.rules.proofs.Offered.{arith, needs}
 use Rattle.reading.proofs.groups.judge_speeds.Statement.{statement}
 use Rattle.reading.proofs.groups.judge_speeds.Tie as tie
 
 pub judge-speeds-spec : {M : Type 1} → statement M
-judge-speeds-spec = tie.close (tie.spec (λ c κs. search needs) (λ c κs. search needs) (λ c. search needs) (λ c. c .before .calm-end .ensures (omega arith)))
+judge-speeds-spec = let answers = tie.spec (λ c κs. search needs) (λ c κs. search needs) (λ c. search needs) (λ c. c .before .calm-end .ensures (omega arith)) in tie.close answers

@@ -1,7 +1,5 @@
 -- `reading::groups::put_speeds` meets its contract. The loop's invariant: the groups that are left, put after those that are read, are what was asked.
--- Assumes nothing.
-use Rattle.rules.proofs.Base.{_≤_, _-_, add-one, arith, _≡_, refl, length, length-set, sets, needs}
-use Rattle.rules.specs.Forms.{value, many}
+use Rattle.rules.proofs.Offered.{_≤_, _-_, add-one, arith, _≡_, refl, length, length-set, sets, needs, value, many}
 use Rattle.reading.specs.Progress.{used}
 use Rattle.reading.proofs.Loops.{Many, many-begins, used-comes, value-comes, ends, value-again, filled-all}
 use Rattle.reading.proofs.groups.put_speeds.Statement.{statement}
@@ -30,6 +28,6 @@ returns c =
 
 pub put-speeds-spec : {M : Type 1} → statement M
 put-speeds-spec =
-    tie.close
-    (tie.spec Inv-loop μ-loop (λ c. (omega arith, refl, many-begins _ _ _ _ _)) value-at-requires (λ c. search needs)
-    (λ c. search needs) (λ c. search needs) (λ c. search needs) loop-again (λ c. search needs) returns)
+    let answers = tie.spec Inv-loop μ-loop (λ c. (omega arith, refl, many-begins _ _ _ _ _)) value-at-requires (λ c. search needs)
+    (λ c. search needs) (λ c. search needs) (λ c. search needs) loop-again (λ c. search needs) returns in
+    tie.close answers

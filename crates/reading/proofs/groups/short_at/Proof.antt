@@ -1,9 +1,5 @@
 -- `reading::groups::short_at` meets its contract: the group comes in one byte or two, and one law of `group` says at each `return` what they come to.
--- Assumes nothing.
-use Rattle.rules.proofs.Base.{_+_, arith, sym, needs}
-use Rattle.rules.specs.Words.{at}
-use Rattle.rules.proofs.Laws.Reading.{one, two}
-use Rattle.reading.proofs.Steps.{of₃, of₅}
+use Rattle.rules.proofs.Offered.{_+_, arith, sym, needs, at, one, two, of₃, of₅}
 use Rattle.reading.proofs.GroupAnswers.{first-there, second-there, second-some, short-last, two-is}
 use Rattle.reading.proofs.groups.short_at.Statement.{statement}
 use Rattle.reading.proofs.groups.short_at.Tie as tie
@@ -17,4 +13,9 @@ returns-2 c =
     rw (c .before .before .byte-at .ensures .is, c .byte-at2 .ensures .is, of₃ (two-is (at job i) (at job (i + 1))) (omega (arith, b))) (sym (of₅ (two job i) (omega (arith, b, second-some job i (s .pre .there) (omega arith)))))
 
 pub short-at-spec : {M : Type 1} → statement M
-short-at-spec = tie.close (tie.spec (λ c κs. let s = c .before in first-there (s .args .job .now) (s .args .at) (s .pre .there)) (λ c. search needs) (λ c. let s = c .before .before .before in rw (c .before .byte-at .ensures .is) (sym (one (s .args .job .now) (s .args .at) (omega arith) (omega arith)))) (λ c. search needs) (λ c κs. let s = c .before .before .before in second-there (s .args .job .now) (s .args .at) (s .pre .there) (omega arith)) (λ c. search needs) (λ c. search needs) (λ c. search needs) (λ c. search needs) returns-2)
+short-at-spec =
+    let answers = tie.spec (λ c κs. let s = c .before in first-there (s .args .job .now) (s .args .at) (s .pre .there)) (λ c. search needs)
+    (λ c. let s = c .before .before .before in rw (c .before .byte-at .ensures .is) (sym (one (s .args .job .now) (s .args .at) (omega arith) (omega arith)))) (λ c. search needs)
+    (λ c κs. let s = c .before .before .before in second-there (s .args .job .now) (s .args .at) (s .pre .there) (omega arith)) (λ c. search needs) (λ c. search needs) (λ c. search needs)
+    (λ c. search needs) returns-2 in
+    tie.close answers

@@ -1,7 +1,5 @@
 -- `reading::groups::skip` meets its contract. The loop's invariant: judging the groups that are left is what was asked.
--- Assumes nothing.
-use Rattle.rules.proofs.Base.{_≤_, _-_, arith, true, needs}
-use Rattle.rules.specs.Forms.{value, many}
+use Rattle.rules.proofs.Offered.{_≤_, _-_, arith, true, needs, value, many}
 use Rattle.reading.specs.Progress.{used}
 use Rattle.reading.proofs.Loops.{Many, many-begins, ends, value-stops, value-again}
 use Rattle.reading.proofs.groups.skip.Statement.{statement}
@@ -28,7 +26,7 @@ loop-again c =
 
 pub skip-spec : {M : Type 1} → statement M
 skip-spec =
-    tie.close
-    (tie.spec Inv-loop μ-loop (λ c. (omega arith, many-begins _ _ _ _ _)) (λ c κs. search needs) (λ c. search needs)
+    let answers = tie.spec Inv-loop μ-loop (λ c. (omega arith, many-begins _ _ _ _ _)) (λ c κs. search needs) (λ c. search needs)
     (λ c. search needs) (λ c κs. search needs) returns (λ c. search needs) (λ c. search needs) loop-again
-    (λ c. ends (c .before .loop .inv .1) (omega arith)))
+    (λ c. ends (c .before .loop .inv .1) (omega arith)) in
+    tie.close answers

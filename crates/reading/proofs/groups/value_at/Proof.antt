@@ -1,9 +1,5 @@
 -- `reading::groups::value_at` meets its contract: the group comes, so its bytes are there, and one law of `group` says at each `return` what they come to.
--- Assumes nothing.
-use Rattle.rules.proofs.Base.{_+_, _≤_, arith, sym, needs}
-use Rattle.rules.specs.Words.{at}
-use Rattle.rules.proofs.Laws.Reading.{one, two, three}
-use Rattle.reading.proofs.Steps.{of₃, of₄, of₅, of₈}
+use Rattle.rules.proofs.Offered.{_+_, _≤_, arith, sym, needs, at, one, two, three, of₃, of₄, of₅, of₈}
 use Rattle.reading.proofs.GroupAnswers.{first-there, second-there, second-some, third-there, third-last, third-some, three-fits, two-is, three-is}
 use Rattle.reading.proofs.groups.value_at.Statement.{statement}
 use Rattle.reading.proofs.groups.value_at.Tie as tie
@@ -29,4 +25,10 @@ returns-3 c =
     (sym (of₈ (three job i) (omega (arith, third-last job i (s .pre) a b, third-some job i (s .pre) a b, three-fits job i (s .pre) a b))))
 
 pub value-at-spec : {M : Type 1} → statement M
-value-at-spec = tie.close (tie.spec (λ c κs. let s = c .before in first-there (s .args .job .now) (s .args .at) (s .pre)) (λ c. search needs) (λ c. search needs) (λ c. let s = c .before .before .before in rw (c .before .byte-at .ensures .is) (sym (one (s .args .job .now) (s .args .at) (omega arith) (omega arith)))) (λ c. search needs) (λ c κs. let s = c .before .before .before in second-there (s .args .job .now) (s .args .at) (s .pre) (omega arith)) (λ c. search needs) (λ c. search needs) (λ c. search needs) (λ c. search needs) (λ c. search needs) returns-2 (λ c. search needs) (λ c κs. let s = c .before .before .before .before .before in third-there (s .args .job .now) (s .args .at) (s .pre) (omega arith) (omega arith)) (λ c. search needs) (λ c. search needs) (λ c. search needs) (λ c. search needs) (λ c. search needs) cast-t18 (λ c. search needs) returns-3)
+value-at-spec =
+    let answers = tie.spec (λ c κs. let s = c .before in first-there (s .args .job .now) (s .args .at) (s .pre)) (λ c. search needs) (λ c. search needs)
+    (λ c. let s = c .before .before .before in rw (c .before .byte-at .ensures .is) (sym (one (s .args .job .now) (s .args .at) (omega arith) (omega arith)))) (λ c. search needs)
+    (λ c κs. let s = c .before .before .before in second-there (s .args .job .now) (s .args .at) (s .pre) (omega arith)) (λ c. search needs) (λ c. search needs) (λ c. search needs) (λ c. search needs)
+    (λ c. search needs) returns-2 (λ c. search needs) (λ c κs. let s = c .before .before .before .before .before in third-there (s .args .job .now) (s .args .at) (s .pre) (omega arith) (omega arith))
+    (λ c. search needs) (λ c. search needs) (λ c. search needs) (λ c. search needs) (λ c. search needs) cast-t18 (λ c. search needs) returns-3 in
+    tie.close answers

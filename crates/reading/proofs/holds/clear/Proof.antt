@@ -1,6 +1,5 @@
 -- `reading::holds::clear` meets its contract. The loop's invariant: the places before i are 0, the others as they were.
--- Assumes nothing.
-use Rattle.rules.proofs.Base.{ℕ, _≤_, _-_, arith, List, _++_, append-nil, _≡_, refl, _∙_, ap, length-set, length, replicate, drop, set, drop-length, fill-more, needs}
+use Rattle.rules.proofs.Offered.{ℕ, _≤_, _-_, arith, List, _++_, append-nil, _≡_, refl, _∙_, ap, length-set, length, replicate, drop, set, drop-length, fill-more, needs}
 use Rattle.reading.proofs.holds.clear.Statement.{statement}
 use Rattle.reading.proofs.holds.clear.Tie as tie
 
@@ -20,6 +19,6 @@ returns c =
 
 pub clear-spec : {M : Type 1} → statement M
 clear-spec =
-    tie.close
-    (tie.spec Inv-loop μ-loop (λ c. (omega arith, refl, refl)) (λ c. search needs) (λ c. search needs)
-    (λ c. search needs) loop-again (λ c. search needs) returns)
+    let answers = tie.spec Inv-loop μ-loop (λ c. (omega arith, refl, refl)) (λ c. search needs) (λ c. search needs)
+    (λ c. search needs) loop-again (λ c. search needs) returns in
+    tie.close answers

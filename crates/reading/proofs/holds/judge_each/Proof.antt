@@ -1,6 +1,5 @@
 -- `reading::holds::judge_each` meets its contract. The loop's invariant: judging the holds that are left is what was asked.
--- Assumes nothing.
-use Rattle.rules.proofs.Base.{_≤_, _-_, add-one, arith, true, needs}
+use Rattle.rules.proofs.Offered.{_≤_, _-_, add-one, arith, true, needs}
 use Rattle.reading.specs.Progress.{holds-from, used}
 use Rattle.reading.proofs.GroupAnswers.{bounded-in, second-stops, gear-stops, hold-gives}
 use Rattle.reading.proofs.Loops.{Holds, holds-begin, ends, stops, again}
@@ -50,8 +49,8 @@ loop-again c =
 
 pub judge-each-spec : {M : Type 1} → statement M
 judge-each-spec =
-    tie.close
-    (tie.spec Inv-loop μ-loop (λ c. search needs) (λ c. (omega arith, holds-begin _ _ _ _ _ _)) (λ c κs. search needs)
+    let answers = tie.spec Inv-loop μ-loop (λ c. search needs) (λ c. (omega arith, holds-begin _ _ _ _ _ _)) (λ c κs. search needs)
     (λ c. search needs) (λ c. search needs) (λ c κs. search needs) returns (λ c κs. search needs) (λ c. search needs)
     (λ c. search needs) (λ c κs. search needs) returns-2 add-next (λ c. search needs) (λ c. search needs) loop-again
-    (λ c. ends (c .before .loop .inv .1) (omega arith)))
+    (λ c. ends (c .before .loop .inv .1) (omega arith)) in
+    tie.close answers

@@ -1,6 +1,5 @@
 -- `reading::holds::judge_holds` meets its contract. The loop's invariant: judging the holds that are left is what was asked.
--- Assumes nothing.
-use Rattle.rules.proofs.Base.{_≤_, _-_, add-one, arith, _∙_, true, needs}
+use Rattle.rules.proofs.Offered.{_≤_, _-_, add-one, arith, _∙_, true, needs}
 use Rattle.reading.specs.Progress.{hold-row, used}
 use Rattle.reading.proofs.Loops.{Holds, holds-begin, holds-left, ends, again}
 use Rattle.reading.proofs.holds.judge_holds.Statement.{statement}
@@ -26,10 +25,10 @@ loop-again c =
 
 pub judge-holds-spec : {M : Type 1} → statement M
 judge-holds-spec =
-    tie.close
-    (tie.spec Inv-loop μ-loop
+    let answers = tie.spec Inv-loop μ-loop
     (λ c. (omega arith, omega arith, holds-begin _ _ _ _ _ _))
     (λ c κs. search needs) (λ c. search needs) (λ c. search needs) (λ c κs. search needs) returns
     (λ c. omega (arith, c .before .before .before .calm-hold .ensures (omega arith) .below))
     (λ c. search needs) (λ c. search needs) loop-again
-    (λ c. ends (c .before .loop .inv .2) (omega arith)))
+    (λ c. ends (c .before .loop .inv .2) (omega arith)) in
+    tie.close answers

@@ -1,7 +1,5 @@
 -- `reading::holds::put_holds` meets its contract. The loop's invariant: reading the holds that are left into the room as it stands is what was asked.
--- Assumes nothing.
-use Rattle.rules.proofs.Base.{_≤_, _-_, arith, _≡_, refl, length, length-set, length-replicate, needs}
-use Rattle.rules.specs.Job.{put}
+use Rattle.rules.proofs.Offered.{_≤_, _-_, arith, _≡_, refl, length, length-set, length-replicate, needs, put}
 use Rattle.reading.specs.Progress.{hold-row, used}
 use Rattle.reading.proofs.Loops.{Putting, put-begins, put-ends, put-short, gear-there, gear-ends, second-fits, put-again}
 use Rattle.reading.proofs.holds.put_holds.Statement.{statement}
@@ -42,8 +40,8 @@ loop-again c =
 
 pub put-holds-spec : {M : Type 1} → statement M
 put-holds-spec =
-    tie.close
-    (tie.spec Inv-loop μ-loop (λ c κs. search needs) loop-holds (λ c κs. put-short (c .before .loop .inv .2) (omega arith))
+    let answers = tie.spec Inv-loop μ-loop (λ c κs. search needs) loop-holds (λ c κs. put-short (c .before .loop .inv .2) (omega arith))
     (λ c. gear-there (c .before .before .before .loop .inv .2) (omega arith) (c .before .short-at .ensures)) slice-write-room add-place
     (λ c. omega (arith, c .shared-slice-known2 .given (c .before .short-at .result .next)))
-    add-place-2 (λ c. search needs) (λ c. search needs) loop-again (λ c. search needs) (λ c. rw (c .before .before .before .before .clear .ensures, length-replicate) at (put-ends (c .before .loop .inv .2) (omega arith))))
+    add-place-2 (λ c. search needs) (λ c. search needs) loop-again (λ c. search needs) (λ c. rw (c .before .before .before .before .clear .ensures, length-replicate) at (put-ends (c .before .loop .inv .2) (omega arith))) in
+    tie.close answers

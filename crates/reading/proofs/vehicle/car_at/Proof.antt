@@ -1,5 +1,4 @@
 -- `reading::vehicle::car_at` meets its contract: one law for each `return`.
--- Assumes nothing.
 use borrow.Author.Needs.{needs}
 use Rattle.reading.proofs.StageAnswers.{profile-in, version-stops, profile-stops, gears-stop, numbers-stop, car-on}
 use Rattle.reading.proofs.vehicle.car_at.Statement.{statement}
@@ -70,9 +69,9 @@ returns-5 c =
 
 pub car-at-spec : {M : Type 1} → statement M
 car-at-spec =
-    tie.close
-    (tie.spec (λ c κs. search needs) (λ c. search needs) (λ c. search needs) (λ c κs. search needs)
+    let answers = tie.spec (λ c κs. search needs) (λ c. search needs) (λ c. search needs) (λ c κs. search needs)
     (λ c κs. search needs) returns (λ c κs. search needs) (λ c. search needs) (λ c. search needs) (λ c κs. search needs)
     (λ c κs. search needs) returns-2 gearbox-at-requires (λ c. search needs) (λ c. search needs) (λ c κs. search needs)
     returns-3 (λ c. search needs) (λ c κs. search needs) (λ c. search needs) (λ c. search needs) (λ c κs. search needs)
-    returns-4 (λ c κs. search needs) (λ c κs. search needs) returns-5)
+    returns-4 (λ c κs. search needs) (λ c κs. search needs) returns-5 in
+    tie.close answers

@@ -1,6 +1,5 @@
 -- `reading::vehicle::curve_at` meets its contract: one law for each `return`.
--- Assumes nothing.
-use Rattle.rules.proofs.Base.{arith, needs}
+use Rattle.rules.proofs.Offered.{arith, needs}
 use Rattle.reading.proofs.GroupAnswers.{bounded-in}
 use Rattle.reading.proofs.StageAnswers.{curve-stops, curve-on}
 use Rattle.reading.proofs.vehicle.curve_at.Statement.{statement}
@@ -18,7 +17,7 @@ fill-points-requires c κs =
     let c₁ = c .before .before .before .before in
     let c₂ = c₁ .before .before in
     let s = c₂ .before .before in
-    let b = bounded-in (s .args .job .now) 2 64 3 11 (s .args .at) (rw (c₁ .count .given .1) at (c₂ .bounded .ensures)) in (omega arith, omega arith, omega arith)
+    let b = bounded-in (s .args .job .now) 2 64 3 11 (s .args .at) (rw (c₁ .count .given .1) at (c₂ .bounded .ensures)) in omega arith
 
 returns-2 : tie.Need-returns-2
 returns-2 c =
@@ -31,6 +30,6 @@ returns-2 c =
 
 pub curve-at-spec : {M : Type 1} → statement M
 curve-at-spec =
-    tie.close
-    (tie.spec (λ c κs. search needs) (λ c. search needs) (λ c. search needs) (λ c κs. search needs) returns
-    (λ c. search needs) (λ c. search needs) (λ c. search needs) (λ c. search needs) fill-points-requires returns-2)
+    let answers = tie.spec (λ c κs. search needs) (λ c. search needs) (λ c. search needs) (λ c κs. search needs) returns
+    (λ c. search needs) (λ c. search needs) (λ c. search needs) (λ c. search needs) fill-points-requires returns-2 in
+    tie.close answers

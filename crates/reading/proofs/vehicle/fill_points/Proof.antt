@@ -1,8 +1,5 @@
 -- `reading::vehicle::fill_points` meets its contract. The loop's invariant: the points that are left, put after those that are read, are what was asked.
--- Assumes nothing.
-use Rattle.rules.proofs.Base.{_≤_, _-_, arith, add-one, _≡_, refl, length, length-set, needs}
-use Rattle.rules.specs.Forms.{many}
-use Rattle.rules.specs.Job.{point}
+use Rattle.rules.proofs.Offered.{_≤_, _-_, arith, add-one, _≡_, refl, length, length-set, needs, many, point}
 use Rattle.reading.specs.Progress.{used, into}
 use Rattle.reading.proofs.GroupAnswers.{n-stops, p-stops, m-stops, point-gives}
 use Rattle.reading.proofs.Loops.{Many, many-begins, ends, stops, again}
@@ -55,8 +52,7 @@ loop-again c =
 
 pub fill-points-spec : {M : Type 1} → statement M
 fill-points-spec =
-    tie.close
-    (tie.spec Inv-loop μ-loop
+    let answers = tie.spec Inv-loop μ-loop
     (λ c. (omega arith, refl, refl, refl, many-begins _ _ _ _ _))
     (λ c κs. search needs) (λ c. search needs) (λ c. search needs) (λ c κs. search needs) (λ c. search needs)
     (λ c. search needs) (λ c. search needs) returns (λ c κs. search needs) (λ c. search needs) (λ c. search needs)
@@ -65,4 +61,5 @@ fill-points-spec =
     (λ c. search needs) returns-3 (λ c. search needs) (λ c. search needs) (λ c. search needs) (λ c. search needs)
     (λ c. search needs) (λ c. search needs) (λ c. search needs) (λ c. search needs) loop-again (λ c. search needs)
     (λ c. search needs) (λ c. search needs)
-    (λ c. ends (c .before .loop .inv .4) (omega arith)))
+    (λ c. ends (c .before .loop .inv .4) (omega arith)) in
+    tie.close answers

@@ -1,6 +1,5 @@
 -- `reading::vehicle::gearbox_at` meets its contract: one law for each `return`.
--- Assumes nothing.
-use Rattle.rules.proofs.Base.{_+_, arith, needs}
+use Rattle.rules.proofs.Offered.{_+_, arith, needs}
 use Rattle.reading.proofs.GroupAnswers.{bounded-in}
 use Rattle.reading.proofs.StageAnswers.{gearbox-stops, gearbox-on}
 use Rattle.reading.proofs.vehicle.gearbox_at.Statement.{statement}
@@ -29,6 +28,6 @@ returns-2 c =
 
 pub gearbox-at-spec : {M : Type 1} → statement M
 gearbox-at-spec =
-    tie.close
-    (tie.spec (λ c. search needs) (λ c κs. search needs) (λ c. search needs) (λ c. search needs) (λ c κs. search needs)
-    returns (λ c. search needs) (λ c. search needs) fill-requires returns-2)
+    let answers = tie.spec (λ c. search needs) (λ c κs. search needs) (λ c. search needs) (λ c. search needs) (λ c κs. search needs)
+    returns (λ c. search needs) (λ c. search needs) fill-requires returns-2 in
+    tie.close answers

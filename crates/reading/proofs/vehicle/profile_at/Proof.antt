@@ -1,8 +1,5 @@
 -- `reading::vehicle::profile_at` meets its contract: before version 3 no group is read.
--- Assumes nothing.
-use Rattle.rules.proofs.Base.{arith, needs}
-use Rattle.rules.specs.Forms.{bounded}
-use Rattle.rules.specs.Job.{profile}
+use Rattle.rules.proofs.Offered.{arith, needs, bounded, profile}
 use Rattle.reading.proofs.GroupAnswers.{not-yet, from-then-on}
 use Rattle.reading.proofs.vehicle.profile_at.Statement.{statement}
 use Rattle.reading.proofs.vehicle.profile_at.Tie as tie
@@ -13,4 +10,4 @@ returns-2 c = let s = c .before .before .before in from-then-on (bounded 0 1 3 1
 
 pub profile-at-spec : {M : Type 1} → statement M
 unfolding profile
-profile-at-spec = tie.close (tie.spec (λ c. let s = c .before .before in not-yet (bounded 0 1 3 1) (s .args .job .now) 3 (s .args .version) (s .args .at) (omega (arith, c .if1 .taken))) (λ c κs. search needs) returns-2)
+profile-at-spec = let answers = tie.spec (λ c. let s = c .before .before in not-yet (bounded 0 1 3 1) (s .args .job .now) 3 (s .args .version) (s .args .at) (omega (arith, c .if1 .taken))) (λ c κs. search needs) returns-2 in tie.close answers

@@ -1,7 +1,5 @@
 -- `reading::vehicle::signed` meets its contract: a u16 less 5,000 fits an i32.
--- Assumes nothing.
-use Rattle.rules.proofs.Base.{ℕ, _<_, arith, ltb, subℕ, toZ-ofZ, toZ-pos, SFits, w32, needs}
-use Rattle.rules.proofs.Laws.Words.{by-test}
+use Rattle.rules.proofs.Offered.{ℕ, _<_, arith, ltb, subℕ, toZ-ofZ, toZ-pos, SFits, w32, needs, by-test}
 use Rattle.reading.proofs.vehicle.signed.Statement.{statement}
 use Rattle.reading.proofs.vehicle.signed.Tie as tie
 
@@ -12,4 +10,7 @@ fits x h =
     (λ t. rw t (record { sfits = omega arith }))
 
 pub signed-spec : {M : Type 1} → statement M
-signed-spec = tie.close (tie.spec (λ c. search needs) (λ c. rw (toZ-pos w32 {n = c .args .x} (omega arith)) (fits (c .args .x) (omega arith))) (λ c. rw (toZ-pos w32 {n = c .args .x} (omega arith)) (toZ-ofZ (fits (c .args .x) (omega arith)))))
+signed-spec =
+    let answers = tie.spec (λ c. search needs) (λ c. rw (toZ-pos w32 {n = c .args .x} (omega arith)) (fits (c .args .x) (omega arith)))
+    (λ c. rw (toZ-pos w32 {n = c .args .x} (omega arith)) (toZ-ofZ (fits (c .args .x) (omega arith)))) in
+    tie.close answers

@@ -1,14 +1,9 @@
 -- `reasons::explain::clutch_reason` meets its contract: one law of the clutch for each return.
--- Assumes nothing.
 use Rattle.reasons.proofs.Saying.{falls, rises, pedal-before, pedal-rising, pedal-slow, pedal-turns}
 use Rattle.gears.proofs.Parts.{idle-of, engine-of}
-use Rattle.rules.specs.Words.{at}
-use Rattle.rules.proofs.Base.{not-true, not-false, _≡_, sym, _∙_, arith, needs}
+use Rattle.rules.proofs.Offered.{at, not-true, not-false, _≡_, sym, _∙_, arith, needs}
 use Rattle.reasons.proofs.explain.clutch_reason.Statement.{statement}
 use Rattle.reasons.proofs.explain.clutch_reason.Tie as tie
-
-returns : tie.Need-returns
-returns c = λ car H. pedal-before car _ _ _ (sym (c .before .moving .ensures) ∙ not-true (c .before .moving .result) (c .if1 .taken))
 
 returns-2 : tie.Need-returns-2
 returns-2 c = λ car H.
@@ -31,7 +26,7 @@ returns-4 c = λ car H.
 
 pub clutch-reason-spec : {M : Type 1} → statement M
 clutch-reason-spec =
-    tie.close
-    (tie.spec (λ c. search needs) (λ c. search needs) (λ c κs. search needs) returns (λ c. search needs)
+    let answers = tie.spec (λ c. search needs) (λ c. search needs) (λ c κs. search needs) (λ c. λ car H. pedal-before car _ _ _ (sym (c .before .moving .ensures) ∙ not-true (c .before .moving .result) (c .if1 .taken))) (λ c. search needs)
     (λ c. search needs) (λ c. search needs) returns-2 (λ c κs. search needs) (λ c. search needs) (λ c. search needs)
-    returns-3 returns-4)
+    returns-3 returns-4 in
+    tie.close answers

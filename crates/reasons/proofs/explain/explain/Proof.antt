@@ -1,30 +1,13 @@
 -- `reasons::explain::explain` meets its contract, field by field.
--- Assumes nothing.
 use Rattle.reasons.proofs.Saying.{said-is, link-role, link-choice, link-A, link-B, link-C, link-ceiling}
 use Rattle.reasons.proofs.Places.{its-trip}
 use Rattle.trips.proofs.Passes.{floor-to}
 use Rattle.trips.proofs.Trip.{gears-few}
 use Rattle.trips.proofs.Clutch.{rise-here}
 use Rattle.checks.proofs.Rows.{longest-is}
-use Rattle.rules.proofs.Laws.Trips.{trip-start, trip-stop}
-use Rattle.rules.proofs.Laws.Range.{rd, result}
-use Rattle.rules.specs.Why.{role-code, clutch-reason, pedal-down}
-use Rattle.rules.specs.Corrections.{gear-at}
-use Rattle.rules.specs.Gears.{required}
-use Rattle.rules.specs.Units.{rise}
-use Rattle.rules.specs.Words.{at}
-use Rattle.rules.proofs.Base.{_≡_, refl, sym, ap, _∙_, ℕ, _-_, arith, needs}
+use Rattle.rules.proofs.Offered.{trip-start, trip-stop, rd, result, role-code, clutch-reason, pedal-down, gear-at, required, rise, at, _≡_, refl, sym, ap, _∙_, ℕ, _-_, arith, needs}
 use Rattle.reasons.proofs.explain.explain.Statement.{statement}
 use Rattle.reasons.proofs.explain.explain.Tie as tie
-
-shared-slice-read-v : tie.Need-shared-slice-read-v
-shared-slice-read-v c = let s = c .before .before .before .before in omega (arith, s .pre .1 .until, s .pre .1 .trip .inside)
-
-add-required-at : tie.Need-add-required-at
-add-required-at c = let s = c .before .before .before .before in omega (arith, s .pre .1 .until, s .pre .1 .trip .inside, s .pre .1 .short, longest-is)
-
-shared-slice-read-required-at : tie.Need-shared-slice-read-required-at
-shared-slice-read-required-at c = let s = c .before .before .before .before .before in omega (arith, s .pre .1 .until, s .pre .1 .trip .inside)
 
 required-at-requires : tie.Need-required-at-requires
 required-at-requires c κs =
@@ -35,29 +18,17 @@ required-at-requires c κs =
       record { v-to = T .trip .speed-to _ (T .since) (T .until); d-in = rw (← rise-here (s .args .speeds .now) (s .args .about) (omega (arith, T .until, T .trip .inside))) (T .trip .step-to _ (T .since) (T .until)) },
     )
 
-shared-slice-read-held : tie.Need-shared-slice-read-held
-shared-slice-read-held c = let s = c .before .before .before .before .before .before .before in omega (arith, s .pre .1 .until, s .pre .1 .trip .inside, s .pre .1 .rooms)
-
 gear-facts-requires : tie.Need-gear-facts-requires
 gear-facts-requires c κs = (c .before .before .before .before .before .before .before .pre .0, rw (result (c .before .required-at .ok)) (c .before .required-at .ensures .1))
 
-sub-t23 : tie.Need-sub-t23
-sub-t23 c = let s = c .before .before .before .before .before .before .before .before .before .before in omega (arith, s .pre .1 .until)
-
 gear-list-requires : tie.Need-gear-list-requires
 gear-list-requires c κs = (c .before .before .before .before .before .before .before .before .before .before .pre .0, rw (result (c .before .before .before .before .required-at .ok)) (c .before .before .before .before .required-at .ensures .1))
-
-floor-requires : tie.Need-floor-requires
-floor-requires c κs = gears-few (c .before .before .before .before .before .before .before .before .before .before .before .before .before .pre .0)
 
 cast-t29 : tie.Need-cast-t29
 cast-t29 c =
     let s = c .before .before .before .before .before .before .before .before .before .before .before .before .before .before in
     let L = s .pre .0 .lent in
     omega (arith, c .floor .ensures (s .pre .0 .car) (L .has), floor-to (s .pre .0 .car) (at (s .args .speeds .now) (s .args .about)), L .bounds .ng-to)
-
-byte-of-requires : tie.Need-byte-of-requires
-byte-of-requires c κs = c .before .before .before .before .before .before .before .before .before .before .before .before .trip-chain .ensures .1
 
 returns : tie.Need-returns
 returns c = λ car L.
@@ -94,11 +65,13 @@ returns c = λ car L.
 
 pub explain-spec : {M : Type 1} → statement M
 explain-spec =
-    tie.close
-    (tie.spec
-    (λ c κs. let s = c .before .before in (s .pre .0, s .pre .1))
-    (λ c. search needs) shared-slice-read-v add-required-at (λ c. search needs) shared-slice-read-required-at
-    required-at-requires shared-slice-read-held (λ c. search needs) gear-facts-requires
+    let answers = tie.spec (λ c κs. let s = c .before .before in (s .pre .0, s .pre .1)) (λ c. search needs)
+    (λ c. let s = c .before .before .before .before in omega (arith, s .pre .1 .until, s .pre .1 .trip .inside))
+    (λ c. let s = c .before .before .before .before in omega (arith, s .pre .1 .until, s .pre .1 .trip .inside, s .pre .1 .short, longest-is)) (λ c. search needs)
+    (λ c. let s = c .before .before .before .before .before in omega (arith, s .pre .1 .until, s .pre .1 .trip .inside)) required-at-requires
+    (λ c. let s = c .before .before .before .before .before .before .before in omega (arith, s .pre .1 .until, s .pre .1 .trip .inside, s .pre .1 .rooms)) (λ c. search needs) gear-facts-requires
     (λ c κs. c .before .before .before .before .before .before .before .before .pre .2)
-    sub-t23 gear-list-requires (λ c κs. search needs) (λ c κs. search needs) floor-requires cast-t29
-    (λ c κs. search needs) byte-of-requires returns)
+    (λ c. let s = c .before .before .before .before .before .before .before .before .before .before in omega (arith, s .pre .1 .until)) gear-list-requires (λ c κs. search needs) (λ c κs. search needs)
+    (λ c κs. gears-few (c .before .before .before .before .before .before .before .before .before .before .before .before .before .pre .0)) cast-t29 (λ c κs. search needs)
+    (λ c κs. c .before .before .before .before .before .before .before .before .before .before .before .before .trip-chain .ensures .1) returns in
+    tie.close answers

@@ -1,9 +1,6 @@
 -- `reasons::explain::required_at` meets its contract: the step that the callee gave back is D.
--- Assumes nothing.
 use Rattle.gears.proofs.Parts.{f0-of, f1-of, f2-of, tm-of}
-use Rattle.rules.proofs.Laws.Sizes.{required-size}
-use Rattle.rules.proofs.Laws.Range.{rd, result}
-use Rattle.rules.proofs.Base.{pos, _-ℤ_, _≡_, _∙_, arith, needs}
+use Rattle.rules.proofs.Offered.{required-size, rd, result, pos, _-ℤ_, _≡_, _∙_, arith, needs}
 use Rattle.reasons.proofs.explain.required_at.Statement.{statement}
 use Rattle.reasons.proofs.explain.required_at.Tie as tie
 
@@ -33,4 +30,4 @@ returns c =
     (λ car C. e ∙ (rw (is-D (c .before)) at (c .required .ensures car C)), rw (e, rw (is-D (c .before)) at (c .required .ensures (B .car) (B .counts))) (required-size (B .car) (B .bounds) (s .args .v) (s .pre .1 .v-to) _ (s .pre .1 .d-in)))
 
 pub required-at-spec : {M : Type 1} → statement M
-required-at-spec = tie.close (tie.spec (λ c κs. search needs) required-requires returns)
+required-at-spec = let answers = tie.spec (λ c κs. search needs) required-requires returns in tie.close answers

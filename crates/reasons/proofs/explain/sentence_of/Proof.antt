@@ -1,17 +1,7 @@
 -- `reasons::explain::sentence_of` meets its contract: each return is one way of the definition.
--- Assumes nothing.
-use Rattle.rules.specs.Why.{sentence}
-use Rattle.rules.proofs.Base.{eq-eqb, ne-eqb, needs}
+use Rattle.rules.proofs.Offered.{sentence, eq-eqb, ne-eqb, needs}
 use Rattle.reasons.proofs.explain.sentence_of.Statement.{statement}
 use Rattle.reasons.proofs.explain.sentence_of.Tie as tie
-
-returns : tie.Need-returns
-unfolding sentence
-returns c = rw (ne-eqb _ 0 (c .if1 .taken))
-
-returns-2 : tie.Need-returns-2
-unfolding sentence
-returns-2 c = rw (eq-eqb _ 0 (c .before .if1 .left), eq-eqb _ 0 (c .if2 .taken))
 
 returns-3 : tie.Need-returns-3
 unfolding sentence
@@ -26,6 +16,7 @@ unfolding sentence
 returns-5 c = rw (eq-eqb _ 0 (c .before .before .before .before .if1 .left), ne-eqb _ 0 (c .before .before .before .if2 .left), ← c .before .before .is-first .ensures, c .before .if3 .left, c .if4 .left)
 
 pub sentence-of-spec : {M : Type 1} → statement M
+unfolding sentence
 sentence-of-spec =
-    tie.close
-    (tie.spec returns returns-2 (λ c κs. search needs) returns-3 returns-4 returns-5)
+    let answers = tie.spec (λ c. rw (ne-eqb _ 0 (c .if1 .taken))) (λ c. rw (eq-eqb _ 0 (c .before .if1 .left), eq-eqb _ 0 (c .if2 .taken))) (λ c κs. search needs) returns-3 returns-4 returns-5 in
+    tie.close answers

@@ -1,8 +1,7 @@
 -- `reasons::explain::trip_chain` meets its contract: the room has a place for each second of the trip.
--- Assumes nothing.
 use Rattle.reasons.proofs.Places.{trip-ready, trip-place, trip-lists, chain-small}
 use Rattle.checks.proofs.Rows.{longest-is}
-use Rattle.rules.proofs.Base.{length-take-le, _≡_, sym, _∙_, _-_, _≤_, arith, needs}
+use Rattle.rules.proofs.Offered.{length-take-le, _≡_, sym, _∙_, _-_, _≤_, arith, needs}
 use Rattle.reasons.proofs.explain.trip_chain.Statement.{statement}
 use Rattle.reasons.proofs.explain.trip_chain.Tie as tie
 
@@ -21,9 +20,9 @@ returns c =
 
 pub trip-chain-spec : {M : Type 1} → statement M
 trip-chain-spec =
-    tie.close
-    (tie.spec (λ c. search needs) (λ c. search needs) (λ c. search needs) (λ c. search needs) (λ c. search needs)
+    let answers = tie.spec (λ c. search needs) (λ c. search needs) (λ c. search needs) (λ c. search needs) (λ c. search needs)
     (λ c. search needs) (λ c. search needs) (λ c. search needs) (λ c. search needs) (λ c. search needs)
     (λ c. fits-in (c .before .before .before .before))
     (λ c. sym (length-take-le _ _ (fits-in (c .before .before .before .before .before))))
-    chain-requires returns)
+    chain-requires returns in
+    tie.close answers

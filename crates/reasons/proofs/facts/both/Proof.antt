@@ -1,16 +1,8 @@
 -- `reasons::facts::both` meets its contract: one return for each side of the test.
--- Assumes nothing.
-use Rattle.rules.specs.Words.{_and_}
+use Rattle.rules.proofs.Offered.{_and_}
 use Rattle.reasons.proofs.facts.both.Statement.{statement}
 use Rattle.reasons.proofs.facts.both.Tie as tie
 
-returns : tie.Need-returns
-unfolding _and_
-returns c = rw (c .if1 .taken)
-
-returns-2 : tie.Need-returns-2
-unfolding _and_
-returns-2 c = rw (c .if1 .left)
-
 pub both-spec : {M : Type 1} → statement M
-both-spec = tie.close (tie.spec returns returns-2)
+unfolding _and_
+both-spec = let answers = tie.spec (λ c. rw (c .if1 .taken)) (λ c. rw (c .if1 .left)) in tie.close answers

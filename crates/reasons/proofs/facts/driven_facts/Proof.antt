@@ -1,19 +1,9 @@
 -- `reasons::facts::driven_facts` meets its contract, field by field.
--- Assumes nothing.
-use Rattle.rules.proofs.Base.{leb, toZ-ofZ, _≡_, sym, ap, _∙_, arith, needs}
-use Rattle.rules.specs.Gears.{Power, engine, under-nmax}
+use Rattle.rules.proofs.Offered.{leb, toZ-ofZ, _≡_, sym, ap, _∙_, arith, needs, Power, engine, under-nmax, minimum-rule, _and_}
 use Rattle.reasons.proofs.Gears.{under-is, enough-listed, facts-are}
 use Rattle.gears.proofs.Parts.{low-of, engine-of}
-use Rattle.rules.specs.Why.{minimum-rule}
-use Rattle.rules.specs.Words.{_and_}
 use Rattle.reasons.proofs.facts.driven_facts.Statement.{statement}
 use Rattle.reasons.proofs.facts.driven_facts.Tie as tie
-
-enough-requires : tie.Need-enough-requires
-enough-requires c κs = rw (toZ-ofZ (c .before .before .before .before .before .fits .e)) (c .before .before .before .before .before .pre .1)
-
-cast-t15 : tie.Need-cast-t15
-cast-t15 c = omega (arith, c .before .before .before .before .before .engine .ensures, c .before .before .before .before .before .before .pre .2)
 
 returns : tie.Need-returns
 returns c = λ car d H e a.
@@ -34,7 +24,8 @@ returns c = λ car d H e a.
 
 pub driven-facts-spec : {M : Type 1} → statement M
 driven-facts-spec =
-    tie.close
-    (tie.spec (λ c κs. search needs) (λ c κs. search needs) (λ c κs. search needs) (λ c κs. search needs)
-    (λ c κs. search needs) enough-requires cast-t15 (λ c κs. search needs) (λ c. search needs) (λ c κs. search needs)
-    (λ c. search needs) (λ c κs. search needs) (λ c κs. search needs) (λ c κs. search needs) returns)
+    let answers = tie.spec (λ c κs. search needs) (λ c κs. search needs) (λ c κs. search needs) (λ c κs. search needs) (λ c κs. search needs)
+    (λ c κs. rw (toZ-ofZ (c .before .before .before .before .before .fits .e)) (c .before .before .before .before .before .pre .1))
+    (λ c. omega (arith, c .before .before .before .before .before .engine .ensures, c .before .before .before .before .before .before .pre .2)) (λ c κs. search needs) (λ c. search needs)
+    (λ c κs. search needs) (λ c. search needs) (λ c κs. search needs) (λ c κs. search needs) (λ c κs. search needs) returns in
+    tie.close answers

@@ -1,6 +1,5 @@
 -- `reasons::facts::gear_facts` meets its contract: a gear below the lowest, one above ng, and one that is driven.
--- Assumes nothing.
-use Rattle.rules.proofs.Base.{arith, _≡_, _∙_, toZ-ofZ, needs}
+use Rattle.rules.proofs.Offered.{arith, _≡_, _∙_, toZ-ofZ, needs, of₃}
 use Rattle.reasons.proofs.Gears.{facts-below, facts-above, facts-driven, driven-gear, engine-small}
 use Rattle.reasons.proofs.facts.gear_facts.Statement.{statement}
 use Rattle.reasons.proofs.facts.gear_facts.Tie as tie
@@ -17,13 +16,13 @@ listed-power-requires c κs = (c .before .before .before .before .pre .0, driven
 driven-facts-requires : tie.Need-driven-facts-requires
 driven-facts-requires c κs =
     let s = c .before .before .before .before .before in
-    (driven-gear (s .pre .0) (omega (arith, c .before .before .before .if1 .left, c .before .before .before .before .lowest .ensures)) (omega (arith, c .before .if2 .left)), record { sized = c .listed-power .ensures .1; e-in = rw (toZ-ofZ (s .fits .e)) (s .pre .1) }, engine-small (s .pre .0) _ (omega (arith, c .before .before .before .if1 .left, c .before .before .before .before .lowest .ensures)) (omega (arith, c .before .if2 .left)) (omega arith))
+    (driven-gear (s .pre .0) (omega (arith, c .before .before .before .if1 .left, c .before .before .before .before .lowest .ensures)) (omega (arith, c .before .if2 .left)), record { sized = c .listed-power .ensures .1; e-in = rw (toZ-ofZ (s .fits .e)) (s .pre .1) }, of₃ (engine-small (s .pre .0) _) (omega (arith, c .before .before .before .if1 .left, c .before .before .before .before .lowest .ensures, c .before .if2 .left)))
 
 returns-3 : tie.Need-returns-3
 returns-3 c = λ car d L e. c .driven-facts .ensures car d (L .has) (toZ-ofZ (c .before .before .before .before .before .before .fits .e) ∙ e) (c .before .listed-power .ensures .0 car L) ∙ facts-driven (L .has .counts) _ _ d _ (omega (arith, c .before .before .before .before .if1 .left, c .before .before .before .before .before .lowest .ensures)) (omega (arith, c .before .before .if2 .left))
 
 pub gear-facts-spec : {M : Type 1} → statement M
 gear-facts-spec =
-    tie.close
-    (tie.spec (λ c κs. search needs) (λ c κs. search needs) returns (λ c. search needs) (λ c κs. search needs) returns-2
-    listed-power-requires driven-facts-requires returns-3)
+    let answers = tie.spec (λ c κs. search needs) (λ c κs. search needs) returns (λ c. search needs) (λ c κs. search needs) returns-2
+    listed-power-requires driven-facts-requires returns-3 in
+    tie.close answers

@@ -1,6 +1,5 @@
 -- `reasons::facts::listed_power` meets its contract: past nmax none is read; up to it the search and the reading are the choice's own.
--- Assumes nothing.
-use Rattle.rules.proofs.Base.{arith, _≡_, _∙_, lit≤, needs}
+use Rattle.rules.proofs.Offered.{arith, _≡_, _∙_, lit≤, needs}
 use Rattle.gears.specs.Choosing.{Turning}
 use Rattle.gears.proofs.Parts.{points-of}
 use Rattle.gears.proofs.Powers.{turned-curve, sized-of}
@@ -37,5 +36,5 @@ returns-2 c =
 
 pub listed-power-spec : {M : Type 1} → statement M
 listed-power-spec =
-    tie.close
-    (tie.spec (λ c κs. search needs) (λ c κs. search needs) returns segment-at-requires (λ c κs. (c .before .before .before .before .pre .0, turns (c .before), c .segment-at .ensures)) returns-2)
+    let answers = tie.spec (λ c κs. search needs) (λ c κs. search needs) returns segment-at-requires (λ c κs. (c .before .before .before .before .pre .0, turns (c .before), c .segment-at .ensures)) returns-2 in
+    tie.close answers

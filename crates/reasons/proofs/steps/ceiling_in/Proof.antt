@@ -1,8 +1,7 @@
 -- `reasons::steps::ceiling_in` meets its contract: one law of the ceiling for each return.
--- Assumes nothing.
 use Rattle.reasons.proofs.Stages.{looks-held, looks-first, looks-level, looks-up}
 use Rattle.trips.proofs.Seconds.{ceiling-second, ceiling-same, ceiling-other}
-use Rattle.rules.proofs.Base.{_≡_, _∙_, _-_, arith, needs}
+use Rattle.rules.proofs.Offered.{_≡_, _∙_, _-_, arith, needs}
 use Rattle.reasons.proofs.steps.ceiling_in.Statement.{statement}
 use Rattle.reasons.proofs.steps.ceiling_in.Tie as tie
 
@@ -20,10 +19,10 @@ returns-6 c = let s = c .before .before .before .before .before .before .before 
 
 pub ceiling-in-spec : {M : Type 1} → statement M
 ceiling-in-spec =
-    tie.close
-    (tie.spec (λ c. search needs)
+    let answers = tie.spec (λ c. search needs)
     (λ c. λ car. looks-held car _ _ _ _ (c .if1 .taken))
     (λ c. λ car. looks-first car _ _ _ _ (c .before .if1 .left) (c .if2 .taken))
     (λ c. search needs) (λ c. search needs) (λ c. search needs) (λ c. search needs) (λ c. search needs)
     (λ c. λ car. looks-level car _ _ _ _ (c .if3 .taken))
-    (λ c. search needs) returns-4 (λ c. search needs) (λ c. search needs) add-result returns-5 returns-6)
+    (λ c. search needs) returns-4 (λ c. search needs) (λ c. search needs) add-result returns-5 returns-6 in
+    tie.close answers

@@ -1,17 +1,9 @@
 -- `reasons::steps::chain` meets its contract: what each stage leaves is what the next one finds.
--- Assumes nothing.
-use Rattle.rules.proofs.Base.{needs, length, _≡_, refl, sym, ap, _∙_, suc, arith}
+use Rattle.rules.proofs.Offered.{needs, length, _≡_, refl, sym, ap, _∙_, suc, arith, length-firsts}
 use Rattle.reasons.proofs.Stages.{chain-is, B-long, B-low}
 use Rattle.trips.proofs.Trip.{moves-on, gears-few}
-use Rattle.rules.proofs.Laws.Held.{length-firsts}
 use Rattle.reasons.proofs.steps.chain.Statement.{statement}
 use Rattle.reasons.proofs.steps.chain.Tie as tie
-
-closing-from-requires : tie.Need-closing-from-requires
-closing-from-requires c κs = let s = c .before .before .before in (moves-on (s .pre .1), omega (arith, s .pre .1 .lists .speeds))
-
-choose-at-requires : tie.Need-choose-at-requires
-choose-at-requires c κs = let s = c .before .before .before .before .before in (s .pre .0, s .pre .1, s .pre .2, c .before .closing-from .ensures)
 
 peak-at-requires : tie.Need-peak-at-requires
 peak-at-requires c κs = let s = c .before .before .before .before .before .before .before .before .before .before .before in (gears-few (s .pre .0), record { speeds = s .pre .1 .lists .speeds; gears = search needs }, s .pre .2)
@@ -45,6 +37,7 @@ returns c = λ car L.
 
 pub chain-spec : {M : Type 1} → statement M
 chain-spec =
-    tie.close
-    (tie.spec closing-from-requires choose-at-requires (λ c κs. search needs) peak-at-requires rising-at-requires
-    ceiling-in-requires slowing-at-requires (λ c. search needs) returns)
+    let answers = tie.spec (λ c κs. let s = c .before .before .before in (moves-on (s .pre .1), omega (arith, s .pre .1 .lists .speeds)))
+    (λ c κs. let s = c .before .before .before .before .before in (s .pre .0, s .pre .1, s .pre .2, c .before .closing-from .ensures)) (λ c κs. search needs) peak-at-requires rising-at-requires
+    ceiling-in-requires slowing-at-requires (λ c. search needs) returns in
+    tie.close answers

@@ -1,6 +1,5 @@
 -- `reasons::steps::role_in` meets its contract: one law of the role for each return.
--- Assumes nothing.
-use Rattle.rules.proofs.Base.{_-_, _≡_, sym, _∙_, arith, needs}
+use Rattle.rules.proofs.Offered.{_-_, _≡_, sym, _∙_, arith, needs}
 use Rattle.reasons.proofs.Stages.{role-first, role-closing, role-after, role-inner}
 use Rattle.reasons.proofs.steps.role_in.Statement.{statement}
 use Rattle.reasons.proofs.steps.role_in.Tie as tie
@@ -16,9 +15,9 @@ returns-4 c = λ car us hs C l R. role-inner car us hs _ _ R (omega (arith, l, c
 
 pub role-in-spec : {M : Type 1} → statement M
 role-in-spec =
-    tie.close
-    (tie.spec
+    let answers = tie.spec
     (λ c. λ car us hs C l R. role-first car us hs _ _ (c .if1 .taken))
     returns-2 (λ c. search needs) (λ c. search needs)
     (λ c. omega (arith, c .shared-slice-known2 .given (c .before .before .before .before .args .j - 1)))
-    (λ c κs. search needs) returns-3 returns-4)
+    (λ c κs. search needs) returns-3 returns-4 in
+    tie.close answers

@@ -1,8 +1,6 @@
 -- `reasons::whole::kind_of` meets its contract: one law of the definition for each return.
--- Assumes nothing.
 use Rattle.reasons.proofs.Places.{kind-moving, kind-before, kind-rests}
-use Rattle.rules.proofs.Laws.Trips.{standing-past}
-use Rattle.rules.proofs.Base.{_≡_, sym, _∙_, add-one, arith, needs}
+use Rattle.rules.proofs.Offered.{standing-past, _≡_, sym, _∙_, add-one, arith, needs}
 use Rattle.reasons.proofs.whole.kind_of.Statement.{statement}
 use Rattle.reasons.proofs.whole.kind_of.Tie as tie
 
@@ -17,7 +15,7 @@ returns-4 c = let s = c .before .before .before .before .before .before .before 
 
 pub kind-of-spec : {M : Type 1} → statement M
 kind-of-spec =
-    tie.close
-    (tie.spec (λ c. search needs) (λ c. search needs) (λ c κs. search needs)
+    let answers = tie.spec (λ c. search needs) (λ c. search needs) (λ c κs. search needs)
     (λ c. kind-moving _ _ (sym (c .before .moving .ensures) ∙ c .if1 .taken))
-    (λ c. search needs) returns-2 (λ c. search needs) (λ c. search needs) (λ c κs. search needs) returns-3 returns-4)
+    (λ c. search needs) returns-2 (λ c. search needs) (λ c. search needs) (λ c κs. search needs) returns-3 returns-4 in
+    tie.close answers

@@ -1,8 +1,6 @@
 -- `reasons::whole::looked_at` meets its contract: of a standing second itself, of a moving one its trip.
--- Assumes nothing.
 use Rattle.reasons.proofs.Places.{span-standing, span-moving}
-use Rattle.rules.specs.Units.{stop}
-use Rattle.rules.proofs.Base.{not-true, not-false, length, _≡_, sym, ap, _∙_, ℕ, suc, _+_, _-_, min, arith, needs}
+use Rattle.rules.proofs.Offered.{stop, not-true, not-false, length, _≡_, sym, ap, _∙_, ℕ, suc, _+_, _-_, min, arith, needs}
 use Rattle.reasons.proofs.whole.looked_at.Statement.{statement}
 use Rattle.reasons.proofs.whole.looked_at.Tie as tie
 
@@ -25,6 +23,6 @@ returns-3 c =
 
 pub looked-at-spec : {M : Type 1} → statement M
 looked-at-spec =
-    tie.close
-    (tie.spec (λ c. search needs) (λ c. search needs) (λ c κs. search needs) (λ c. search needs) returns
-    (λ c κs. search needs) (λ c. search needs) returns-2 returns-3)
+    let answers = tie.spec (λ c. search needs) (λ c. search needs) (λ c κs. search needs) (λ c. search needs) returns
+    (λ c κs. search needs) (λ c. search needs) returns-2 returns-3 in
+    tie.close answers

@@ -1,17 +1,11 @@
 -- `reasons::whole::why` meets its contract. One law for each stage says what is known from there on, one of `Saying` for each return.
--- Assumes nothing.
 use Rattle.reasons.proofs.Saying.{out-opening, out-outside, out-early, out-standing, out-done, out-wanting}
 use Rattle.reasons.proofs.Places.{Looked, looked, spanned-at, resting-at, no-seconds-edit, no-span-edit, told, about-from, about-moves}
 use Rattle.checks.proofs.Rows.{opening, Opened, opened, opening-of, said-none}
 use Rattle.gears.proofs.Derating.{derates, powers-lent}
 use Rattle.gears.specs.Parts.{Counts, Lent}
-use Rattle.rules.specs.Why.{about, why-lo, why-end}
-use Rattle.rules.specs.Edit.{hold-span}
-use Rattle.rules.specs.Refusals.{said, seconds-fault, span-fault}
-use Rattle.rules.specs.Units.{moving}
-use Rattle.rules.specs.Words.{at}
+use Rattle.rules.proofs.Offered.{about, why-lo, why-end, hold-span, said, seconds-fault, span-fault, moving, at, length, List, true, _≡_, refl, sym, ap, _∙_, ℕ, _+_, _<_, length-replicate, arith, needs}
 use Rattle.rules.specs.declared.Vehicle.{Vehicle}
-use Rattle.rules.proofs.Base.{length, List, true, _≡_, refl, sym, ap, _∙_, ℕ, _+_, _<_, length-replicate, arith, needs}
 use Rattle.reasons.proofs.whole.why.Statement.{statement}
 use Rattle.reasons.proofs.whole.why.Tie as tie
 
@@ -70,9 +64,6 @@ returns-2 c =
     let o = out-outside (s .args .t1) (s .args .speeds .now) (s .args .holds .now) (s .args .second) (opened-at (c .before .before)) (omega (arith, c .before .if1 .taken)) in
     (ap said (c .refused2 .ensures .0) ∙ o .0, c .refused2 .ensures .1 ∙ o .1)
 
-derate-requires : tie.Need-derate-requires
-derate-requires c κs = derates _ (opened-at (c .before .before .before .before .before .before .before .before .before .before) .bounds)
-
 check-seconds-requires : tie.Need-check-seconds-requires
 check-seconds-requires c κs = let K = looked-here (c .before .before .before .before .before .before .before) in (spanned-at (opened-at (c .before .before .before .before .before .before .before .before .before .before .before .before .before)) K (counts-at (c .before .before .before .before .before .before .before .before .before .before .before .before .before .before .before .before .before .before .before .before .before)), omega (arith, K .some, K .inside))
 
@@ -125,9 +116,9 @@ returns-6 c =
 
 pub why-spec : {M : Type 1} → statement M
 why-spec =
-    tie.close
-    (tie.spec (λ c κs. search needs) (λ c κs. search needs) (λ c. search needs) (λ c. search needs) (λ c κs. search needs) returns
+    let answers = tie.spec (λ c κs. search needs) (λ c κs. search needs) (λ c. search needs) (λ c. search needs) (λ c κs. search needs) returns
     (λ c κs. search needs) returns-2 (λ c κs. search needs) (λ c κs. search needs) (λ c κs. search needs)
-    (λ c κs. search needs) (λ c κs. search needs) derate-requires check-seconds-requires
+    (λ c κs. search needs) (λ c κs. search needs) (λ c κs. derates _ (opened-at (c .before .before .before .before .before .before .before .before .before .before) .bounds)) check-seconds-requires
     (λ c. search needs) (λ c. search needs) (λ c κs. search needs) returns-3 check-span-requires (λ c κs. search needs)
-    returns-4 explain-requires (λ c. search needs) (λ c. search needs) (λ c κs. search needs) returns-5 returns-6)
+    returns-4 explain-requires (λ c. search needs) (λ c. search needs) (λ c κs. search needs) returns-5 returns-6 in
+    tie.close answers

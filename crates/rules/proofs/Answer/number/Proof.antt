@@ -1,8 +1,7 @@
 -- `rules::Answer::number` meets its contract: a refusal has its own number.
--- Assumes nothing.
 use borrow.Author.Needs.{needs}
 use Rattle.rules.proofs.Answer.number.Statement.{statement}
 use Rattle.rules.proofs.Answer.number.Tie as tie
 
 pub number-spec : {M : Type 1} → statement M
-number-spec = tie.close (tie.spec (λ c. search needs) (λ c. search needs) (λ c κs. search needs) (λ c. search needs) (λ c. rw (c .before .before .self .given .1) (c .number .ensures)))
+number-spec = let answers = tie.spec (λ c. search needs) (λ c. search needs) (λ c κs. search needs) (λ c. search needs) (λ c. rw (c .before .before .self .given .1) (c .number .ensures)) in tie.close answers

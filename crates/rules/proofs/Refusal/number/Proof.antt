@@ -1,13 +1,11 @@
 -- `rules::Refusal::number` meets its contract: in each arm `self` is the arm's case. There are too many cases for a proof that is found by search alone.
--- Assumes nothing.
 use borrow.Author.Needs.{needs}
 use Rattle.rules.proofs.Refusal.number.Statement.{statement}
 use Rattle.rules.proofs.Refusal.number.Tie as tie
 
 pub number-spec : {M : Type 1} → statement M
 number-spec =
-    tie.close
-    (tie.spec (λ c. search needs) (λ c. search needs) (λ c. search needs) (λ c. search needs) (λ c. search needs)
+    let answers = tie.spec (λ c. search needs) (λ c. search needs) (λ c. search needs) (λ c. search needs) (λ c. search needs)
     (λ c. search needs) (λ c. search needs) (λ c. search needs) (λ c. search needs) (λ c. search needs)
     (λ c. search needs) (λ c. search needs) (λ c. search needs) (λ c. search needs) (λ c. search needs)
     (λ c. search needs) (λ c. search needs) (λ c. search needs) (λ c. search needs) (λ c. search needs)
@@ -19,4 +17,5 @@ number-spec =
     (λ c. rw (c .enum-told14 .given .1)) (λ c. rw (c .enum-told15 .given .1)) (λ c. rw (c .enum-told16 .given .1))
     (λ c. rw (c .enum-told17 .given .1)) (λ c. rw (c .enum-told18 .given .1)) (λ c. rw (c .enum-told19 .given .1))
     (λ c. rw (c .enum-told20 .given .1)) (λ c. rw (c .enum-told21 .given .1)) (λ c. rw (c .enum-told22 .given .1))
-    (λ c. rw (c .enum-told23 .given .1)))
+    (λ c. rw (c .enum-told23 .given .1)) in
+    tie.close answers

@@ -1,6 +1,5 @@
 -- `runs::cases::say_places` is safe and ends: the line has 127 numbers at most.
--- Assumes nothing.
-use Rattle.rules.proofs.Base.{_≤_, _-_, needs}
+use Rattle.rules.proofs.Offered.{_≤_, _-_, needs}
 use Rattle.runs.proofs.cases.say_places.Statement.{statement}
 use Rattle.runs.proofs.cases.say_places.Tie as tie
 
@@ -12,7 +11,7 @@ abbrev μ-loop : tie.MeasureT-loop
 
 pub say-places-spec : {M : Type 1} → statement M
 say-places-spec =
-    tie.close
-    (tie.spec Inv-loop μ-loop (λ c. search needs) (λ c κs. search needs) (λ c κs. search needs) (λ c. search needs)
+    let answers = tie.spec Inv-loop μ-loop (λ c. search needs) (λ c κs. search needs) (λ c κs. search needs) (λ c. search needs)
     (λ c. search needs) (λ c. search needs) (λ c κs. search needs) (λ c. search needs) (λ c. search needs)
-    (λ c κs. search needs) (λ c. search needs) (λ c. search needs) (λ c. search needs) (λ c. search needs))
+    (λ c κs. search needs) (λ c. search needs) (λ c. search needs) (λ c. search needs) (λ c. search needs) in
+    tie.close answers

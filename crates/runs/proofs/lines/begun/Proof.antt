@@ -1,8 +1,7 @@
 -- `runs::lines::begun` is safe and ends: the part is as long as was asked for.
--- Assumes nothing.
-use Rattle.rules.proofs.Base.{arith, sym, length-take-le, needs}
+use Rattle.rules.proofs.Offered.{arith, sym, length-take-le, needs}
 use Rattle.runs.proofs.lines.begun.Statement.{statement}
 use Rattle.runs.proofs.lines.begun.Tie as tie
 
 pub begun-spec : {M : Type 1} → statement M
-begun-spec = tie.close (tie.spec (λ c. search needs) (λ c. sym (length-take-le _ _ (omega arith))) (λ c. search needs))
+begun-spec = let answers = tie.spec (λ c. search needs) (λ c. sym (length-take-le _ _ (omega arith))) (λ c. search needs) in tie.close answers

@@ -1,6 +1,5 @@
 -- `runs::lines::parse` is safe and ends: each call asks nothing that is not there.
--- Assumes nothing.
-use Rattle.rules.proofs.Base.{_≤_, _-_, length, needs}
+use Rattle.rules.proofs.Offered.{_≤_, _-_, length, needs}
 use Rattle.runs.proofs.lines.parse.Statement.{statement}
 use Rattle.runs.proofs.lines.parse.Tie as tie
 
@@ -12,6 +11,6 @@ abbrev μ-loop : tie.MeasureT-loop
 
 pub parse-spec : {M : Type 1} → statement M
 parse-spec =
-    tie.close
-    (tie.spec Inv-loop μ-loop (λ c. search needs) (λ c. search needs) (λ c. search needs) (λ c κs. search needs)
-    (λ c. search needs) (λ c. search needs) (λ c. search needs) (λ c. search needs))
+    let answers = tie.spec Inv-loop μ-loop (λ c. search needs) (λ c. search needs) (λ c. search needs) (λ c κs. search needs)
+    (λ c. search needs) (λ c. search needs) (λ c. search needs) (λ c. search needs) in
+    tie.close answers

@@ -1,6 +1,5 @@
 -- `summaries::settle::settled_gears` meets its contract. The loop's invariant: the first k gears are settled.
--- Assumes nothing.
-use Rattle.rules.proofs.Base.{_-_, _≤_, arith, needs}
+use Rattle.rules.proofs.Offered.{_-_, _≤_, arith, needs}
 use Rattle.summaries.proofs.Settling.{Settled, settled-more, settled-done}
 use Rattle.summaries.proofs.settle.settled_gears.Statement.{statement}
 use Rattle.summaries.proofs.settle.settled_gears.Tie as tie
@@ -13,8 +12,8 @@ abbrev μ-loop : tie.MeasureT-loop
 
 pub settled-gears-spec : {M : Type 1} → statement M
 settled-gears-spec =
-    tie.close
-    (tie.spec Inv-loop μ-loop (λ c. search needs) (λ c. search needs) (λ c. search needs) (λ c. search needs)
-    (λ c. search needs) (λ c. search needs) (λ c. search needs) (λ c. search needs) (λ c. search needs)
-    (λ c κs. search needs) (λ c. search needs) (λ c. search needs) (λ c. search needs) (λ c. search needs) (λ c. let l = c .before .before .before .before .before .loop in (omega arith, settled-more _ _ _ (l .k) (omega arith) (l .inv .1) (c .settled .ensures)))
-    (λ c. let l = c .before .loop in settled-done _ _ _ (l .k) (l .inv .1) (omega arith)))
+    let answers = tie.spec Inv-loop μ-loop (λ c. search needs) (λ c. search needs) (λ c. search needs) (λ c. search needs) (λ c. search needs) (λ c. search needs) (λ c. search needs)
+    (λ c. search needs) (λ c. search needs) (λ c κs. search needs) (λ c. search needs) (λ c. search needs) (λ c. search needs) (λ c. search needs)
+    (λ c. let l = c .before .before .before .before .before .loop in (omega arith, settled-more _ _ _ (l .k) (omega arith) (l .inv .1) (c .settled .ensures)))
+    (λ c. let l = c .before .loop in settled-done _ _ _ (l .k) (l .inv .1) (omega arith)) in
+    tie.close answers

@@ -1,5 +1,4 @@
 -- `summaries::settle::updated` meets its contract: each count is settled.
--- Assumes nothing.
 use Rattle.summaries.proofs.Settling.{updated-is}
 use borrow.Author.Needs.{needs}
 use Rattle.summaries.proofs.settle.updated.Statement.{statement}
@@ -7,4 +6,6 @@ use Rattle.summaries.proofs.settle.updated.Tie as tie
 
 pub updated-spec : {M : Type 1} → statement M
 updated-spec =
-    tie.close (tie.spec (λ c κs. search needs) (λ c. search needs) (λ c. search needs) (λ c κs. search needs) (λ c κs. search needs) (λ c. updated-is _ _ _ (c .before .settled .ensures) (c .before .before .before .before .settled-gears .ensures) (c .settled2 .ensures)))
+    let answers = tie.spec (λ c κs. search needs) (λ c. search needs) (λ c. search needs) (λ c κs. search needs) (λ c κs. search needs)
+    (λ c. updated-is _ _ _ (c .before .settled .ensures) (c .before .before .before .before .settled-gears .ensures) (c .settled2 .ensures)) in
+    tie.close answers

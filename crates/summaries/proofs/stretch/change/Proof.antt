@@ -1,8 +1,6 @@
 -- `summaries::stretch::change` meets its contract. One line for each return.
--- Assumes nothing.
-use Rattle.rules.specs.Words.{_and_}
+use Rattle.rules.proofs.Offered.{_and_, needs}
 use Rattle.checks.proofs.Scans.{not-so, so}
-use borrow.Author.Needs.{needs}
 use Rattle.summaries.proofs.stretch.change.Statement.{statement}
 use Rattle.summaries.proofs.stretch.change.Tie as tie
 
@@ -12,4 +10,7 @@ returns-3 c = rw (so (c .before .before .before .before .moving .ensures) (c .be
 
 pub change-spec : {M : Type 1} → statement M
 unfolding _and_
-change-spec = tie.close (tie.spec (λ c κs. search needs) (λ c. rw (not-so (c .before .moving .ensures) (c .if1 .taken))) (λ c κs. search needs) (λ c. rw (so (c .before .before .before .moving .ensures) (c .before .before .if1 .left), not-so (c .before .moving2 .ensures) (c .if2 .taken))) (λ c κs. search needs) returns-3)
+change-spec =
+    let answers = tie.spec (λ c κs. search needs) (λ c. rw (not-so (c .before .moving .ensures) (c .if1 .taken))) (λ c κs. search needs)
+    (λ c. rw (so (c .before .before .before .moving .ensures) (c .before .before .if1 .left), not-so (c .before .moving2 .ensures) (c .if2 .taken))) (λ c κs. search needs) returns-3 in
+    tie.close answers

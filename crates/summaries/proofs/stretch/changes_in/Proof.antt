@@ -1,7 +1,5 @@
 -- `summaries::stretch::changes_in` meets its contract. The loop's invariant: the changes up to second i - 1 are counted.
--- Assumes nothing.
-use Rattle.rules.proofs.Base.{ℕ, _+_, _-_, _≤_, _<_, arith, _≡_, ap, _∙_, needs}
-use Rattle.rules.specs.Summary.{tally, changes}
+use Rattle.rules.proofs.Offered.{ℕ, _+_, _-_, _≤_, _<_, arith, _≡_, ap, _∙_, needs, tally, changes}
 use Rattle.summaries.proofs.Counting.{changes-none, changes-more, changes-to}
 use Rattle.summaries.proofs.stretch.changes_in.Statement.{statement}
 use Rattle.summaries.proofs.stretch.changes_in.Tie as tie
@@ -34,9 +32,9 @@ returns c =
 
 pub changes-in-spec : {M : Type 1} → statement M
 changes-in-spec =
-    tie.close
-    (tie.spec Inv-loop μ-loop (λ c. search needs)
+    let answers = tie.spec Inv-loop μ-loop (λ c. search needs)
     (λ c. (omega arith, omega arith, changes-none _ _ _))
     (λ c. search needs) (λ c. search needs) (λ c. search needs) (λ c. search needs) (λ c. search needs)
     (λ c. search needs) (λ c. search needs) (λ c. search needs) (λ c κs. search needs) add-changes (λ c. search needs)
-    (λ c. search needs) loop-again returns)
+    (λ c. search needs) loop-again returns in
+    tie.close answers

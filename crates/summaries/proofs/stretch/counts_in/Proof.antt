@@ -1,6 +1,5 @@
 -- `summaries::stretch::counts_in` meets its contract. The loop's invariant: the seconds from lo up to i are counted.
--- Assumes nothing.
-use Rattle.rules.proofs.Base.{_-_, _≤_, _<_, arith, needs}
+use Rattle.rules.proofs.Offered.{_-_, _≤_, _<_, arith, needs}
 use Rattle.summaries.proofs.Counting.{Filled, fill-none, fill-more, fill-room, fill-done}
 use Rattle.summaries.proofs.stretch.counts_in.Statement.{statement}
 use Rattle.summaries.proofs.stretch.counts_in.Tie as tie
@@ -31,7 +30,7 @@ returns c =
 
 pub counts-in-spec : {M : Type 1} → statement M
 counts-in-spec =
-    tie.close
-    (tie.spec Inv-loop μ-loop (λ c. let s = c .before .before in (s .pre .order, fill-none (s .args .speeds .now) (s .args .card .now) (s .args .span .lo))) (λ c. search needs) (λ c. search needs) (λ c. search needs)
+    let answers = tie.spec Inv-loop μ-loop (λ c. let s = c .before .before in (s .pre .order, fill-none (s .args .speeds .now) (s .args .card .now) (s .args .span .lo))) (λ c. search needs) (λ c. search needs) (λ c. search needs)
     (λ c κs. search needs) (λ c. search needs) (λ c. search needs) add-counts (λ c. search needs) (λ c. search needs)
-    (λ c. search needs) loop-again returns)
+    (λ c. search needs) loop-again returns in
+    tie.close answers

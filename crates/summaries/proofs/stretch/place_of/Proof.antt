@@ -1,7 +1,5 @@
 -- `summaries::stretch::place_of` meets its contract. One line for each return.
--- Assumes nothing.
-use Rattle.rules.proofs.Base.{ℕ, _≤_, _≡_, sym, _∙_, needs}
-use Rattle.rules.specs.Units.{moving}
+use Rattle.rules.proofs.Offered.{ℕ, _≤_, _≡_, sym, _∙_, needs, moving}
 use Rattle.summaries.specs.Tallies.{placed}
 use Rattle.summaries.proofs.Counting.{placed-to}
 use Rattle.summaries.proofs.stretch.place_of.Statement.{statement}
@@ -13,4 +11,4 @@ both v byte e = (e, rw e (placed-to v byte))
 
 pub place-of-spec : {M : Type 1} → statement M
 unfolding placed
-place-of-spec = tie.close (tie.spec (λ c κs. search needs) (λ c. search needs) (λ c. both _ _ (rw (sym (c .before .moving .ensures) ∙ c .if1 .taken))) (λ c. both _ _ (rw (sym (c .before .moving .ensures) ∙ c .if1 .left))))
+place-of-spec = let answers = tie.spec (λ c κs. search needs) (λ c. search needs) (λ c. both _ _ (rw (sym (c .before .moving .ensures) ∙ c .if1 .taken))) (λ c. both _ _ (rw (sym (c .before .moving .ensures) ∙ c .if1 .left))) in tie.close answers

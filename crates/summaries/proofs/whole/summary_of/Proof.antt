@@ -1,7 +1,5 @@
 -- `summaries::whole::summary_of` meets its contract: an empty summary, brought up to date.
--- Assumes nothing.
-use Rattle.rules.proofs.Base.{refl, _∙_, needs}
-use Rattle.rules.specs.Summary.{summary-fault, counted-summary}
+use Rattle.rules.proofs.Offered.{refl, _∙_, needs, summary-fault, counted-summary}
 use Rattle.checks.proofs.Rows.{said-none, left-old}
 use Rattle.summaries.proofs.Totals.{said-done, all-countable, whole-settled}
 use Rattle.summaries.proofs.whole.summary_of.Statement.{statement}
@@ -29,6 +27,6 @@ returns-2 c =
 
 pub summary-of-spec : {M : Type 1} → statement M
 summary-of-spec =
-    tie.close
-    (tie.spec (λ c κs. search needs) (λ c κs. search needs) (λ c. search needs) (λ c. search needs) returns
-    count-requires (λ c κs. search needs) (λ c κs. search needs) returns-2)
+    let answers = tie.spec (λ c κs. search needs) (λ c κs. search needs) (λ c. search needs) (λ c. search needs) returns
+    count-requires (λ c κs. search needs) (λ c κs. search needs) returns-2 in
+    tie.close answers

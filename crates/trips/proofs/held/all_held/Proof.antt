@@ -1,8 +1,5 @@
 -- `trips::held::all_held` meets its contract: what is left to test, from second j on, is what was asked.
--- Assumes nothing.
-use Rattle.rules.proofs.Base.{_-_, _≤_, arith, ltb, length, le-ltb, lt-ltb}
-use Rattle.rules.specs.Words.{at, every}
-use Rattle.rules.proofs.Laws.Walk.{Every, all-start, all-stops, all-again, all-ends}
+use Rattle.rules.proofs.Offered.{_-_, _≤_, arith, ltb, length, le-ltb, lt-ltb, at, every, Every, all-start, all-stops, all-again, all-ends}
 use Rattle.trips.proofs.held.all_held.Statement.{statement}
 use Rattle.trips.proofs.held.all_held.Tie as tie
 
@@ -20,6 +17,6 @@ loop-again c = let l = c .before .before .before .loop in (omega arith, all-agai
 
 pub all-held-spec : {M : Type 1} → statement M
 all-held-spec =
-    tie.close
-    (tie.spec Inv-loop μ-loop (λ c. (omega arith, all-start (omega arith))) (λ c. omega arith) returns (λ c. omega arith)
-    (λ c. omega arith) loop-again (λ c. all-ends (c .before .loop .inv .1) (omega arith)))
+    let answers = tie.spec Inv-loop μ-loop (λ c. (omega arith, all-start (omega arith))) (λ c. omega arith) returns (λ c. omega arith)
+    (λ c. omega arith) loop-again (λ c. all-ends (c .before .loop .inv .1) (omega arith)) in
+    tie.close answers

@@ -1,11 +1,8 @@
 -- `trips::held::held_bytes` meets its contract. The loop's invariant: the slice is what a pass of bytes has made of it up to second j.
--- Assumes nothing.
-use Rattle.rules.proofs.Base.{ℕ, _≤_, _-_, _≡_, refl, ap, _∙_, arith, length, length-set}
-use Rattle.rules.specs.Words.{at, pass, table}
+use Rattle.rules.proofs.Offered.{ℕ, _≤_, _-_, _≡_, refl, ap, _∙_, arith, length, length-set, at, pass, table, byte}
 use Rattle.trips.proofs.Passes.{pass-start, pass-more, pass-table}
 use Rattle.rules.specs.declared.Vehicle.{Vehicle}
 use Rattle.gears.specs.Parts.{Has}
-use Rattle.rules.specs.Corrections.{byte}
 use Rattle.trips.proofs.held.held_bytes.Statement.{statement}
 use Rattle.trips.proofs.held.held_bytes.Tie as tie
 
@@ -42,8 +39,8 @@ returns c =
 
 pub held-bytes-spec : {M : Type 1} → statement M
 held-bytes-spec =
-    tie.close
-    (tie.spec Inv-loop μ-loop (λ c. (omega arith, refl, λ car H. pass-start _ _))
+    let answers = tie.spec Inv-loop μ-loop (λ c. (omega arith, refl, λ car H. pass-start _ _))
     (λ c. let s = c .before .before .before .before .before .before in omega (arith, c .before .before .loop .inv, s .pre .1))
     byte-at-requires (λ c. omega arith) (λ c. omega arith) (λ c. simp length-set (omega arith)) loop-again
-    (λ c. c .before .loop .inv .1) returns)
+    (λ c. c .before .loop .inv .1) returns in
+    tie.close answers

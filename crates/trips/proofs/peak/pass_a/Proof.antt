@@ -1,9 +1,7 @@
 -- `trips::peak::pass_a` meets its contract. The loop's invariant: the slice is what pass A has made of it up to second j, and the gear before j goes along.
--- Assumes nothing.
-use Rattle.rules.proofs.Base.{_-_, _∙_, arith, add-one, length, length-set}
+use Rattle.rules.proofs.Offered.{_-_, _∙_, arith, add-one, length, length-set, peak}
 use Rattle.trips.proofs.Passes.{pass-first}
 use Rattle.gears.specs.Parts.{Has}
-use Rattle.rules.specs.Corrections.{peak}
 use Rattle.trips.proofs.Seconds.{peak-is}
 use Rattle.trips.proofs.Along.{Along, along-start, along-more, along-end, peak-first}
 use Rattle.trips.proofs.peak.pass_a.Statement.{statement}
@@ -45,7 +43,7 @@ returns-2 c =
 
 pub pass-a-spec : {M : Type 1} → statement M
 pass-a-spec =
-    tie.close
-    (tie.spec Inv-loop μ-loop returns (λ c. omega arith) loop-holds (λ c. omega arith) peak-at-requires
+    let answers = tie.spec Inv-loop μ-loop returns (λ c. omega arith) loop-holds (λ c. omega arith) peak-at-requires
     (λ c. omega arith) (λ c. omega arith) (λ c. simp length-set (omega arith)) loop-again
-    (λ c. c .before .loop .inv .size) returns-2)
+    (λ c. c .before .loop .inv .size) returns-2 in
+    tie.close answers

@@ -1,7 +1,5 @@
 -- `trips::peak::peak_at` meets its contract, by one law of pass A for each return.
--- Assumes nothing.
-use Rattle.rules.proofs.Base.{_+_, length, arith, sym, _∙_, needs}
-use Rattle.rules.specs.Words.{at}
+use Rattle.rules.proofs.Offered.{_+_, length, arith, sym, _∙_, needs, at}
 use Rattle.trips.proofs.Seconds.{free-held, free-later, peaked-level, peaked-still, peaked-last, peaked-flat, peaked-floor, peaked-cut}
 use Rattle.trips.proofs.peak.peak_at.Statement.{statement}
 use Rattle.trips.proofs.peak.peak_at.Tie as tie
@@ -26,7 +24,7 @@ returns-6 c = let a = c .before .before .before .before .before .before .before 
 
 pub peak-at-spec : {M : Type 1} → statement M
 peak-at-spec =
-    tie.close
-    (tie.spec returns (λ c. search needs) returns-2 (λ c. search needs) returns-3 (λ c. search needs)
+    let answers = tie.spec returns (λ c. search needs) returns-2 (λ c. search needs) returns-3 (λ c. search needs)
     (λ c. search needs) (λ c κs. search needs) (λ c. search needs) (λ c. search needs) (λ c. search needs)
-    (λ c κs. search needs) (λ c. search needs) returns-4 returns-5 returns-6)
+    (λ c κs. search needs) (λ c. search needs) returns-4 returns-5 returns-6 in
+    tie.close answers

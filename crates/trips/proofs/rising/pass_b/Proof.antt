@@ -1,9 +1,7 @@
 -- `trips::rising::pass_b` meets its contract. The loop's invariant: the slice is what pass B has made of it up to second j, and the gear before j goes along.
--- Assumes nothing.
-use Rattle.rules.proofs.Base.{_-_, arith, length, length-set}
+use Rattle.rules.proofs.Offered.{_-_, arith, length, length-set, rising}
 use Rattle.trips.proofs.Passes.{pass-first}
 use Rattle.gears.specs.Parts.{Has}
-use Rattle.rules.specs.Corrections.{rising}
 use Rattle.trips.proofs.Seconds.{rising-is}
 use Rattle.trips.proofs.Along.{Along, along-start, along-more, along-end, rising-first}
 use Rattle.trips.proofs.rising.pass_b.Statement.{statement}
@@ -23,9 +21,6 @@ returns c =
 
 loop-holds : tie.Need-loop-holds Inv-loop μ-loop
 loop-holds c = let a = c .before .before .before .before .before .args in along-start (λ car. Has car (a .k) (a .ratio .now)) (λ car. rising car (a .us .now) (a .hs .now)) (λ car H gs. rising-first car (a .us .now) (a .hs .now) gs) (a .gs .now) (omega arith)
-
-level-at-requires : tie.Need-level-at-requires Inv-loop μ-loop
-level-at-requires c κs = (c .before .before .before .loop .inv .later, omega arith)
 
 rising-at-requires : tie.Need-rising-at-requires Inv-loop μ-loop
 rising-at-requires c κs =
@@ -48,7 +43,7 @@ returns-2 c =
 
 pub pass-b-spec : {M : Type 1} → statement M
 pass-b-spec =
-    tie.close
-    (tie.spec Inv-loop μ-loop returns (λ c. omega arith) loop-holds (λ c. omega arith) level-at-requires
+    let answers = tie.spec Inv-loop μ-loop returns (λ c. omega arith) loop-holds (λ c. omega arith) (λ c κs. (c .before .before .before .loop .inv .later, omega arith))
     rising-at-requires (λ c. omega arith) (λ c. omega arith) (λ c. simp length-set (omega arith)) loop-again
-    (λ c. c .before .loop .inv .size) returns-2)
+    (λ c. c .before .loop .inv .size) returns-2 in
+    tie.close answers

@@ -1,16 +1,11 @@
 -- `trips::rising::rising_at` meets its contract, by one law of pass B for each return.
--- Assumes nothing.
-use Rattle.rules.proofs.Base.{arith, needs}
-use Rattle.rules.specs.Words.{at}
+use Rattle.rules.proofs.Offered.{arith, needs, at}
 use Rattle.trips.specs.Second.{ceiling-of}
 use Rattle.trips.proofs.Passes.{floor-few}
 use Rattle.trips.proofs.Seconds.{free-held, free-later, risen-level, risen-still, risen-flat, risen-low, risen-cut}
 use Rattle.gears.proofs.Parts.{built, built-has}
 use Rattle.trips.proofs.rising.rising_at.Statement.{statement}
 use Rattle.trips.proofs.rising.rising_at.Tie as tie
-
-returns : tie.Need-returns
-returns c = let a = c .before .before .before .args in λ car H. risen-level car (a .us .now) (a .hs .now) (a .j) (a .last) (a .level) (a .g) (omega arith)
 
 returns-2 : tie.Need-returns-2
 returns-2 c = let a = c .before .before .before .before .before .args in λ car H. risen-still car (a .us .now) (a .hs .now) (a .j) _ (a .g) (free-held car (a .us .now) (a .hs .now) (a .j) (λ z. omega arith))
@@ -32,7 +27,7 @@ returns-6 c = let a = c .before .before .before .before .before .before .before 
 
 pub rising-at-spec : {M : Type 1} → statement M
 rising-at-spec =
-    tie.close
-    (tie.spec returns (λ c. search needs) returns-2 (λ c. search needs) (λ c. search needs) (λ c. search needs)
-    (λ c. search needs) (λ c. search needs) returns-3 (λ c κs. search needs) returns-4 (λ c κs. search needs)
-    cast-result returns-5 (λ c. search needs) returns-6)
+    let answers = tie.spec (λ c. let a = c .before .before .before .args in λ car H. risen-level car (a .us .now) (a .hs .now) (a .j) (a .last) (a .level) (a .g) (omega arith)) (λ c. search needs)
+    returns-2 (λ c. search needs) (λ c. search needs) (λ c. search needs) (λ c. search needs) (λ c. search needs) returns-3 (λ c κs. search needs) returns-4 (λ c κs. search needs) cast-result
+    returns-5 (λ c. search needs) returns-6 in
+    tie.close answers

@@ -1,8 +1,6 @@
 -- `trips::settle::settle` meets its contract. The loop's invariant: the bytes up to second j are settled, and the gears that the passes look back at go along.
--- Assumes nothing.
-use Rattle.rules.proofs.Base.{ℕ, _≤_, _<_, _-_, _≡_, refl, sym, _∙_, arith, List, length, length-set, set, needs}
+use Rattle.rules.proofs.Offered.{ℕ, _≤_, _<_, _-_, _≡_, refl, sym, _∙_, arith, List, length, length-set, set, needs, at}
 use Rattle.rules.specs.declared.Vehicle.{Vehicle}
-use Rattle.rules.specs.Words.{at}
 use Rattle.gears.specs.Parts.{Has}
 use Rattle.gears.specs.Second.{Gear}
 use Rattle.gears.proofs.Parts.{low-of}
@@ -25,9 +23,6 @@ returns c =
     let a = s .args in
     λ car H. settling-none car (a .us .now) (a .hs .now) (a .gs .now) (s .pre .2 .gears) (omega (arith, s .pre .2 .gears, c .if1 .taken))
 
-cast-low : tie.Need-cast-low Inv-loop μ-loop
-cast-low c = let q = c .before .before .before .before .before .pre .0 in omega (arith, c .lowest .ensures, q .ng-to, q .low-to)
-
 -- the first gear is one
 first-gear : (c : tie.Else1 Inv-loop μ-loop) → Gear (at (c .before .before .before .before .args .gs .now) 0)
 first-gear c =
@@ -49,9 +44,6 @@ begun c car H =
     let s = c .before .before .before .before .before .before .before in
     let a = s .args in
     settling-start car (a .us .now) (a .hs .now) (a .gs .now) (s .pre .2 .gears) (omega (arith, s .pre .2 .gears, c .before .before .before .if1 .left)) (first-gear (c .before .before .before) .from) (c .byte-at .result) (c .byte-at .ensures car H)
-
-loop-holds : tie.Need-loop-holds Inv-loop μ-loop
-loop-holds c = (omega arith, simp length-set (omega arith), refl, λ car H base n S. S)
 
 -- inside the loop
 size : (c : tie.In-loop Inv-loop μ-loop) → length (c .before .loop .gs) ≡ length (c .before .before .before .before .before .before .before .before .before .args .hs .now)
@@ -120,10 +112,10 @@ returns-2 c =
 
 pub settle-spec : {M : Type 1} → statement M
 settle-spec =
-    tie.close
-    (tie.spec Inv-loop μ-loop returns (λ c κs. search needs) cast-low (λ c. omega arith) byte-at-requires (λ c. omega arith)
-    loop-holds (λ c. omega arith) peak-at-requires rising-at-requires slowing-at-requires byte-at-requires-2
+    let answers = tie.spec Inv-loop μ-loop returns (λ c κs. search needs) (λ c. let q = c .before .before .before .before .before .pre .0 in omega (arith, c .lowest .ensures, q .ng-to, q .low-to)) (λ c. omega arith) byte-at-requires (λ c. omega arith)
+    (λ c. (omega arith, simp length-set (omega arith), refl, λ car H base n S. S)) (λ c. omega arith) peak-at-requires rising-at-requires slowing-at-requires byte-at-requires-2
     (λ c. omega arith)
     (λ c. let s = c .before .before .before .before .before .before .before .before .before .before .before .before .before .before .before in omega (arith, s .fits, s .pre .2, size (c .before .before .before .before .before .before), c .before .before .before .before .before .before .loop-test))
     (λ c. simp length-set (omega arith)) loop-again
-    (λ c. c .before .loop .inv .2 ∙ length-set (c .before .before .before .before .before .before .before .before .before .args .gs .now) 0 _) returns-2)
+    (λ c. c .before .loop .inv .2 ∙ length-set (c .before .before .before .before .before .before .before .before .before .args .gs .now) 0 _) returns-2 in
+    tie.close answers

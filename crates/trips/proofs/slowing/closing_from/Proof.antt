@@ -1,6 +1,5 @@
 -- `trips::slowing::closing_from` meets its contract. The loop's invariant: every second from j on is in the closing run.
--- Assumes nothing.
-use Rattle.rules.proofs.Base.{arith, needs}
+use Rattle.rules.proofs.Offered.{arith, needs}
 use Rattle.trips.proofs.Closing.{Closing, run-start, run-never, run-more, run-stops, run-whole}
 use Rattle.trips.proofs.slowing.closing_from.Statement.{statement}
 use Rattle.trips.proofs.slowing.closing_from.Tie as tie
@@ -16,21 +15,15 @@ returns c =
     let s = c .before .before .before .before in
     run-never (s .args .us .now) (s .pre .0) _ (omega arith) (rw (c .before .moving .ensures) at (c .if1 .taken))
 
-loop-holds : tie.Need-loop-holds Inv-loop μ-loop
-loop-holds c = run-start (c .before .before .before .before .args .us .now) _ (omega arith) (rw (c .before .moving .ensures) at (c .if1 .left))
-
 returns-2 : tie.Need-returns-2 Inv-loop μ-loop
 returns-2 c = run-stops (c .before .before .before .before .before .before .before .before .before .args .us .now) (c .before .before .before .before .loop .inv) (c .before .before .before .before .before .before .before .before .before .pre .0) (omega arith) (omega arith)
 
 loop-again : tie.Need-loop-again Inv-loop μ-loop
 loop-again c = run-more (c .before .before .before .before .before .before .before .before .before .args .us .now) (c .before .before .before .before .loop .inv) (omega arith) (omega arith)
 
-returns-3 : tie.Need-returns-3 Inv-loop μ-loop
-returns-3 c = run-whole (c .before .before .before .before .before .before .args .us .now) (c .before .loop .inv) (omega arith)
-
 pub closing-from-spec : {M : Type 1} → statement M
 closing-from-spec =
-    tie.close
-    (tie.spec Inv-loop μ-loop (λ c. search needs) (λ c. search needs) (λ c. search needs) (λ c κs. search needs) returns
-    loop-holds (λ c. search needs) (λ c. search needs) (λ c. search needs) (λ c. search needs) (λ c. search needs)
-    returns-2 (λ c. search needs) loop-again returns-3)
+    let answers = tie.spec Inv-loop μ-loop (λ c. search needs) (λ c. search needs) (λ c. search needs) (λ c κs. search needs) returns
+    (λ c. run-start (c .before .before .before .before .args .us .now) _ (omega arith) (rw (c .before .moving .ensures) at (c .if1 .left))) (λ c. search needs) (λ c. search needs) (λ c. search needs) (λ c. search needs) (λ c. search needs)
+    returns-2 (λ c. search needs) loop-again (λ c. run-whole (c .before .before .before .before .before .before .args .us .now) (c .before .loop .inv) (omega arith)) in
+    tie.close answers

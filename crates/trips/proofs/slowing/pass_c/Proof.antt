@@ -1,10 +1,6 @@
 -- `trips::slowing::pass_c` meets its contract. The loop's invariant: the slice is what pass C has made of it up to second j, which is not the trip's first.
--- Assumes nothing.
-use Rattle.rules.proofs.Base.{ℕ, suc, _≤_, _<_, _+_, _-_, min, _≡_, refl, sym, _∙_, arith, List, length, length-set, needs}
+use Rattle.rules.proofs.Offered.{ℕ, suc, _≤_, _<_, _+_, _-_, min, _≡_, refl, sym, _∙_, arith, List, length, length-set, needs, pass, low, slowing}
 use Rattle.rules.specs.declared.Vehicle.{Vehicle}
-use Rattle.rules.specs.Words.{pass}
-use Rattle.rules.specs.Units.{low}
-use Rattle.rules.specs.Corrections.{slowing}
 use Rattle.gears.proofs.Parts.{low-of}
 use Rattle.trips.specs.Trip.{RunFrom}
 use Rattle.trips.proofs.Along.{slowing-first}
@@ -21,9 +17,6 @@ Inv-loop run hs gs₀ lowest j₀ gs j =
 abbrev μ-loop : tie.MeasureT-loop
 μ-loop run hs gs₀ lowest j₀ gs j = length gs - j
 
-cast-low : tie.Need-cast-low Inv-loop μ-loop
-cast-low c = let q = c .before .before .before .pre .0 in omega (arith, c .lowest .ensures, q .ng-to, q .low-to)
-
 loop-holds : tie.Need-loop-holds Inv-loop μ-loop
 loop-holds c =
     let a = c .before .before .before .args in
@@ -33,7 +26,7 @@ slowing-at-requires : tie.Need-slowing-at-requires Inv-loop μ-loop
 slowing-at-requires c κs =
     let s = c .before .before .before .before .before .before in
     let q = s .pre .0 in
-    (omega (arith, c .before .before .before .lowest .ensures, q .ng-to, q .low-to), omega (arith, c .before .before .loop .inv .1, s .pre .1 .gears))
+    omega (arith, c .before .before .before .lowest .ensures, q .ng-to, q .low-to, c .before .before .loop .inv .1, s .pre .1 .gears)
 
 loop-again : tie.Need-loop-again Inv-loop μ-loop
 loop-again c =
@@ -61,7 +54,7 @@ returns c =
 
 pub pass-c-spec : {M : Type 1} → statement M
 pass-c-spec =
-    tie.close
-    (tie.spec Inv-loop μ-loop (λ c κs. search needs) cast-low loop-holds (λ c. omega arith) slowing-at-requires
+    let answers = tie.spec Inv-loop μ-loop (λ c κs. search needs) (λ c. let q = c .before .before .before .pre .0 in omega (arith, c .lowest .ensures, q .ng-to, q .low-to)) loop-holds (λ c. omega arith) slowing-at-requires
     (λ c. omega arith) (λ c. omega arith) (λ c. simp length-set (omega arith)) loop-again
-    (λ c. c .before .loop .inv .1) returns)
+    (λ c. c .before .loop .inv .1) returns in
+    tie.close answers

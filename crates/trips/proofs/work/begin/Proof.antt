@@ -1,10 +1,6 @@
 -- `trips::work::begin` meets its contract: the first second is gone through, and those that creep after it.
--- Assumes nothing.
-use Rattle.rules.proofs.Base.{ℕ, arith, _≡_, refl, _∙_, true, needs, set, length-set, getD-set-same}
+use Rattle.rules.proofs.Offered.{ℕ, arith, _≡_, refl, _∙_, true, needs, set, length-set, getD-set-same, InBounds, pass, rise}
 use Rattle.rules.specs.declared.Vehicle.{Vehicle}
-use Rattle.rules.specs.Inside.{InBounds}
-use Rattle.rules.specs.Words.{pass}
-use Rattle.rules.specs.Units.{rise}
 use Rattle.gears.specs.Parts.{Has}
 use Rattle.trips.specs.Trip.{on-way}
 use Rattle.trips.proofs.Passes.{pass-start, pass-more}
@@ -38,8 +34,8 @@ returns-2 c =
 
 pub begin-spec : {M : Type 1} → statement M
 begin-spec =
-    tie.close
-    (tie.spec (λ c. search needs) (λ c. search needs) (λ c κs. search needs) (λ c. search needs) (λ c. search needs)
+    let answers = tie.spec (λ c. search needs) (λ c. search needs) (λ c κs. search needs) (λ c. search needs) (λ c. search needs)
     (λ c κs. search needs) (λ c. search needs) (λ c. ((omega arith, λ l. omega arith), first (c .before .before))) creep-requires
     (λ c. c .before .gs .given ∙ length-set (c .before .before .before .before .before .before .before .before .before .before .before .before .before .args .gs .now) 0 _) returns-2
-    (λ c. ((omega arith, λ l. absurd (omega (arith, c .if1 .left))), λ car H b run last. pass-start _ _)))
+    (λ c. ((omega arith, λ l. absurd (omega (arith, c .if1 .left))), λ car H b run last. pass-start _ _)) in
+    tie.close answers

@@ -1,6 +1,5 @@
 -- `trips::work::choice_at` meets its contract: what is handed on is what the second is, and D.
--- Assumes nothing.
-use Rattle.rules.proofs.Base.{arith, needs}
+use Rattle.rules.proofs.Offered.{arith, needs}
 use Rattle.trips.proofs.Clutch.{rise-here}
 use Rattle.trips.proofs.work.choice_at.Statement.{statement}
 use Rattle.trips.proofs.work.choice_at.Tie as tie
@@ -20,6 +19,6 @@ returns c =
 
 pub choice-at-spec : {M : Type 1} → statement M
 choice-at-spec =
-    tie.close
-    (tie.spec (λ c. search needs) (λ c. search needs) (λ c. search needs) (λ c. search needs) (λ c. search needs)
-    (λ c. search needs) choice-after-requires returns)
+    let answers = tie.spec (λ c. search needs) (λ c. search needs) (λ c. search needs) (λ c. search needs) (λ c. search needs)
+    (λ c. search needs) choice-after-requires returns in
+    tie.close answers

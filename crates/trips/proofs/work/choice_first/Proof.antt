@@ -1,6 +1,5 @@
 -- `trips::work::choice_first` meets its contract: one law of the first second for each return.
--- Assumes nothing.
-use Rattle.rules.proofs.Base.{arith, needs}
+use Rattle.rules.proofs.Offered.{arith, needs}
 use Rattle.trips.proofs.Trip.{first-none, first-one, first-held}
 use Rattle.trips.proofs.work.choice_first.Statement.{statement}
 use Rattle.trips.proofs.work.choice_first.Tie as tie
@@ -24,4 +23,4 @@ returns-3 : tie.Need-returns-3
 returns-3 c = λ car H b d. first-one H b _ d _ (c .before .before .before .before .if1 .left) (c .before .before .before .lowest .ensures) (rw (c .before .before .top .ensures, c .before .engine .ensures) at (c .if2 .left))
 
 pub choice-first-spec : {M : Type 1} → statement M
-choice-first-spec = tie.close (tie.spec (λ c. λ car H b d. first-held car _ d _ (c .if1 .taken)) (λ c κs. search needs) (λ c κs. search needs) engine-requires returns-2 cast-result returns-3)
+choice-first-spec = let answers = tie.spec (λ c. λ car H b d. first-held car _ d _ (c .if1 .taken)) (λ c κs. search needs) (λ c κs. search needs) engine-requires returns-2 cast-result returns-3 in tie.close answers

@@ -1,11 +1,6 @@
 -- `trips::work::creep` meets its contract. The loop's invariant: the slice holds the first choices up to second j, the last of them the lowest gear.
--- Assumes nothing.
-use Rattle.rules.proofs.Base.{ℕ, _+_, _-_, _≤_, _≡_, refl, sym, _∙_, arith, true, List, needs, length, length-set, getD-set-same, ne-eqb, not-false}
+use Rattle.rules.proofs.Offered.{ℕ, _+_, _-_, _≤_, _≡_, refl, sym, _∙_, arith, true, List, needs, length, length-set, getD-set-same, ne-eqb, not-false, InBounds, at, pass, rise, and-no}
 use Rattle.rules.specs.declared.Vehicle.{Vehicle}
-use Rattle.rules.specs.Inside.{InBounds}
-use Rattle.rules.specs.Words.{at, pass}
-use Rattle.rules.specs.Units.{rise}
-use Rattle.rules.proofs.Laws.Words.{and-no}
 use Rattle.gears.specs.Parts.{Has}
 use Rattle.trips.specs.Trip.{on-way}
 use Rattle.trips.proofs.Passes.{pass-more}
@@ -20,18 +15,6 @@ Inv-loop k ratio us hs gs₀ low j₀ gs j =
 
 abbrev μ-loop : tie.MeasureT-loop
 μ-loop k ratio us hs gs₀ low j₀ gs j = length gs - j
-
-cast-low : tie.Need-cast-low Inv-loop μ-loop
-cast-low c = let s = c .before .before .before .before in omega (arith, c .lowest .ensures, s .pre .0 .low-to, s .pre .0 .ng-to)
-
-loop-holds : tie.Need-loop-holds Inv-loop μ-loop
-loop-holds c = let s = c .before .before .before .before in (omega arith, s .pre .3, refl, s .pre .4 ∙ sym (c .lowest .ensures), λ car H b run last base e. e)
-
-creeps-requires : tie.Need-creeps-requires Inv-loop μ-loop
-creeps-requires c κs = let s = c .before .before .before .before .before .before .before .before in (s .pre .0, s .pre .1)
-
-returns : tie.Need-returns Inv-loop μ-loop
-returns c = let l = c .before .before .before .before .before .loop .inv in ((l .0, omega (arith, l .1, l .2)), l .4)
 
 loop-again : tie.Need-loop-again Inv-loop μ-loop
 loop-again c =
@@ -48,17 +31,16 @@ loop-again c =
           (o ∙ rw (l .inv .3, o) (c .before .creeps .ensures (not-false (c .before .creeps .result) (c .if1 .left)) car H b _ (rise (a .us .now) (l .j))))),
     )
 
-returns-2 : tie.Need-returns-2 Inv-loop μ-loop
-returns-2 c = let l = c .before .loop .inv in ((l .0, omega (arith, l .1, l .2)), l .4)
-
 -- a second of the trip
 second : (c : tie.After-shared-slice-known3 Inv-loop μ-loop) → let s = c .before .before .before .before .before .before .before in c .before .before .loop .j + 1 ≤ length (s .args .hs .now)
 second c = let s = c .before .before .before .before .before .before .before in omega (arith, c .before .before .loop .inv .2, s .pre .2 .gears, c .before .loop-test)
 
 pub creep-spec : {M : Type 1} → statement M
 creep-spec =
-    tie.close
-    (tie.spec Inv-loop μ-loop (λ c κs. search needs) cast-low loop-holds (λ c. search needs)
+    let answers = tie.spec Inv-loop μ-loop (λ c κs. search needs) (λ c. let s = c .before .before .before .before in omega (arith, c .lowest .ensures, s .pre .0 .low-to, s .pre .0 .ng-to))
+    (λ c. let s = c .before .before .before .before in (omega arith, s .pre .3, refl, s .pre .4 ∙ sym (c .lowest .ensures), λ car H b run last base e. e)) (λ c. search needs)
     (λ c. omega (arith, second c, c .before .before .before .before .before .before .before .pre .2 .speeds)) (λ c. omega (arith, second (c .before)))
-    creeps-requires (λ c. c .before .before .before .before .before .loop .inv .2) returns (λ c. omega arith) (λ c. omega arith)
-    (λ c. simp length-set (omega arith)) loop-again (λ c. c .before .loop .inv .2) returns-2)
+    (λ c κs. let s = c .before .before .before .before .before .before .before .before in (s .pre .0, s .pre .1)) (λ c. c .before .before .before .before .before .loop .inv .2)
+    (λ c. let l = c .before .before .before .before .before .loop .inv in ((l .0, omega (arith, l .1, l .2)), l .4)) (λ c. omega arith) (λ c. omega arith) (λ c. simp length-set (omega arith))
+    loop-again (λ c. c .before .loop .inv .2) (λ c. let l = c .before .loop .inv in ((l .0, omega (arith, l .1, l .2)), l .4)) in
+    tie.close answers

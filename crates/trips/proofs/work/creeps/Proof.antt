@@ -1,6 +1,5 @@
 -- `trips::work::creeps` meets its contract: two returns say nothing, and the third cites the law.
--- Assumes nothing.
-use Rattle.rules.proofs.Base.{arith, true≢false, sym, needs, leb-true}
+use Rattle.rules.proofs.Offered.{arith, true≢false, sym, needs, leb-true}
 use Rattle.trips.proofs.Creeping.{creeping}
 use Rattle.trips.proofs.work.creeps.Statement.{statement}
 use Rattle.trips.proofs.work.creeps.Tie as tie
@@ -20,7 +19,7 @@ returns-3 c = λ t car H b closes d.
 
 pub creeps-spec : {M : Type 1} → statement M
 creeps-spec =
-    tie.close
-    (tie.spec (λ c. λ t. absurd (true≢false (sym t))) (λ c κs. search needs) (λ c κs. search needs)
+    let answers = tie.spec (λ c. λ t. absurd (true≢false (sym t))) (λ c κs. search needs) (λ c κs. search needs)
     (λ c. search needs) engine-requires (λ c. λ t. absurd (true≢false (sym t))) engine-requires-2 (λ c κs. search needs)
-    returns-3)
+    returns-3 in
+    tie.close answers

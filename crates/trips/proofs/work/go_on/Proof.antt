@@ -1,8 +1,5 @@
 -- `trips::work::go_on` meets its contract: nothing is left, or the later seconds are.
--- Assumes nothing.
-use Rattle.rules.proofs.Base.{ℕ, arith, _≡_, ap, _∙_, true, needs, length, ne-eqb}
-use Rattle.rules.specs.Words.{pass}
-use Rattle.rules.proofs.Laws.Words.{and-no}
+use Rattle.rules.proofs.Offered.{ℕ, arith, _≡_, ap, _∙_, true, needs, length, ne-eqb, pass, and-no}
 use Rattle.trips.specs.Trip.{on-way}
 use Rattle.trips.proofs.work.go_on.Statement.{statement}
 use Rattle.trips.proofs.work.go_on.Tie as tie
@@ -14,9 +11,6 @@ returns c =
     let m : a .j ≡ length (a .hs .now) = omega (arith, s .pre .2 .gears, s .pre .3, c .if1 .taken) in
     λ car L before base e. e ∙ ap (λ (i : ℕ). pass (on-way car (a .us .now) (a .hs .now) true (a .run) before) i base) m
 
-later-choices-requires : tie.Need-later-choices-requires
-later-choices-requires c κs = let s = c .before .before .before .before .before .before in (s .pre .0, s .pre .1, s .pre .2, s .pre .3)
-
 returns-2 : tie.Need-returns-2
 returns-2 c =
     let s = c .before .before .before .before .before .before .before .before .before in
@@ -26,6 +20,6 @@ returns-2 c =
 
 pub go-on-spec : {M : Type 1} → statement M
 go-on-spec =
-    tie.close
-    (tie.spec returns (λ c. let s = c .before .before .before .before in omega (arith, c .if1 .left, s .pre .4 (omega (arith, c .if1 .left))))
-    (λ c. search needs) later-choices-requires (λ c. search needs) returns-2)
+    let answers = tie.spec returns (λ c. let s = c .before .before .before .before in omega (arith, c .if1 .left, s .pre .4 (omega (arith, c .if1 .left))))
+    (λ c. search needs) (λ c κs. let s = c .before .before .before .before .before .before in (s .pre .0, s .pre .1, s .pre .2, s .pre .3)) (λ c. search needs) returns-2 in
+    tie.close answers

@@ -1,8 +1,5 @@
 -- `trips::work::later_choices` meets its contract. The loop's invariant: the slice holds the first choices up to second j.
--- Assumes nothing.
-use Rattle.rules.proofs.Base.{ℕ, _+_, _-_, _≤_, _≡_, refl, sym, ap, _∙_, arith, Bool, List, needs, length, length-set, getD-set-same, false, eqb, ne-eqb}
-use Rattle.rules.specs.Words.{if_then_else_, _and_, at, pass}
-use Rattle.rules.proofs.Laws.Words.{and-no}
+use Rattle.rules.proofs.Offered.{ℕ, _+_, _-_, _≤_, _≡_, refl, sym, ap, _∙_, arith, Bool, List, needs, length, length-set, getD-set-same, false, eqb, ne-eqb, if_then_else_, _and_, at, pass, and-no}
 use Rattle.trips.specs.Trip.{on-way}
 use Rattle.trips.proofs.Trip.{way-step, any-hints}
 use Rattle.trips.proofs.Passes.{pass-more}
@@ -64,6 +61,6 @@ returns c =
 
 pub later-choices-spec : {M : Type 1} → statement M
 later-choices-spec =
-    tie.close
-    (tie.spec Inv-loop μ-loop (λ c κs. search needs) (λ c. search needs) loop-holds choice-at-requires (λ c. omega arith)
-    add-j (λ c. simp length-set (omega arith)) loop-again (λ c. search needs) returns)
+    let answers = tie.spec Inv-loop μ-loop (λ c κs. search needs) (λ c. search needs) loop-holds choice-at-requires (λ c. omega arith)
+    add-j (λ c. simp length-set (omega arith)) loop-again (λ c. search needs) returns in
+    tie.close answers

@@ -1,8 +1,6 @@
 -- `trips::work::work_trip` meets its contract: what each call leaves is what the next one finds.
--- Assumes nothing.
-use Rattle.rules.proofs.Base.{arith, _≡_, sym, _∙_, needs}
+use Rattle.rules.proofs.Offered.{arith, _≡_, sym, _∙_, needs, firsts}
 use Rattle.rules.specs.declared.Vehicle.{Vehicle}
-use Rattle.rules.specs.Corrections.{firsts}
 use Rattle.gears.specs.Parts.{Lent}
 use Rattle.trips.proofs.Trip.{way-firsts, gears-is, bytes-is, held-there, held-is, moves-on, gears-few, gears-two}
 use Rattle.trips.proofs.work.work_trip.Statement.{statement}
@@ -19,12 +17,6 @@ returns : tie.Need-returns
 returns c =
     let a = c .before .before .before .before .before .before .before .before .before .args in
     λ car L. held-is car (a .us .now) (a .hs .now) (sym (c .before .before .before .before .before .all-held .ensures) ∙ c .before .before .before .before .if1 .taken) (c .before .before .held-bytes .ensures car (L .has))
-
-closing-from-requires : tie.Need-closing-from-requires
-closing-from-requires c κs = let s = c .before .before .before .before .before in (moves-on (s .pre .1), omega (arith, s .pre .1 .lists .speeds))
-
-begin-requires : tie.Need-begin-requires
-begin-requires c κs = let s = c .before .before .before .before .before .before .before in (gears-few (s .pre .0), gears-two (s .pre .0), s .pre .1 .lists)
 
 go-on-requires : tie.Need-go-on-requires
 go-on-requires c κs =
@@ -64,6 +56,8 @@ returns-2 c =
 
 pub work-trip-spec : {M : Type 1} → statement M
 work-trip-spec =
-    tie.close
-    (tie.spec (λ c κs. search needs) held-bytes-requires (λ c. search needs) returns closing-from-requires begin-requires
-    go-on-requires settle-requires (λ c. search needs) returns-2)
+    let answers = tie.spec (λ c κs. search needs) held-bytes-requires (λ c. search needs) returns
+    (λ c κs. let s = c .before .before .before .before .before in (moves-on (s .pre .1), omega (arith, s .pre .1 .lists .speeds)))
+    (λ c κs. let s = c .before .before .before .before .before .before .before in (gears-few (s .pre .0), gears-two (s .pre .0), s .pre .1 .lists)) go-on-requires settle-requires (λ c. search needs)
+    returns-2 in
+    tie.close answers

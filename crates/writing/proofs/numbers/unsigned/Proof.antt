@@ -1,9 +1,6 @@
 -- `writing::numbers::unsigned` meets its contract: what is no less than -5,000 is, with 5,000 added, no less than 0.
--- Assumes nothing.
-use Rattle.rules.proofs.Base.{arith, ℤ, pos, natAbs, _+ℤ_, _≡_, ℕ, _≤_, T, nonNeg, toZ-ofZ, SFits, w32}
+use Rattle.rules.proofs.Offered.{arith, ℤ, pos, natAbs, _+ℤ_, _≡_, ℕ, _≤_, T, nonNeg, toZ-ofZ, SFits, w32, small-i32, shifted}
 use Prim.{tt}
-use Rattle.rules.proofs.Laws.Range.{small-i32}
-use Rattle.rules.proofs.Laws.Writes.{shifted}
 use Rattle.writing.proofs.numbers.unsigned.Statement.{statement}
 use Rattle.writing.proofs.numbers.unsigned.Tie as tie
 
@@ -20,4 +17,4 @@ cast-result : tie.Need-cast-result
 cast-result c = rw (toZ-ofZ (small (c .args .f1) (c .pre)), toZ-ofZ (sum (c .args .f1) (c .pre))) (at-least _ _ (shifted (c .args .f1) (c .pre) .0), omega (arith, shifted (c .args .f1) (c .pre) .1))
 
 pub unsigned-spec : {M : Type 1} → statement M
-unsigned-spec = tie.close (tie.spec (λ c. rw (toZ-ofZ (small (c .args .f1) (c .pre))) (sum (c .args .f1) (c .pre))) cast-result (λ c. rw (toZ-ofZ (small (c .args .f1) (c .pre)), toZ-ofZ (sum (c .args .f1) (c .pre)))))
+unsigned-spec = let answers = tie.spec (λ c. rw (toZ-ofZ (small (c .args .f1) (c .pre))) (sum (c .args .f1) (c .pre))) cast-result (λ c. rw (toZ-ofZ (small (c .args .f1) (c .pre)), toZ-ofZ (sum (c .args .f1) (c .pre)))) in tie.close answers

@@ -1,7 +1,5 @@
 -- `writing::put_groups::put_counted` meets its contract: the count, and the values after it.
--- Assumes nothing.
-use Rattle.rules.proofs.Base.{arith, length-append, needs}
-use Rattle.rules.specs.Groups.{form}
+use Rattle.rules.proofs.Offered.{arith, length-append, needs, form}
 use Rattle.writing.specs.Writing.{values-bytes}
 use Rattle.reading.proofs.PutInTurn.{put-both}
 use Rattle.writing.proofs.put_groups.put_counted.Statement.{statement}
@@ -15,10 +13,7 @@ put-group-requires c κs =
 put-values-requires : tie.Need-put-values-requires
 put-values-requires c κs =
     let s = c .before .before .before .before .before .before .before in
-    (omega (arith, s .pre), omega (arith, s .pre, c .before .before .before .put-group .ensures, length-append (form (s .args .count)) (values-bytes (s .args .values .now) (s .args .count))))
-
-returns : tie.Need-returns
-returns c = put-both (c .before .before .before .before .before .before .put-group .ensures) (c .before .before .put-values .ensures)
+    omega (arith, s .pre, c .before .before .before .put-group .ensures, length-append (form (s .args .count)) (values-bytes (s .args .values .now) (s .args .count)))
 
 pub put-counted-spec : {M : Type 1} → statement M
-put-counted-spec = tie.close (tie.spec put-group-requires put-values-requires (λ c. search needs) returns)
+put-counted-spec = let answers = tie.spec put-group-requires put-values-requires (λ c. search needs) (λ c. put-both (c .before .before .before .before .before .before .put-group .ensures) (c .before .before .put-values .ensures)) in tie.close answers

@@ -1,8 +1,5 @@
 -- `writing::put_groups::put_group` meets its contract: at each `return` the form is known, and its bytes were put one after another.
--- Assumes nothing.
-use Rattle.rules.proofs.Base.{ℕ, _≤_, _<_, arith, _≡_, ap, length, needs}
-use Rattle.rules.specs.Groups.{form}
-use Rattle.rules.proofs.Laws.Groups.{form-one, form-two, form-three, form-size}
+use Rattle.rules.proofs.Offered.{ℕ, _≤_, _<_, arith, _≡_, ap, length, needs, form, form-one, form-two, form-three, form-size}
 use Rattle.reading.proofs.PutInTurn.{put-both}
 use Rattle.writing.proofs.put_groups.put_group.Statement.{statement}
 use Rattle.writing.proofs.put_groups.put_group.Tie as tie
@@ -13,17 +10,8 @@ two v h k = ap length (form-two v h k)
 three : (v : ℕ) → 16384 ≤ v → length (form v) ≡ 3
 three v h = ap length (form-three v h)
 
-returns : tie.Need-returns
-returns c = rw (form-one (c .before .before .before .before .before .before .args .v) (omega arith)) (c .before .before .put-byte .ensures)
-
-put-byte-requires-3 : tie.Need-put-byte-requires-3
-put-byte-requires-3 c κs = omega (arith, two (c .before .before .before .before .before .before .before .before .args .v) (omega arith) (omega arith))
-
 returns-2 : tie.Need-returns-2
 returns-2 c = rw (form-two (c .before .before .before .before .before .before .before .before .before .before .before .args .v) (omega arith) (omega arith)) (put-both (c .before .before .before .before .before .before .before .put-byte2 .ensures) (c .before .before .put-byte3 .ensures))
-
-put-byte-requires-4 : tie.Need-put-byte-requires-4
-put-byte-requires-4 c κs = omega (arith, three (c .before .before .before .before .before .before .before .before .args .v) (omega arith))
 
 put-byte-requires-5 : tie.Need-put-byte-requires-5
 put-byte-requires-5 c κs = omega (arith, three (c .before .before .before .before .before .before .before .before .before .before .before .before .args .v) (omega arith))
@@ -33,10 +21,10 @@ returns-3 c = rw (form-three (c .before .before .before .before .before .before 
 
 pub put-group-spec : {M : Type 1} → statement M
 put-group-spec =
-    tie.close
-    (tie.spec (λ c. search needs)
+    let answers = tie.spec (λ c. search needs)
     (λ c κs. omega (arith, form-size (c .before .before .before .args .v) .0))
-    (λ c. search needs) returns (λ c. search needs) (λ c. search needs)
+    (λ c. search needs) (λ c. rw (form-one (c .before .before .before .before .before .before .args .v) (omega arith)) (c .before .before .put-byte .ensures)) (λ c. search needs) (λ c. search needs)
     (λ c κs. omega (arith, form-size (c .before .before .before .args .v) .0))
-    (λ c. search needs) put-byte-requires-3 (λ c. search needs) returns-2 (λ c. search needs) (λ c. search needs)
-    put-byte-requires-4 (λ c. search needs) put-byte-requires-5 (λ c. search needs) returns-3)
+    (λ c. search needs) (λ c κs. omega (arith, two (c .before .before .before .before .before .before .before .before .args .v) (omega arith) (omega arith))) (λ c. search needs) returns-2 (λ c. search needs) (λ c. search needs)
+    (λ c κs. omega (arith, three (c .before .before .before .before .before .before .before .before .args .v) (omega arith))) (λ c. search needs) put-byte-requires-5 (λ c. search needs) returns-3 in
+    tie.close answers

@@ -1,8 +1,5 @@
 -- `writing::put_groups::put_held` meets its contract. The loop's invariant: the bytes of the holds that are left, put from here, make all.
--- Assumes nothing.
-use Rattle.rules.proofs.Base.{suc, _-_, _≤_, arith, add-one, length, needs}
-use Rattle.rules.specs.Words.{at}
-use Rattle.rules.specs.Job.{gather}
+use Rattle.rules.proofs.Offered.{suc, _-_, _≤_, arith, add-one, length, needs, at, gather}
 use Rattle.writing.specs.Writing.{pairs-bytes, hold-bytes}
 use Rattle.reading.proofs.PutInTurn.{Left, all-left, fewer-left, has-space, none-left, said-as, put-none}
 use Rattle.writing.proofs.BytesLeft.{held-left, held-more, held-end, held-nowhere}
@@ -47,6 +44,6 @@ returns-2 c =
 
 pub put-held-spec : {M : Type 1} → statement M
 put-held-spec =
-    tie.close
-    (tie.spec Inv-loop μ-loop returns loop-holds (λ c. search needs) (λ c. search needs) put-hold-requires
-    (λ c. search needs) (λ c. search needs) loop-again (λ c. search needs) returns-2)
+    let answers = tie.spec Inv-loop μ-loop returns loop-holds (λ c. search needs) (λ c. search needs) put-hold-requires
+    (λ c. search needs) (λ c. search needs) loop-again (λ c. search needs) returns-2 in
+    tie.close answers

@@ -1,8 +1,5 @@
 -- `writing::put_groups::put_hold` meets its contract: at each `return` it is known whether there is a hold.
--- Assumes nothing.
-use Rattle.rules.proofs.Base.{arith, _≡_, ap, _∙_, _≢_, ℕ, _+_, [], _++_, length, length-append, eq-eqb, ne-eqb, needs}
-use Rattle.rules.specs.Groups.{form}
-use Rattle.rules.proofs.Laws.Groups.{form-one}
+use Rattle.rules.proofs.Offered.{arith, _≡_, ap, _∙_, _≢_, ℕ, _+_, [], _++_, length, length-append, eq-eqb, ne-eqb, needs, form, form-one}
 use Rattle.writing.specs.Writing.{hold-bytes}
 use Rattle.reading.proofs.PutInTurn.{put-both, put-none}
 use Rattle.writing.proofs.put_groups.put_hold.Statement.{statement}
@@ -19,12 +16,6 @@ a-hold s g e = rw (ne-eqb g 0 e)
 size : (s g : ℕ) → g ≢ 0 → length (hold-bytes s g) ≡ length (form s) + length (form g)
 size s g e = ap length (a-hold s g e) ∙ length-append (form s) (form g)
 
-returns : tie.Need-returns
-returns c = rw (no-hold (c .before .before .args .second) (c .before .before .args .gear) (c .if1 .taken)) (put-none (omega arith))
-
-put-short-requires : tie.Need-put-short-requires
-put-short-requires c κs = let s = c .before .before .before in (s .pre .0, omega (arith, s .pre .2, size (s .args .second) (s .args .gear) (c .before .if1 .left)))
-
 put-byte-requires : tie.Need-put-byte-requires
 put-byte-requires c κs = let s = c .before .before .before .before .before .before .before in omega (arith, s .pre .2, ap length (form-one (s .args .gear) (s .pre .1)), size (s .args .second) (s .args .gear) (c .before .before .before .before .before .if1 .left))
 
@@ -34,4 +25,7 @@ returns-2 c =
     rw (a-hold (s .args .second) (s .args .gear) (c .before .before .before .before .before .before .before .before .if1 .left), form-one (s .args .gear) (s .pre .1)) (put-both (c .before .before .before .before .before .before .put-short .ensures) (c .before .before .put-byte .ensures))
 
 pub put-hold-spec : {M : Type 1} → statement M
-put-hold-spec = tie.close (tie.spec returns put-short-requires put-byte-requires (λ c. search needs) returns-2)
+put-hold-spec =
+    let answers = tie.spec (λ c. rw (no-hold (c .before .before .args .second) (c .before .before .args .gear) (c .if1 .taken)) (put-none (omega arith)))
+    (λ c κs. let s = c .before .before .before in (s .pre .0, omega (arith, s .pre .2, size (s .args .second) (s .args .gear) (c .before .if1 .left)))) put-byte-requires (λ c. search needs) returns-2 in
+    tie.close answers

@@ -1,9 +1,5 @@
 -- `writing::put_groups::put_points` meets its contract. The loop's invariant: the bytes of the points that are left, put from here, make all.
--- Assumes nothing.
-use Rattle.rules.proofs.Base.{suc, _+_, _-_, _≤_, arith, add-one, _++_, needs}
-use Rattle.rules.specs.Groups.{form}
-use Rattle.rules.specs.Words.{at}
-use Rattle.rules.specs.Job.{points-of}
+use Rattle.rules.proofs.Offered.{suc, _+_, _-_, _≤_, arith, add-one, _++_, needs, form, at, points-of}
 use Rattle.writing.specs.Writing.{margin, points-bytes}
 use Rattle.reading.proofs.PutInTurn.{Left, fewer-left, has-space, none-left, said-as}
 use Rattle.writing.proofs.BytesLeft.{points-left, points-more, points-none, points-begin}
@@ -56,7 +52,7 @@ returns c =
 
 pub put-points-spec : {M : Type 1} → statement M
 put-points-spec =
-    tie.close
-    (tie.spec Inv-loop μ-loop loop-holds (λ c. search needs) (λ c. search needs) put-group-requires (λ c. search needs)
+    let answers = tie.spec Inv-loop μ-loop loop-holds (λ c. search needs) (λ c. search needs) put-group-requires (λ c. search needs)
     (λ c. search needs) put-group-requires-2 (λ c. search needs) (λ c. search needs) put-since-requires
-    (λ c. search needs) (λ c. search needs) loop-again (λ c. search needs) returns)
+    (λ c. search needs) (λ c. search needs) loop-again (λ c. search needs) returns in
+    tie.close answers

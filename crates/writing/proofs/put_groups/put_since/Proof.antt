@@ -1,6 +1,5 @@
 -- `writing::put_groups::put_since` meets its contract: before the first version that has it nothing is put.
--- Assumes nothing.
-use Rattle.rules.proofs.Base.{arith, needs, le-leb, lt-leb}
+use Rattle.rules.proofs.Offered.{arith, needs, le-leb, lt-leb}
 use Rattle.reading.proofs.PutInTurn.{put-none}
 use Rattle.writing.proofs.BytesLeft.{since-late, since-early}
 use Rattle.writing.proofs.put_groups.put_since.Statement.{statement}
@@ -16,4 +15,4 @@ returns-2 : tie.Need-returns-2
 returns-2 c = let s = c .before .before .before .before .before .before in rw (since-late (s .args .first) (s .args .version) (s .args .v) (le-leb _ _ (c .before .before .before .before .if1 .left))) (c .before .before .put-group .ensures)
 
 pub put-since-spec : {M : Type 1} → statement M
-put-since-spec = tie.close (tie.spec returns put-group-requires (λ c. search needs) returns-2)
+put-since-spec = let answers = tie.spec returns put-group-requires (λ c. search needs) returns-2 in tie.close answers

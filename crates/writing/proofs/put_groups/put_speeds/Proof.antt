@@ -1,8 +1,5 @@
 -- `writing::put_groups::put_speeds` meets its contract. The loop's invariant: the bytes of the speeds that are left, put from here, make all.
--- Assumes nothing.
-use Rattle.rules.proofs.Base.{suc, _-_, _≤_, arith, add-one, length, needs}
-use Rattle.rules.specs.Groups.{form}
-use Rattle.rules.specs.Words.{at}
+use Rattle.rules.proofs.Offered.{suc, _-_, _≤_, arith, add-one, length, needs, form, at}
 use Rattle.writing.specs.Writing.{values-bytes}
 use Rattle.reading.proofs.PutInTurn.{Left, fewer-left, has-space, none-left, said-as}
 use Rattle.writing.proofs.BytesLeft.{values-left, values-more, values-none, values-begin}
@@ -41,6 +38,6 @@ returns c =
 
 pub put-speeds-spec : {M : Type 1} → statement M
 put-speeds-spec =
-    tie.close
-    (tie.spec Inv-loop μ-loop loop-holds (λ c. search needs) (λ c. search needs) put-short-requires (λ c. search needs)
-    (λ c. search needs) loop-again (λ c. search needs) returns)
+    let answers = tie.spec Inv-loop μ-loop loop-holds (λ c. search needs) (λ c. search needs) put-short-requires (λ c. search needs)
+    (λ c. search needs) loop-again (λ c. search needs) returns in
+    tie.close answers

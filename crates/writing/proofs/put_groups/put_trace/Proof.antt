@@ -1,7 +1,5 @@
 -- `writing::put_groups::put_trace` meets its contract: the count, and the speeds after it.
--- Assumes nothing.
-use Rattle.rules.proofs.Base.{arith, length, length-append, needs}
-use Rattle.rules.specs.Groups.{form}
+use Rattle.rules.proofs.Offered.{arith, length, length-append, needs, form}
 use Rattle.writing.specs.Writing.{values-bytes}
 use Rattle.reading.proofs.PutInTurn.{put-both}
 use Rattle.writing.proofs.put_groups.put_trace.Statement.{statement}
@@ -19,8 +17,8 @@ put-speeds-requires c κs =
     let vs = s .args .speeds .now in
     (s .pre .0, omega (arith, s .pre .2, c .before .before .before .put-group .ensures, length-append (form (length vs)) (values-bytes vs (length vs))))
 
-returns : tie.Need-returns
-returns c = put-both (c .before .before .before .before .before .before .put-group .ensures) (c .before .before .put-speeds .ensures)
-
 pub put-trace-spec : {M : Type 1} → statement M
-put-trace-spec = tie.close (tie.spec (λ c. search needs) put-group-requires put-speeds-requires (λ c. search needs) returns)
+put-trace-spec =
+    let answers = tie.spec (λ c. search needs) put-group-requires put-speeds-requires (λ c. search needs)
+    (λ c. put-both (c .before .before .before .before .before .before .put-group .ensures) (c .before .before .put-speeds .ensures)) in
+    tie.close answers

@@ -1,9 +1,6 @@
 -- `writing::put_groups::put_vehicle` meets its contract: the pieces of the vehicle's bytes, put one after another.
--- Assumes nothing.
-use Rattle.rules.proofs.Base.{ℕ, _+_, arith, List, _++_, needs}
+use Rattle.rules.proofs.Offered.{ℕ, _+_, arith, List, _++_, needs, form, points-of, parts-of, vehicle}
 use Rattle.rules.specs.declared.Vehicle.{Vehicle}
-use Rattle.rules.specs.Groups.{form}
-use Rattle.rules.specs.Job.{points-of, parts-of, vehicle}
 use Rattle.writing.specs.Writing.{values-bytes, since, points-bytes}
 use Rattle.reading.proofs.PutInTurn.{all-left, fewer-left, has-space, last-left, said-as}
 use Rattle.writing.proofs.Bytes.{vehicle-bytes, eight-long}
@@ -47,7 +44,7 @@ put-counted-requires c κs =
     let car = s .args .t4 in
     let l₀ = said-as (vehicle-bytes v car) (all-left (s .args .room .now) (s .args .at) (vehicle v .write car) (s .pre .1)) in
     let l₁ = fewer-left l₀ (c .before .before .before .before .before .before .put-since .ensures) in
-    (omega (arith, s .pre .0 .ng-to), omega (arith, has-space (gears car) (after-gears v car) l₁))
+    omega (arith, s .pre .0 .ng-to, has-space (gears car) (after-gears v car) l₁)
 
 put-values-requires : tie.Need-put-values-requires
 put-values-requires c κs =
@@ -81,7 +78,7 @@ put-points-requires c κs =
     let l₂ = fewer-left l₁ (c .before .before .before .before .before .before .before .before .before .before .before .before .before .before .before .before .before .before .before .put-counted .ensures) in
     let l₃ = fewer-left l₂ (rw (c .before .before .before .before .before .before .before .before .before .before .before .before .before .before .before .before .before .before .before .before .before .before .before .before .before .before .before .before .numbers-between .ensures) at (c .before .before .before .before .before .before .before .before .before .before .before .before .before .before .put-values .ensures)) in
     let l₄ = fewer-left l₃ (c .before .before .before .before .before .before .before .before .before .before .put-group .ensures) in
-    (omega (arith, s .pre .0 .points-to), omega (arith, s .pre .0 .points-to), omega (arith, s .pre .0 .points-to), omega (arith, l₄ .fits))
+    omega (arith, s .pre .0 .points-to, l₄ .fits)
 
 returns : tie.Need-returns
 returns c =
@@ -97,6 +94,6 @@ returns c =
 
 pub put-vehicle-spec : {M : Type 1} → statement M
 put-vehicle-spec =
-    tie.close
-    (tie.spec (λ c κs. search needs) put-since-requires put-counted-requires (λ c. search needs) put-values-requires
-    put-group-requires (λ c. search needs) put-points-requires (λ c. search needs) returns)
+    let answers = tie.spec (λ c κs. search needs) put-since-requires put-counted-requires (λ c. search needs) put-values-requires
+    put-group-requires (λ c. search needs) put-points-requires (λ c. search needs) returns in
+    tie.close answers

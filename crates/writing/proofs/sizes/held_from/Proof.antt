@@ -1,7 +1,5 @@
 -- `writing::sizes::held_from` meets its contract. The loop's invariant: the holds that are counted, and those that are left, make all.
--- Assumes nothing.
-use Rattle.rules.proofs.Base.{_+_, _-_, _≤_, arith, add-one, _≡_, length, needs}
-use Rattle.rules.specs.Words.{at}
+use Rattle.rules.proofs.Offered.{_+_, _-_, _≤_, arith, add-one, _≡_, length, needs, at}
 use Rattle.writing.proofs.BytesLeft.{held-left, held-count, held-nought, one-short}
 use Rattle.writing.proofs.sizes.held_from.Statement.{statement}
 use Rattle.writing.proofs.sizes.held_from.Tie as tie
@@ -31,6 +29,6 @@ returns c =
 
 pub held-from-spec : {M : Type 1} → statement M
 held-from-spec =
-    tie.close
-    (tie.spec Inv-loop μ-loop (λ c. (omega arith, omega arith)) (λ c. search needs) (λ c κs. search needs) add-count
-    (λ c. search needs) (λ c. search needs) loop-again returns)
+    let answers = tie.spec Inv-loop μ-loop (λ c. omega arith) (λ c. search needs) (λ c κs. search needs) add-count
+    (λ c. search needs) (λ c. search needs) loop-again returns in
+    tie.close answers

@@ -1,6 +1,5 @@
 -- `writing::sizes::held_size` meets its contract: two bytes a hold, and one more for each from second 128 on.
--- Assumes nothing.
-use Rattle.rules.proofs.Base.{arith, ap, length, needs}
+use Rattle.rules.proofs.Offered.{arith, ap, length, needs}
 use Rattle.writing.proofs.BytesLeft.{held-nowhere}
 use Rattle.writing.proofs.HeldSizes.{held-light}
 use Rattle.writing.proofs.sizes.held_size.Statement.{statement}
@@ -18,5 +17,5 @@ returns-2 c =
 
 pub held-size-spec : {M : Type 1} → statement M
 held-size-spec =
-    tie.close
-    (tie.spec returns (λ c κs. omega (arith, c .before .before .pre .0 .seconds)) (λ c. search needs) (λ c. search needs) (λ c. search needs) returns-2)
+    let answers = tie.spec returns (λ c κs. omega (arith, c .before .before .pre .0 .seconds)) (λ c. search needs) (λ c. search needs) (λ c. search needs) returns-2 in
+    tie.close answers

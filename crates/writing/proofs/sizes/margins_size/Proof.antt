@@ -1,6 +1,5 @@
 -- `writing::sizes::margins_size` meets its contract: before version 2 there are none.
--- Assumes nothing.
-use Rattle.rules.proofs.Base.{ap, sym, _∙_, length, needs, le-leb, lt-leb}
+use Rattle.rules.proofs.Offered.{ap, sym, _∙_, length, needs, le-leb, lt-leb}
 use Rattle.writing.proofs.BytesLeft.{margins-late, margins-early}
 use Rattle.writing.proofs.sizes.margins_size.Statement.{statement}
 use Rattle.writing.proofs.sizes.margins_size.Tie as tie
@@ -12,4 +11,4 @@ returns-2 : tie.Need-returns-2
 returns-2 c = let s = c .before .before .before in c .values-size .ensures ∙ sym (ap length (margins-late (s .args .version) (s .args .margins .now) (s .args .count) (le-leb _ _ (c .before .if1 .left))))
 
 pub margins-size-spec : {M : Type 1} → statement M
-margins-size-spec = tie.close (tie.spec returns (λ c κs. search needs) returns-2)
+margins-size-spec = let answers = tie.spec returns (λ c κs. search needs) returns-2 in tie.close answers

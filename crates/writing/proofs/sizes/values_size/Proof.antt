@@ -1,9 +1,5 @@
 -- `writing::sizes::values_size` meets its contract. The loop's invariant: what is measured, and the bytes that are left, make all.
--- Assumes nothing.
-use Rattle.rules.proofs.Base.{suc, _+_, _-_, _*_, _≤_, arith, add-one, ap, length, length-append, needs}
-use Rattle.rules.specs.Groups.{form}
-use Rattle.rules.specs.Words.{at}
-use Rattle.rules.proofs.Laws.Groups.{form-size}
+use Rattle.rules.proofs.Offered.{suc, _+_, _-_, _*_, _≤_, arith, add-one, ap, length, length-append, needs, form, at, form-size}
 use Rattle.writing.specs.Writing.{values-bytes}
 use Rattle.writing.proofs.BytesLeft.{values-left, values-more, values-none, Measured, measured-all, measured-none, values-all}
 use Rattle.writing.proofs.sizes.values_size.Statement.{statement}
@@ -14,9 +10,6 @@ Inv-loop values count extra₀ i₀ extra i = (i ≤ count) × (extra ≤ 2 * i)
 
 abbrev μ-loop : tie.MeasureT-loop
 μ-loop values count extra₀ i₀ extra i = count - i
-
-loop-holds : tie.Need-loop-holds Inv-loop μ-loop
-loop-holds c = (omega arith, omega arith, measured-none (values-all (c .before .args .values .now) (c .before .args .count)))
 
 add-extra : tie.Need-add-extra Inv-loop μ-loop
 add-extra c =
@@ -44,6 +37,6 @@ returns c =
 
 pub values-size-spec : {M : Type 1} → statement M
 values-size-spec =
-    tie.close
-    (tie.spec Inv-loop μ-loop loop-holds (λ c. search needs) (λ c. search needs) (λ c κs. search needs) add-extra
-    (λ c. search needs) (λ c. search needs) loop-again (λ c. search needs) (λ c. search needs) returns)
+    let answers = tie.spec Inv-loop μ-loop (λ c. (omega arith, omega arith, measured-none (values-all (c .before .args .values .now) (c .before .args .count)))) (λ c. search needs) (λ c. search needs) (λ c κs. search needs) add-extra
+    (λ c. search needs) (λ c. search needs) loop-again (λ c. search needs) (λ c. search needs) returns in
+    tie.close answers

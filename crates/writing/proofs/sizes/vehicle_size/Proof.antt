@@ -1,7 +1,5 @@
 -- `writing::sizes::vehicle_size` meets its contract: the sizes of the vehicle's parts, which are small, in a sum.
--- Assumes nothing.
-use Rattle.rules.proofs.Base.{arith, needs}
-use Rattle.rules.proofs.Laws.Groups.{form-size}
+use Rattle.rules.proofs.Offered.{arith, needs, form-size}
 use Rattle.writing.proofs.Bytes.{values-short, since-short, margins-short, vehicle-length}
 use Rattle.writing.proofs.sizes.vehicle_size.Statement.{statement}
 use Rattle.writing.proofs.sizes.vehicle_size.Tie as tie
@@ -54,8 +52,8 @@ returns c =
 
 pub vehicle-size-spec : {M : Type 1} → statement M
 vehicle-size-spec =
-    tie.close
-    (tie.spec (λ c κs. search needs) (λ c. search needs) (λ c. search needs) (λ c κs. search needs)
+    let answers = tie.spec (λ c κs. search needs) (λ c. search needs) (λ c. search needs) (λ c κs. search needs)
     (λ c κs. search needs) add-gearbox (λ c κs. search needs) (λ c κs. search needs) add-curve (λ c κs. search needs)
     add-curve-2 (λ c κs. search needs) (λ c κs. search needs) add-result (λ c. search needs) (λ c κs. search needs)
-    add-result-2 add-result-3 add-result-4 returns)
+    add-result-2 add-result-3 add-result-4 returns in
+    tie.close answers

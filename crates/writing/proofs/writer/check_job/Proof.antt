@@ -1,6 +1,5 @@
 -- `writing::writer::check_job` meets its contract: one law of `Checked` for each `return`.
--- Assumes nothing.
-use Rattle.rules.proofs.Base.{refl, sym, arith, needs}
+use Rattle.rules.proofs.Offered.{refl, sym, arith, needs}
 use Rattle.gears.specs.Parts.{Counts, Has}
 use Rattle.checks.proofs.Rows.{Opened, spanned}
 use Rattle.writing.proofs.Checked.{job-told, told-opened, job-seconds}
@@ -18,9 +17,6 @@ counts-at c = record { numbers = sym (c .numbers-of .ensures) }
 returns : tie.Need-returns
 returns c = let s = c .before .before .before .before .before in job-told (s .args .version) (s .args .t2) (s .args .speeds .now) (s .args .holds .now) (c .before .before .check-told .ensures _ _ refl refl) (c .enum-told2 .given .1)
 
-check-seconds-requires : tie.Need-check-seconds-requires
-check-seconds-requires c κs = (spanned (counts-at (c .before .before)) (opened-at (c .before .before .before)) (omega arith) (omega arith), omega arith)
-
 returns-2 : tie.Need-returns-2
 returns-2 c =
     let p = c .before .before .before .before in
@@ -30,4 +26,6 @@ returns-2 c =
 
 pub check-job-spec : {M : Type 1} → statement M
 check-job-spec =
-    tie.close (tie.spec (λ c κs. search needs) (λ c. search needs) (λ c. search needs) returns (λ c κs. search needs) check-seconds-requires returns-2)
+    let answers = tie.spec (λ c κs. search needs) (λ c. search needs) (λ c. search needs) returns (λ c κs. search needs)
+    (λ c κs. (spanned (counts-at (c .before .before)) (opened-at (c .before .before .before)) (omega arith) (omega arith), omega arith)) returns-2 in
+    tie.close answers

@@ -1,22 +1,12 @@
 -- `writing::writer::check_told` meets its contract: one law of `Checked` for each `return`.
--- Assumes nothing.
-use Rattle.rules.proofs.Base.{arith, sym, ap, _∙_, needs}
+use Rattle.rules.proofs.Offered.{arith, sym, ap, _∙_, needs, bounds, first-failed, refuse-at, in-range}
 use Rattle.rules.specs.declared.Vehicle.{Vehicle}
-use Rattle.rules.specs.Units.{bounds, first-failed}
-use Rattle.rules.specs.Refusals.{refuse-at}
 use Rattle.gears.specs.Parts.{Counts}
 use Rattle.gears.proofs.Parts.{whole-of}
-use Rattle.rules.proofs.Laws.Takes.{in-range}
 use Rattle.reading.proofs.GroupAnswers.{out-of-range}
 use Rattle.writing.proofs.Checked.{told-version, told-lengths, told-vehicle}
 use Rattle.writing.proofs.writer.check_told.Statement.{statement}
 use Rattle.writing.proofs.writer.check_told.Tie as tie
-
-returns : tie.Need-returns
-returns c = λ vs hs a b. told-version (c .before .args .version) (c .before .args .t2) vs hs (out-of-range 1 3 _ (λ x y. omega arith))
-
-returns-2 : tie.Need-returns-2
-returns-2 c = λ vs hs a b. let s = c .before .before in told-version (s .args .version) (s .args .t2) vs hs (out-of-range 1 3 _ (λ x y. omega arith))
 
 returns-3 : tie.Need-returns-3
 returns-3 c = λ vs hs a b.
@@ -33,5 +23,7 @@ returns-4 c = λ vs hs a b.
 
 pub check-told-spec : {M : Type 1} → statement M
 check-told-spec =
-    tie.close
-    (tie.spec returns returns-2 (λ c κs. search needs) (λ c. search needs) (λ c. search needs) returns-3 (λ c κs. search needs) (λ c κs. search needs) returns-4)
+    let answers = tie.spec (λ c. λ vs hs a b. told-version (c .before .args .version) (c .before .args .t2) vs hs (out-of-range 1 3 _ (λ x y. omega arith)))
+    (λ c. λ vs hs a b. let s = c .before .before in told-version (s .args .version) (s .args .t2) vs hs (out-of-range 1 3 _ (λ x y. omega arith))) (λ c κs. search needs) (λ c. search needs)
+    (λ c. search needs) returns-3 (λ c κs. search needs) (λ c κs. search needs) returns-4 in
+    tie.close answers

@@ -1,7 +1,5 @@
 -- `writing::writer::job_size` meets its contract: the sizes of the job's parts in a sum.
--- Assumes nothing.
-use Rattle.rules.proofs.Base.{arith, length, needs}
-use Rattle.rules.proofs.Laws.Groups.{form-size}
+use Rattle.rules.proofs.Offered.{arith, length, needs, form-size}
 use Rattle.writing.proofs.Bytes.{values-short, vehicle-short}
 use Rattle.writing.proofs.writer.job_size.Statement.{statement}
 use Rattle.writing.proofs.writer.job_size.Tie as tie
@@ -38,6 +36,6 @@ add-result-4 c =
 
 pub job-size-spec : {M : Type 1} → statement M
 job-size-spec =
-    tie.close
-    (tie.spec (λ c. search needs) (λ c κs. search needs) (λ c κs. search needs) add-trace (λ c κs. search needs)
-    add-result add-result-2 (λ c κs. search needs) add-result-3 add-result-4 (λ c. search needs))
+    let answers = tie.spec (λ c. search needs) (λ c κs. search needs) (λ c κs. search needs) add-trace (λ c κs. search needs)
+    add-result add-result-2 (λ c κs. search needs) add-result-3 add-result-4 (λ c. search needs) in
+    tie.close answers

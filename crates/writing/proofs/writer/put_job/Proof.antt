@@ -1,11 +1,5 @@
 -- `writing::writer::put_job` meets its contract: the pieces of the job's bytes, put one after another.
--- Assumes nothing.
-use Rattle.rules.proofs.Base.{ℕ, _+_, arith, List, _++_, length, needs}
-use Rattle.rules.specs.Units.{longest}
-use Rattle.rules.specs.Groups.{form}
-use Rattle.rules.specs.Job.{gather, vehicle}
-use Rattle.rules.specs.Write.{job-bytes}
-use Rattle.rules.proofs.Laws.Writes.{writable}
+use Rattle.rules.proofs.Offered.{ℕ, _+_, arith, List, _++_, length, needs, longest, form, gather, vehicle, job-bytes, writable}
 use Rattle.writing.specs.Writing.{values-bytes, pairs-bytes}
 use Rattle.reading.proofs.PutInTurn.{all-left, fewer-left, has-space, last-left, said-as}
 use Rattle.writing.proofs.Bytes.{job-pieces}
@@ -106,6 +100,6 @@ returns c =
 
 pub put-job-spec : {M : Type 1} → statement M
 put-job-spec =
-    tie.close
-    (tie.spec put-group-requires put-vehicle-requires put-trace-requires put-group-requires-2 put-held-requires
-    (λ c. search needs) returns)
+    let answers = tie.spec put-group-requires put-vehicle-requires put-trace-requires put-group-requires-2 put-held-requires
+    (λ c. search needs) returns in
+    tie.close answers

@@ -1,12 +1,5 @@
 -- `writing::writer::write_checked` meets its contract: one law for each `return`.
--- Assumes nothing.
-use Rattle.rules.proofs.Base.{arith, needs}
-use Rattle.rules.specs.Units.{longest}
-use Rattle.rules.specs.Job.{gather}
-use Rattle.rules.specs.Write.{job-bytes}
-use Rattle.rules.proofs.Laws.Writes.{writable}
-use Rattle.rules.proofs.Laws.Vehicle.{within-hi}
-use Rattle.rules.proofs.Laws.Gathers.{gather-few}
+use Rattle.rules.proofs.Offered.{arith, needs, longest, gather, job-bytes, writable, within-hi, gather-few}
 use Rattle.writing.proofs.Bytes.{pairs-short, job-length}
 use Rattle.writing.proofs.Ends.{short-as, bytes-as}
 use Rattle.writing.proofs.writer.write_checked.Statement.{statement}
@@ -57,5 +50,5 @@ returns-2 c =
 
 pub write-checked-spec : {M : Type 1} → statement M
 write-checked-spec =
-    tie.close
-    (tie.spec hold-sizes-requires job-size-requires returns put-job-requires (λ c. search needs) returns-2)
+    let answers = tie.spec hold-sizes-requires job-size-requires returns put-job-requires (λ c. search needs) returns-2 in
+    tie.close answers

@@ -1,5 +1,4 @@
 -- `writing::writer::write_if` meets its contract: one law for each `return`.
--- Assumes nothing.
 use Rattle.writing.proofs.Ends.{write-as, refused-as, none-refused}
 use borrow.Author.Needs.{needs}
 use Rattle.writing.proofs.writer.write_if.Statement.{statement}
@@ -10,14 +9,10 @@ returns c =
     let s = c .before .before .before .before .before in
     refused-as (s .args .version) (s .args .vehicle) (s .args .speeds .now) (s .args .holds .now) (s .args .room .now) (s .pre) (c .enum-told2 .given .1)
 
-write-checked-requires : tie.Need-write-checked-requires
-write-checked-requires c κs = none-refused (c .before .before .before .before .before .before .pre) (c .before .enum-told .given .1)
-
 returns-2 : tie.Need-returns-2
 returns-2 c =
     let s = c .before .before .before .before .before .before .before .before .before in
     write-as (s .args .version) (s .args .vehicle) (s .args .speeds .now) (s .args .holds .now) (s .args .room .now) (none-refused (s .pre) (c .before .before .before .before .enum-told .given .1)) (c .before .before .write-checked .ensures)
 
 pub write-if-spec : {M : Type 1} → statement M
-write-if-spec =
-    tie.close (tie.spec (λ c. search needs) (λ c. search needs) returns write-checked-requires (λ c. search needs) returns-2)
+write-if-spec = let answers = tie.spec (λ c. search needs) (λ c. search needs) returns (λ c κs. none-refused (c .before .before .before .before .before .before .pre) (c .before .enum-told .given .1)) (λ c. search needs) returns-2 in tie.close answers

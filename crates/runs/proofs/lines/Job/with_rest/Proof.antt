@@ -1,6 +1,5 @@
 -- `runs::lines::Job::with_rest` is safe and ends: the line has 127 numbers at most.
--- Assumes nothing.
-use Rattle.rules.proofs.Base.{_≤_, _-_, needs}
+use Rattle.rules.proofs.Offered.{_≤_, _-_, needs}
 use Rattle.runs.proofs.lines.Job.with_rest.Statement.{statement}
 use Rattle.runs.proofs.lines.Job.with_rest.Tie as tie
 
@@ -12,6 +11,6 @@ abbrev μ-loop : tie.MeasureT-loop
 
 pub with-rest-spec : {M : Type 1} → statement M
 with-rest-spec =
-    tie.close
-    (tie.spec Inv-loop μ-loop (λ c κs. search needs) (λ c. search needs) (λ c. search needs) (λ c. search needs)
-    (λ c κs. search needs) (λ c. search needs) (λ c. search needs) (λ c. search needs) (λ c. search needs))
+    let answers = tie.spec Inv-loop μ-loop (λ c κs. search needs) (λ c. search needs) (λ c. search needs) (λ c. search needs)
+    (λ c κs. search needs) (λ c. search needs) (λ c. search needs) (λ c. search needs) (λ c. search needs) in
+    tie.close answers

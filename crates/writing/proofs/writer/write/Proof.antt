@@ -1,8 +1,0 @@
--- `writing::writer::write` meets its contract.
--- Assumes nothing.
-use borrow.Author.Needs.{needs}
-use Rattle.writing.proofs.writer.write.Statement.{statement}
-use Rattle.writing.proofs.writer.write.Tie as tie
-
-pub write-spec : {M : Type 1} → statement M
-write-spec = tie.close (tie.spec (λ c κs. search needs) (λ c κs. search needs) (λ c. search needs) (λ c. search needs))
