@@ -173,39 +173,50 @@ module _ (car : Vehicle) (vs hs : List ℕ) (s : ℕ) where
   unfolding why-fault why early-fault
   out-outside O h = (row-outside _ O h, left-old nothing _ (row-outside _ O h) refl)
 
-  module _ (O : Opened car vs hs hs) (h : s < length vs) {lo end : ℕ} (a : lo ≡ why-lo vs s) (b : end ≡ why-end vs s) where
-    early-is : early-fault car vs hs s ≡ seconds-fault car vs hs lo end
-    unfolding early-fault
-    early-is = row-is _ O h ∙ rw (a, b)
+-- what is looked at, for a second of a trace whose opening has passed
+pub record InView (car : Vehicle) (vs hs : List ℕ) (s lo end : ℕ) : Type 0 where
+  pub opened : Opened car vs hs hs
+  pub inside : s < length vs
+  pub from : lo ≡ why-lo vs s
+  pub to : end ≡ why-end vs s
 
-    fault-is : why-fault car vs hs s ≡ span-fault car vs hs lo end
-    unfolding why-fault
-    fault-is = row-is _ O h ∙ rw (a, b)
+-- 4 to 9 have passed there, and 4 to 10 said this
+pub record Checked (car : Vehicle) (vs hs : List ℕ) (lo end : ℕ) (x : Answer) : Type 0 where
+  pub passed : seconds-fault car vs hs lo end ≡ none
+  pub says : said x ≡ span-fault car vs hs lo end
 
-    pub out-early : {x : Answer} {q : Refusal} → said x ≡ seconds-fault car vs hs lo end → x ≡ Refused q → Out x nothing
+module _ {car : Vehicle} {vs hs : List ℕ} {s lo end : ℕ} (W : InView car vs hs s lo end) where
+  early-is : early-fault car vs hs s ≡ seconds-fault car vs hs lo end
+  unfolding early-fault
+  early-is = row-is car vs hs s _ (W .opened) (W .inside) ∙ rw (W .from, W .to)
+
+  fault-is : why-fault car vs hs s ≡ span-fault car vs hs lo end
+  unfolding why-fault
+  fault-is = row-is car vs hs s _ (W .opened) (W .inside) ∙ rw (W .from, W .to)
+
+  pub out-early : {x : Answer} {q : Refusal} → said x ≡ seconds-fault car vs hs lo end → x ≡ Refused q → Out car vs hs s x nothing
+  unfolding why
+  out-early e r = (said-first (gear-fault car vs hs lo end) e r ∙ sym (gears-last car vs hs lo end) ∙ sym fault-is, left-old nothing _ (e ∙ sym early-is) r)
+
+  module _ {x : Answer} (C : Checked car vs hs lo end x) where
+    said-why : said x ≡ why-fault car vs hs s
+    said-why = C .says ∙ sym fault-is
+
+    why-is : why car vs hs s ≡ (if eqb (kind vs s) 0 then nothing else said-of car vs hs s (about vs s) (why-fault car vs hs s))
     unfolding why
-    out-early e r = (said-first (gear-fault car vs hs lo end) e r ∙ sym (gears-last car vs hs lo end) ∙ sym fault-is, left-old nothing _ (e ∙ sym early-is) r)
+    why-is = sym (left-new nothing _ (early-is ∙ C .passed))
 
-    -- past 1 to 9
-    module _ (y : Answer) (e : said y ≡ seconds-fault car vs hs lo end) (d : y ≡ Done) (x : Answer) (f : said x ≡ span-fault car vs hs lo end) where
-      said-why : said x ≡ why-fault car vs hs s
-      said-why = f ∙ sym fault-is
+    pub out-standing : kind vs s ≡ 0 → Out car vs hs s x nothing
+    out-standing z = (said-why, sym (why-is ∙ rw (eq-eqb (kind vs s) 0 z)))
 
-      why-is : why car vs hs s ≡ (if eqb (kind vs s) 0 then nothing else said-of car vs hs s (about vs s) (why-fault car vs hs s))
-      unfolding why
-      why-is = sym (left-new nothing _ (early-is ∙ said-none e d))
+    module _ (z : kind vs s ≡ 0 → ⊥) {i : ℕ} (p : i ≡ about vs s) {all : Reasons} (q : all ≡ said-of car vs hs s i none) where
+      why-said : why car vs hs s ≡ said-of car vs hs s i (said x)
+      why-said = why-is ∙ rw (ne-eqb (kind vs s) 0 z, p, said-why)
 
-      pub out-standing : kind vs s ≡ 0 → Out x nothing
-      out-standing z = (said-why, sym (why-is ∙ rw (eq-eqb (kind vs s) 0 z)))
+      pub out-done : x ≡ Done → Out car vs hs s x all
+      unfolding said
+      out-done c = (said-why, q ∙ ap (said-of car vs hs s i) (sym (ap said c)) ∙ sym why-said)
 
-      module _ (z : kind vs s ≡ 0 → ⊥) {i : ℕ} (p : i ≡ about vs s) {all : Reasons} (q : all ≡ said-of car vs hs s i none) where
-        why-said : why car vs hs s ≡ said-of car vs hs s i (said x)
-        why-said = why-is ∙ rw (ne-eqb (kind vs s) 0 z, p, said-why)
-
-        pub out-done : x ≡ Done → Out x all
-        unfolding said
-        out-done c = (said-why, q ∙ ap (said-of car vs hs s i) (sym (ap said c)) ∙ sym why-said)
-
-        pub out-wanting : {r : Refusal} → x ≡ Refused r → Out x (uncorrected all)
-        unfolding said
-        out-wanting {r} c = (said-why, ap uncorrected q ∙ said-wanting car vs hs s i (fault r) ∙ ap (said-of car vs hs s i) (sym (ap said c)) ∙ sym why-said)
+      pub out-wanting : {r : Refusal} → x ≡ Refused r → Out car vs hs s x (uncorrected all)
+      unfolding said
+      out-wanting {r} c = (said-why, ap uncorrected q ∙ said-wanting car vs hs s i (fault r) ∙ ap (said-of car vs hs s i) (sym (ap said c)) ∙ sym why-said)

@@ -116,7 +116,29 @@ job-length v car vs hs small =
     let e = pairs-bytes (gather 0 hs) in
     omega (arith, ap length (job-pieces v car vs hs), length-append (form v) (a ++ ((b ++ c) ++ (d ++ e))), length-append a ((b ++ c) ++ (d ++ e)), length-append (b ++ c) (d ++ e), length-append b c, length-append d e, ap length (form-one v (omega arith)))
 
+-- the parts of a vehicle in bounds are short, and so are eight numbers
+pub record Short (v : ℕ) (car : Vehicle) (eight : List ℕ) : Type 0 where
+  pub profile : length (since 3 v .write (car .profile)) ≤ 3
+  pub gears : length (form (car .ng)) ≤ 3
+  pub ratios : length (values-bytes (car .ratio) (car .ng)) ≤ 30
+  pub between : length (values-bytes eight 8) ≤ 24
+  pub points : length (form (car .points)) ≤ 3
+  pub speeds : length (values-bytes (car .n) (car .points)) ≤ 192
+  pub powers : length (values-bytes (car .p) (car .points)) ≤ 192
+  pub margins : length (margins-bytes v (car .m) (car .points)) ≤ 192
+
+pub short : (v : ℕ) (car : Vehicle) (eight : List ℕ) → InBounds car → Short v car eight
+short v car eight b = record {
+  profile = since-short 3 v (car .profile);
+  gears = form-size (car .ng) .1;
+  ratios = omega (arith, b .ng-to, values-short (car .ratio) (car .ng));
+  between = values-short eight 8;
+  points = form-size (car .points) .1;
+  speeds = omega (arith, b .points-to, values-short (car .n) (car .points));
+  powers = omega (arith, b .points-to, values-short (car .p) (car .points));
+  margins = omega (arith, b .points-to, margins-short v (car .m) (car .points));
+}
+
 -- a vehicle in bounds has no more bytes than this
 pub vehicle-short : (v : ℕ) (car : Vehicle) → InBounds car → length (vehicle v .write car) ≤ 639
-vehicle-short v car b =
-    omega (arith, b .ng-to, b .points-to, vehicle-length v car, since-short 3 v (car .profile), margins-short v (car .m) (car .points), form-size (car .ng) .1, values-short (car .ratio) (car .ng), values-short (parts-of car .1 .1 .0) 8, form-size (car .points) .1, values-short (car .n) (car .points), values-short (car .p) (car .points))
+vehicle-short v car b = omega (arith, vehicle-length v car, short v car (parts-of car .1 .1 .0) b)

@@ -19,6 +19,12 @@ its-car s = whole (s .args .k) (s .args .ratio .now) (s .args .n .now) (s .args 
 abbrev Of : (Vehicle → List ℕ → List ℕ → List ℕ → Edit → Type 0) → tie.After-enum-told → Type 0
 Of P c = let s = c .before .before .before .before .before .before in P (its-car s) (s .args .speeds .now) (s .args .holds .now) (s .args .card .now) (s .args .edit)
 
+abbrev looked-at→enum-told : tie.After-looked-at → tie.After-enum-told
+looked-at→enum-told c = c .before .before .before .before .before .before .before .before
+
+abbrev derate→enum-told : tie.After-derate → tie.After-enum-told
+derate→enum-told c = c .before .before .before .before .before
+
 -- the opening has passed
 opened-at : (c : tie.After-enum-told) → Of (λ car vs hs old e. Opened car vs hs old) c
 opened-at c = opened (c .before .before .check-opening .ensures _ _ _ refl refl refl) (c .enum-told .given .1)
@@ -28,24 +34,37 @@ inside-at : (c : tie.Else1) → Of (λ car vs hs old e. second e < length vs) (c
 inside-at c = let e = c .before .second-of .ensures in omega arith
 
 -- what is looked at is found
-from-at : (c : tie.After-looked-at) → Of (λ car vs hs old e. c .looked-at .result .lo ≡ span e vs .lo) (c .before .before .before .before .before .before .before .before)
-from-at c = c .looked-at .ensures .0 ∙ c .before .before .before .before .before .span-of .ensures .0
+from-at : (c : tie.After-looked-at) → Of (λ car vs hs old e. c .looked-at .result .lo ≡ span e vs .lo) (looked-at→enum-told c)
+from-at c =
+    let at-span-of : tie.After-span-of = search in
+    c .looked-at .ensures .0 ∙ at-span-of .span-of .ensures .0
 
-to-at : (c : tie.After-looked-at) → Of (λ car vs hs old e. c .looked-at .result .hi ≡ min (span e vs .hi + 1) (length vs)) (c .before .before .before .before .before .before .before .before)
-to-at c = let s = c .before .before .before .before .before .before .before .before .before .before .before .before .before .before .args in c .looked-at .ensures .1 ∙ ap (λ (b : ℕ). min (b + 1) (length (s .speeds .now))) (c .before .before .before .before .before .span-of .ensures .1)
+to-at : (c : tie.After-looked-at) → Of (λ car vs hs old e. c .looked-at .result .hi ≡ min (span e vs .hi + 1) (length vs)) (looked-at→enum-told c)
+to-at c =
+    let at-span-of : tie.After-span-of = search in
+    let start : tie.Start = search in
+    let s = start .args in c .looked-at .ensures .1 ∙ ap (λ (b : ℕ). min (b + 1) (length (s .speeds .now))) (at-span-of .span-of .ensures .1)
 
 -- the checks of the span said what the edit's own checks say, of every vehicle of these parts
 own-says : (c : tie.After-check-span)
-    → Of (λ car vs hs old e. (one : Vehicle) → Lent one (numbers-of car) (car .ratio) (car .n) (c .before .before .before .before .derate .last .1 .1 .1 .1 .0) → said (c .check-span .result) ≡ asked-fault one e vs hs) (c .before .before .before .before .before .before .before .before .before)
-own-says c = λ one L.
-    let s = c .before .before .before .before .before .before .before .before .before .before .before .before .before .before .before .args in
-    let O = opened-at (c .before .before .before .before .before .before .before .before .before) in
+    → let at-derate : tie.After-derate = c .before .before .before .before in
+    let at-enum-told : tie.After-enum-told = c .before .before .before .before .before .before .before .before .before in
+    Of (λ car vs hs old e. (one : Vehicle) → Lent one (numbers-of car) (car .ratio) (car .n) (at-derate .derate .last .1 .1 .1 .1 .0) → said (c .check-span .result) ≡ asked-fault one e vs hs) at-enum-told
+own-says c =
+    let inside : tie.Else1 = search in
+    let at-second-of : tie.After-second-of = search in
+    let start : tie.Start = search in
+    λ one L.
+    let s = start .args in
+    let O = opened-at (search) in
     c .check-span .ensures one L
-    ∙ rw (c .before .before .asked-of .ensures) (own-at one (s .edit) (s .speeds .now) (s .holds .now) (inside-at (c .before .before .before .before .before .before .before)) (O .holds-long) (L .bounds .ng-to) (from-at (c .before)) (to-at (c .before)))
+    ∙ rw (c .before .before .asked-of .ensures) (own-at one (s .edit) (s .speeds .now) (s .holds .now) (inside-at inside) (O .holds-long) (L .bounds .ng-to) (from-at (c .before)) (to-at (c .before)))
 
 -- the vehicle's own parts
-lent-at : (c : tie.After-derate) → Of (λ car vs hs old e. Lent car (numbers-of car) (car .ratio) (car .n) (c .derate .last .1 .1 .1 .1 .0)) (c .before .before .before .before .before)
-lent-at c = powers-lent _ (opened-at (c .before .before .before .before .before) .bounds) (record { numbers = refl }) _ (c .before .before .before .before .before .before .before .before .before .before .before .pre) (c .derate .ensures)
+lent-at : (c : tie.After-derate) → Of (λ car vs hs old e. Lent car (numbers-of car) (car .ratio) (car .n) (c .derate .last .1 .1 .1 .1 .0)) (derate→enum-told c)
+lent-at c =
+    let start : tie.Start = search in
+    powers-lent _ (opened-at (search) .bounds) (record { numbers = refl }) _ (start .pre) (c .derate .ensures)
 
 returns : tie.Need-returns
 returns c =
@@ -62,14 +81,16 @@ returns-2 c = (
 
 asked-of-requires : tie.Need-asked-of-requires
 asked-of-requires c κs =
-    let l = inside-at (c .before .before .before .before) in
-    (l, omega (arith, l, opened-at (c .before .before .before .before .before .before) .holds-long))
+    let l = inside-at (search) in
+    (l, omega (arith, l, opened-at (search) .holds-long))
 
 check-span-requires : tie.Need-check-span-requires
 check-span-requires c κs =
-    let s = c .before .before .before .before .before .before .before .before .before .before .before .before .before .before .args in
-    let O = opened-at (c .before .before .before .before .before .before .before .before) in
-    let l = inside-at (c .before .before .before .before .before .before) in
+    let at-enum-told : tie.After-enum-told = search in
+    let start : tie.Start = search in
+    let s = start .args in
+    let O = opened-at (search) in
+    let l = inside-at (search) in
     let a = c .before .asked-of .ensures in
     let z = asked-second (s .edit) (s .speeds .now) (s .holds .now) in (
       record { car = _; lent = lent-at (c .before .before .before) },
@@ -80,29 +101,37 @@ check-span-requires c κs =
 
 returns-3 : tie.Need-returns-3
 returns-3 c =
+    let at-span-of : tie.After-span-of = search in
+    let at-enum-told : tie.After-enum-told = search in
     let r = c .before .enum-told4 .given .1 in
     let x = c .before .before .before in (
-      λ n. rw (c .refused3 .ensures) (own-says x _ (lent-at (x .before .before .before .before)) ∙ at-span _ _ _ _ _ n (opened-at (x .before .before .before .before .before .before .before .before .before)) (inside-at (x .before .before .before .before .before .before .before))),
+      λ n. rw (c .refused3 .ensures) (own-says x _ (lent-at (search)) ∙ at-span _ _ _ _ _ n (opened-at at-enum-told) (inside-at (search))),
       λ d. not-done r (sym (c .refused3 .ensures) ∙ d),
     )
 
 count-requires : tie.Need-count-requires
 count-requires c κs =
-    let r = c .before .before .before .before .before .before .before .before .span-of .ensures in
-    countable-at (opened-at (c .before .before .before .before .before .before .before .before .before .before .before)) (c .before .before .before .before .before .before .before .before .before .before .before .before .before .before .before .before .before .args .edit) (inside-at (c .before .before .before .before .before .before .before .before .before)) (r .0) (r .1)
+    let at-span-of : tie.After-span-of = search in
+    let at-enum-told : tie.After-enum-told = search in
+    let start : tie.Start = search in
+    let r = at-span-of .span-of .ensures in
+    countable-at (opened-at at-enum-told) (start .args .edit) (inside-at (search)) (r .0) (r .1)
 
 returns-4 : tie.Need-returns-4
 returns-4 c =
+    let at-span-of : tie.After-span-of = search in
+    let at-enum-told : tie.After-enum-told = search in
+    let start : tie.Start = search in
     let x = c .before .before .before in
     let d = c .before .enum-told3 .given .1 in
-    let s = c .before .before .before .before .before .before .before .before .before .before .before .before .before .before .before .before .before .before .args in
-    let r = c .before .before .before .before .before .before .before .before .before .span-of .ensures in
-    let l = inside-at (x .before .before .before .before .before .before .before) in (
-      λ n. sym (ap said d) ∙ own-says x _ (lent-at (x .before .before .before .before)) ∙ at-span _ _ _ _ _ n (opened-at (x .before .before .before .before .before .before .before .before .before)) l,
+    let s = start .args in
+    let r = at-span-of .span-of .ensures in
+    let l = inside-at (search) in (
+      λ n. sym (ap said d) ∙ own-says x _ (lent-at (search)) ∙ at-span _ _ _ _ _ n (opened-at at-enum-told) l,
       λ z. record {
         from = r .0;
         to = r .1;
-        lent = lent-at (x .before .before .before .before);
+        lent = lent-at (search);
         passes = λ one L. passes-at one (s .edit) (s .speeds .now) (s .holds .now) l (said-none (own-says x one L) d);
         counted-are = c .count .ensures ∙ rw (r .0, r .1);
       },
@@ -112,7 +141,7 @@ pub judge-spec : {M : Type 1} → statement M
 judge-spec =
     let answers = tie.spec (λ c κs. search needs) (λ c. search needs) (λ c. search needs) (λ c κs. search needs) returns
     (λ c κs. search needs) (λ c κs. search needs) returns-2 (λ c κs. search needs)
-    (λ c κs. derates _ (opened-at (c .before .before .before .before) .bounds))
+    (λ c κs. derates _ (opened-at (search) .bounds))
     asked-of-requires (λ c κs. search needs) check-span-requires (λ c. search needs)
     (λ c. search needs) (λ c κs. search needs) returns-3 count-requires returns-4 in
     tie.close answers

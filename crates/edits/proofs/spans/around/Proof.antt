@@ -6,7 +6,8 @@ use Rattle.edits.proofs.spans.around.Tie as tie
 returns : tie.Need-returns
 unfolding around
 returns c =
-    let a = c .before .before .before .before .args in
+    let start : tie.Start = search in
+    let a = start .args in
     (c .before .before2 .ensures ∙ ap (λ (x : ℕ). x - 1) (c .before .before .trip-start .ensures), c .trip-stop .ensures ∙ ap (stop (a .speeds .now)) (add-one (a .second)))
 
 pub around-spec : {M : Type 1} → statement M

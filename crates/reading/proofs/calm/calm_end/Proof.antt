@@ -7,13 +7,14 @@ use Rattle.reading.proofs.calm.calm_end.Tie as tie
 
 oddest-requires : tie.Need-oddest-requires
 oddest-requires c κs =
-    let s = c .before .before .before .before in
+    let s : tie.Start = search in
     let e = ends-after (c .before .end-of .ensures (omega arith)) (s .pre .0) in
     omega (arith, e)
 
 returns-4 : tie.Need-returns-4
-returns-4 c = λ _.
-    let s = c .before .before .before .before .before .before in
+returns-4 c =
+    let s : tie.Start = search in
+    λ _.
     let job = s .args .job .now in
     let n = s .args .count in
     let r = c .before .before .before .end-of in
@@ -23,5 +24,5 @@ returns-4 c = λ _.
 pub calm-end-spec : {M : Type 1} → statement M
 calm-end-spec =
     let answers = tie.spec (λ c. λ e. absurd (omega (arith, e))) (λ c κs. search needs) (λ c. λ e. absurd (omega (arith, e)))
-    (λ c. let s = c .before .before .before .before in omega (arith, ends-after (c .before .end-of .ensures (omega arith)) (s .pre .0))) oddest-requires (λ c. λ e. absurd (omega (arith, e))) returns-4 in
+    (λ c. let s : tie.Start = search in omega (arith, ends-after (c .before .end-of .ensures (omega arith)) (s .pre .0))) oddest-requires (λ c. λ e. absurd (omega (arith, e))) returns-4 in
     tie.close answers

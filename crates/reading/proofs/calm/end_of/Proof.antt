@@ -18,14 +18,14 @@ loop-holds c =
 
 sub-left : tie.Need-sub-left Inv-loop μ-loop
 sub-left c =
+    let s : tie.Start Inv-loop μ-loop = search in
     let l = c .before .before .before .loop in
-    let s = c .before .before .before .before .before in
     omega (arith, few (s .args .job .now) (l .next) (l .next + l .left - l .next), c .lasts .ensures)
 
 loop-again : tie.Need-loop-again Inv-loop μ-loop
 loop-again c =
+    let s : tie.Start Inv-loop μ-loop = search in
     let l = c .before .before .before .loop in
-    let s = c .before .before .before .before .before in
     let job = s .args .job .now in
     let n : l .next + l .left - l .next ≡ l .left = omega arith in
     let r : c .lasts .result ≡ ended job (l .next) (l .left) = rw n at (c .lasts .ensures) in

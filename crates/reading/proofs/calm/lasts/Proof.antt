@@ -13,13 +13,13 @@ abbrev μ-loop : tie.MeasureT-loop
 
 add-count : tie.Need-add-count Inv-loop μ-loop
 add-count c =
-    let s = c .before .before .before .before .before in
+    let s : tie.Start Inv-loop μ-loop = search in
     let l = c .before .before .before .loop in
     omega (arith, few (s .args .job .now) (s .args .lo) (l .i - s .args .lo), last-few (at (s .args .job .now) (l .i)), c .last .ensures, l .inv .2, s .pre .2)
 
 loop-again : tie.Need-loop-again Inv-loop μ-loop
 loop-again c =
-    let s = c .before .before .before .before .before in
+    let s : tie.Start Inv-loop μ-loop = search in
     let l = c .before .before .before .loop in
     omega (arith, ended-more (s .args .job .now) (s .args .lo) (l .i) (l .inv .0), c .last .ensures, l .inv .2)
 

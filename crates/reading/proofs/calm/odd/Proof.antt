@@ -5,8 +5,9 @@ use Rattle.reading.proofs.calm.odd.Tie as tie
 
 returns : tie.Need-returns
 returns c =
+    let at-none : tie.After-none = search in
     let h = c .before .higher .ensures in (
-      λ a z. c .lower2 .ensures a (omega (arith, h .0, c .before .before .before .before .none .ensures z)),
+      λ a z. c .lower2 .ensures a (omega (arith, h .0, at-none .none .ensures z)),
       λ a b t. c .lower2 .ensures a (omega (arith, h .1, c .before .before .lower .ensures b (c .before .before .before .over .ensures t))),
     )
 

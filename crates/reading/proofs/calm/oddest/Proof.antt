@@ -13,8 +13,9 @@ abbrev μ-loop : tie.MeasureT-loop
 
 loop-again : tie.Need-loop-again Inv-loop μ-loop
 loop-again c =
-    let s = c .before .before .before .before .before .before .before .before in
-    let l = c .before .before .before .before .before .before .loop in
+    let to-loop : tie.At-loop Inv-loop μ-loop = search in
+    let s : tie.Start Inv-loop μ-loop = search in
+    let l = to-loop .loop in
     let m = c .higher .ensures in
     let o = c .before .odd .ensures in
     (omega arith, omega arith, λ h. calm-more (l .inv .2 (omega (arith, m .0, h))) (fine-of (s .args .job .now) (l .i) (o .0) (o .1) (omega (arith, m .1, h))))

@@ -12,11 +12,13 @@ returns-2 c = λ e spot.
     bounded-gives job 1 255 15 spot i (sym (one job i (omega arith) (omega arith))) (omega arith) (omega arith)
 
 returns-4 : tie.Need-returns-4
-returns-4 c = λ e spot.
-    let s = c .before .before .before .before .before in
+returns-4 c =
+    let at-shared-slice-known : tie.After-shared-slice-known = search in
+    let s : tie.Start = search in
+    λ e spot.
     let job = s .args .job .now in
     let i = s .args .place in
-    let a = c .before .before .before .before .shared-slice-known .given i in
+    let a = at-shared-slice-known .shared-slice-known .given i in
     let v : two-of job i ≡ at job i = omega (arith, a) in
     bounded-gives job 1 255 15 spot i (rw v at (sym (of₅ (two job i) (omega arith)))) (omega arith) (omega (arith, a))
 

@@ -4,27 +4,42 @@ use Rattle.reading.proofs.groups.group_at.Statement.{statement}
 use Rattle.reading.proofs.groups.group_at.Tie as tie
 
 returns-2 : tie.Need-returns-2
-returns-2 c = let s = c .before .before .before .before in rw (c .before .byte-at .ensures .is) (sym (one (s .args .job .now) (s .args .at) (omega arith) (omega arith)))
+returns-2 c =
+    let s : tie.Start = search in
+    rw (c .before .byte-at .ensures .is) (sym (one (s .args .job .now) (s .args .at) (omega arith) (omega arith)))
 
 returns-5 : tie.Need-returns-5
-returns-5 c = let s = c .before .before .before .before .before .before .before .before in rw (c .before .before .before .before .before .byte-at .ensures .is, c .before .before .byte-at2 .ensures .is) (sym (of₅ (two (s .args .job .now) (s .args .at)) (omega arith)))
+returns-5 c =
+    let at-byte-at : tie.After-byte-at = search in
+    let s : tie.Start = search in
+    rw (at-byte-at .byte-at .ensures .is, c .before .before .byte-at2 .ensures .is) (sym (of₅ (two (s .args .job .now) (s .args .at)) (omega arith)))
 
 returns-7 : tie.Need-returns-7
-returns-7 c = let s = c .before .before .before .before .before .before .before .before .before .before in sym (of₅ (three-bad (s .args .job .now) (s .args .at)) (omega arith) (λ p q r. omega arith))
+returns-7 c =
+    let else1 : tie.Else1 = search in
+    let s : tie.Start = search in
+    sym (of₅ (three-bad (s .args .job .now) (s .args .at)) (omega arith) (λ p q r. omega arith))
 
 returns-8 : tie.Need-returns-8
-returns-8 c = let s = c .before .before .before .before .before .before .before .before .before .before .before in sym (of₅ (three-bad (s .args .job .now) (s .args .at)) (omega arith) (λ p q r. omega arith))
+returns-8 c =
+    let at-byte-at : tie.After-byte-at = search in
+    let s : tie.Start = search in
+    sym (of₅ (three-bad (s .args .job .now) (s .args .at)) (omega arith) (λ p q r. omega arith))
 
 returns-9 : tie.Need-returns-9
-returns-9 c = let s = c .before .before .before .before .before .before .before .before .before .before .before in rw (c .before .before .before .before .before .before .before .before .byte-at .ensures .is, c .before .before .before .before .before .byte-at2 .ensures .is, c .before .before .byte-at3 .ensures .is) (sym (of₈ (three (s .args .job .now) (s .args .at)) (omega arith)))
+returns-9 c =
+    let at-byte-at2 : tie.After-byte-at2 = search in
+    let at-byte-at : tie.After-byte-at = search in
+    let s : tie.Start = search in
+    rw (at-byte-at .byte-at .ensures .is, at-byte-at2 .byte-at2 .ensures .is, c .before .before .byte-at3 .ensures .is) (sym (of₈ (three (s .args .job .now) (s .args .at)) (omega arith)))
 
 pub group-at-spec : {M : Type 1} → statement M
 unfolding early
 group-at-spec =
     let answers = tie.spec (λ c. let s = c .before .before in sym (ends-first (s .args .job .now) (s .args .at) (omega arith))) (λ c κs. search needs) (λ c. search needs) (λ c. search needs) returns-2
-    (λ c. search needs) (λ c. let s = c .before .before .before .before .before in sym (of₃ (ends-second (s .args .job .now) (s .args .at)) (omega arith))) (λ c. search needs) (λ c κs. search needs)
-    (λ c. search needs) (λ c. search needs) (λ c. let s = c .before .before .before .before .before .before .before .before in sym (of₄ (two-bad (s .args .job .now) (s .args .at)) (omega arith)))
+    (λ c. search needs) (λ c. let s : tie.Start = search in sym (of₃ (ends-second (s .args .job .now) (s .args .at)) (omega arith))) (λ c. search needs) (λ c κs. search needs)
+    (λ c. search needs) (λ c. search needs) (λ c. let s : tie.Start = search in sym (of₄ (two-bad (s .args .job .now) (s .args .at)) (omega arith)))
     (λ c. search needs) (λ c. search needs) returns-5 (λ c. search needs)
-    (λ c. let s = c .before .before .before .before .before .before .before .before in sym (of₅ (ends-third (s .args .job .now) (s .args .at)) (omega arith))) (λ c. search needs)
+    (λ c. let s : tie.Start = search in sym (of₅ (ends-third (s .args .job .now) (s .args .at)) (omega arith))) (λ c. search needs)
     (λ c κs. search needs) (λ c. search needs) (λ c. search needs) returns-7 returns-8 (λ c. search needs) (λ c. search needs) returns-9 in
     tie.close answers

@@ -13,7 +13,7 @@ abbrev μ-loop : tie.MeasureT-loop
 
 value-at-requires : tie.Need-value-at-requires Inv-loop μ-loop
 value-at-requires c κs =
-    let s = c .before .before .before .before in
+    let s : tie.Start Inv-loop μ-loop = search in
     value-comes (c .before .loop .inv .2) (omega arith) (used-comes _ _ _ _ (s .pre))
 
 loop-again : tie.Need-loop-again Inv-loop μ-loop
@@ -23,7 +23,7 @@ loop-again c =
 
 returns : tie.Need-returns Inv-loop μ-loop
 returns c =
-    let s = c .before .before .before .before in
+    let s : tie.Start Inv-loop μ-loop = search in
     filled-all (s .args .job .now) (s .args .room .now) (s .args .at) (ends (c .before .loop .inv .2) (omega arith))
 
 pub put-speeds-spec : {M : Type 1} → statement M

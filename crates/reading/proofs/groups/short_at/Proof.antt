@@ -6,7 +6,7 @@ use Rattle.reading.proofs.groups.short_at.Tie as tie
 
 returns-2 : tie.Need-returns-2
 returns-2 c =
-    let s = c .before .before .before .before in
+    let s : tie.Start = search in
     let job = s .args .job .now in
     let i = s .args .at in
     let b = short-last job i (s .pre) (omega arith) in

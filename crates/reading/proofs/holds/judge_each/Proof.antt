@@ -32,7 +32,7 @@ returns-2 c =
 
 add-next : tie.Need-add-next Inv-loop μ-loop
 add-next c =
-    let c₃ = c .before .before .before .before .before in
+    let c₃ : tie.After-s Inv-loop μ-loop = search in
     let c₂ = c₃ .before .before in
     let c₁ = c₂ .before .before in
     let s = c₁ .before .before in

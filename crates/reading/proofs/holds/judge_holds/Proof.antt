@@ -13,12 +13,13 @@ abbrev μ-loop : tie.MeasureT-loop
 
 returns : tie.Need-returns Inv-loop μ-loop
 returns c =
-    let l = c .before .before .before .before .before in
+    let l : tie.At-loop Inv-loop μ-loop = search in
     c .judge-each .ensures ∙ holds-left (l .before .before .args .count) (l .loop .inv .2)
 
 loop-again : tie.Need-loop-again Inv-loop μ-loop
 loop-again c =
-    let l = c .before .before .before .before .before .loop in
+    let to-loop : tie.At-loop Inv-loop μ-loop = search in
+    let l = to-loop .loop in
     let r = c .before .before .before .calm-hold in
     let h = r .ensures (omega arith) in
     (omega arith, omega (arith, h .below), rw (add-one (r .result .value)) (again (l .inv .2) (omega arith) (h .reads)))

@@ -13,8 +13,9 @@ abbrev μ-loop : tie.MeasureT-loop
 
 loop-holds : tie.Need-loop-holds Inv-loop μ-loop
 loop-holds c =
+    let start : tie.Start Inv-loop μ-loop = search in
     let c₁ = c .before .before in
-    let s = c₁ .before .before .before .before in
+    let s = start in
     (omega arith, refl, put-begins _ _ _ _ _ (rw (c₁ .clear .ensures, length-replicate) (s .pre .0)) (rw (c₁ .clear .ensures, length-replicate) (s .pre .1)))
 
 slice-write-room : tie.Need-slice-write-room Inv-loop μ-loop
@@ -43,5 +44,5 @@ put-holds-spec =
     let answers = tie.spec Inv-loop μ-loop (λ c κs. search needs) loop-holds (λ c κs. put-short (c .before .loop .inv .2) (omega arith))
     (λ c. gear-there (c .before .before .before .loop .inv .2) (omega arith) (c .before .short-at .ensures)) slice-write-room add-place
     (λ c. omega (arith, c .shared-slice-known2 .given (c .before .short-at .result .next)))
-    add-place-2 (λ c. search needs) (λ c. search needs) loop-again (λ c. search needs) (λ c. rw (c .before .before .before .before .clear .ensures, length-replicate) at (put-ends (c .before .loop .inv .2) (omega arith))) in
+    add-place-2 (λ c. search needs) (λ c. search needs) loop-again (λ c. search needs) (λ c. let at-clear : tie.After-clear Inv-loop μ-loop = search in rw (at-clear .clear .ensures, length-replicate) at (put-ends (c .before .loop .inv .2) (omega arith))) in
     tie.close answers

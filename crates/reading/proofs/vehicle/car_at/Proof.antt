@@ -24,10 +24,11 @@ returns-2 c =
 
 gearbox-at-requires : tie.Need-gearbox-at-requires
 gearbox-at-requires c κs =
+    let start : tie.Start = search in
     let c₁ = c .before in
     let c₂ = c₁ .before .before in
     let c₃ = c₂ .before .before in
-    let s = c₃ .before .before .before .before in
+    let s = start in
     profile-in (s .args .job .now) _ _ (rw (c₁ .profile .given .1) at (c₂ .profile-at .ensures))
 
 returns-3 : tie.Need-returns-3
@@ -43,7 +44,7 @@ returns-3 c =
 
 returns-4 : tie.Need-returns-4
 returns-4 c =
-    let c₁ = c .before .before .before .before in
+    let c₁ : tie.After-fill = search in
     let c₂ = c₁ .before .before .before in
     let c₃ = c₂ .before .before in
     let c₄ = c₃ .before .before in

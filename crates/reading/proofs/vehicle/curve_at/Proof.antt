@@ -14,15 +14,16 @@ returns c =
 
 fill-points-requires : tie.Need-fill-points-requires
 fill-points-requires c κs =
-    let c₁ = c .before .before .before .before in
+    let c₁ : tie.After-count = search in
     let c₂ = c₁ .before .before in
     let s = c₂ .before .before in
     let b = bounded-in (s .args .job .now) 2 64 3 11 (s .args .at) (rw (c₁ .count .given .1) at (c₂ .bounded .ensures)) in omega arith
 
 returns-2 : tie.Need-returns-2
 returns-2 c =
+    let at-count : tie.After-count = search in
     let c₁ = c .before .before .before in
-    let c₂ = c₁ .before .before .before .before .before in
+    let c₂ = at-count in
     let c₃ = c₂ .before .before in
     let s = c₃ .before .before in
     let last = c₁ .fill-points .last .1 .1 .1 .1 in

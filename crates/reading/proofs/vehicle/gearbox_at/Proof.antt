@@ -21,7 +21,7 @@ fill-requires c κs =
 
 returns-2 : tie.Need-returns-2
 returns-2 c =
-    let c₁ = c .before .before .before .before in
+    let c₁ : tie.After-count = search in
     let c₂ = c₁ .before .before in
     let s = c₂ .before .before in
     gearbox-on (s .args .job .now) (s .args .at) (s .args .profile) (rw (c₁ .count .given .1) at (c₂ .bounded .ensures)) (c .before .fill .result) (c .before .fill .last .1 .1 .1 .0) (c .before .fill .ensures)

@@ -6,23 +6,32 @@ use Rattle.reasons.proofs.explain.clutch_reason.Statement.{statement}
 use Rattle.reasons.proofs.explain.clutch_reason.Tie as tie
 
 returns-2 : tie.Need-returns-2
-returns-2 c = λ car H.
-    let s = c .before .before .before .before .before .before in
+returns-2 c =
+    let s : tie.Start = search in
+    λ car H.
     pedal-rising car _ _ _ (sym (c .before .before .before .moving .ensures) ∙ not-false (c .before .before .before .moving .result) (c .before .before .if1 .left)) (rises (s .args .speeds .now) (s .args .second) (s .pre) (c .if2 .taken))
 
 returns-3 : tie.Need-returns-3
-returns-3 c = λ car H.
-    let s = c .before .before .before .before .before .before .before .before .before .before in
+returns-3 c =
+    let else2 : tie.Else2 = search in
+    let else1 : tie.Else1 = search in
+    let at-moving : tie.After-moving = search in
+    let s : tie.Start = search in
+    λ car H.
     let x = engine-of H (s .args .g) (at (s .args .speeds .now) (s .args .second)) in
     let y = idle-of (H .counts) in
-    pedal-slow car _ _ _ (sym (c .before .before .before .before .before .before .before .moving .ensures) ∙ not-false (c .before .before .before .before .before .before .before .moving .result) (c .before .before .before .before .before .before .if1 .left)) (falls (s .args .speeds .now) (s .args .second) (s .pre) (c .before .before .before .before .if2 .left)) (omega (arith, c .if3 .taken, c .before .before .turning .ensures, x, y))
+    pedal-slow car _ _ _ (sym (at-moving .moving .ensures) ∙ not-false (at-moving .moving .result) (else1 .if1 .left)) (falls (s .args .speeds .now) (s .args .second) (s .pre) (else2 .if2 .left)) (omega (arith, c .if3 .taken, c .before .before .turning .ensures, x, y))
 
 returns-4 : tie.Need-returns-4
-returns-4 c = λ car H.
-    let s = c .before .before .before .before .before .before .before .before .before .before in
+returns-4 c =
+    let else2 : tie.Else2 = search in
+    let else1 : tie.Else1 = search in
+    let at-moving : tie.After-moving = search in
+    let s : tie.Start = search in
+    λ car H.
     let x = engine-of H (s .args .g) (at (s .args .speeds .now) (s .args .second)) in
     let y = idle-of (H .counts) in
-    pedal-turns car _ _ _ (sym (c .before .before .before .before .before .before .before .moving .ensures) ∙ not-false (c .before .before .before .before .before .before .before .moving .result) (c .before .before .before .before .before .before .if1 .left)) (falls (s .args .speeds .now) (s .args .second) (s .pre) (c .before .before .before .before .if2 .left)) (omega (arith, c .if3 .left, c .before .before .turning .ensures, x, y))
+    pedal-turns car _ _ _ (sym (at-moving .moving .ensures) ∙ not-false (at-moving .moving .result) (else1 .if1 .left)) (falls (s .args .speeds .now) (s .args .second) (s .pre) (else2 .if2 .left)) (omega (arith, c .if3 .left, c .before .before .turning .ensures, x, y))
 
 pub clutch-reason-spec : {M : Type 1} → statement M
 clutch-reason-spec =

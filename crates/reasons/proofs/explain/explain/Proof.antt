@@ -11,7 +11,7 @@ use Rattle.reasons.proofs.explain.explain.Tie as tie
 
 required-at-requires : tie.Need-required-at-requires
 required-at-requires c κs =
-    let s = c .before .before .before .before .before in
+    let s : tie.Start = search in
     let L = s .pre .0 .lent in
     let T = s .pre .1 in (
       record { car = s .pre .0 .car; counts = L .has .counts; bounds = L .bounds },
@@ -19,41 +19,54 @@ required-at-requires c κs =
     )
 
 gear-facts-requires : tie.Need-gear-facts-requires
-gear-facts-requires c κs = (c .before .before .before .before .before .before .before .pre .0, rw (result (c .before .required-at .ok)) (c .before .required-at .ensures .1))
+gear-facts-requires c κs =
+    let start : tie.Start = search in
+    (start .pre .0, rw (result (c .before .required-at .ok)) (c .before .required-at .ensures .1))
 
 gear-list-requires : tie.Need-gear-list-requires
-gear-list-requires c κs = (c .before .before .before .before .before .before .before .before .before .before .pre .0, rw (result (c .before .before .before .before .required-at .ok)) (c .before .before .before .before .required-at .ensures .1))
+gear-list-requires c κs =
+    let at-required-at : tie.After-required-at = search in
+    let start : tie.Start = search in
+    (start .pre .0, rw (result (at-required-at .required-at .ok)) (at-required-at .required-at .ensures .1))
 
 cast-t29 : tie.Need-cast-t29
 cast-t29 c =
-    let s = c .before .before .before .before .before .before .before .before .before .before .before .before .before .before in
+    let at-required-at : tie.After-required-at = search in
+    let s : tie.Start = search in
     let L = s .pre .0 .lent in
     omega (arith, c .floor .ensures (s .pre .0 .car) (L .has), floor-to (s .pre .0 .car) (at (s .args .speeds .now) (s .args .about)), L .bounds .ng-to)
 
 returns : tie.Need-returns
-returns c = λ car L.
-    let s = c .before .before .before .before .before .before .before .before .before .before .before .before .before .before .before .before in
+returns c =
+    let at-role-code : tie.After-role-code = search in
+    let at-gear-list : tie.After-gear-list = search in
+    let at-clutch-reason : tie.After-clutch-reason = search in
+    let at-gear-facts : tie.After-gear-facts = search in
+    let at-required-at : tie.After-required-at = search in
+    let at-trip-chain : tie.After-trip-chain = search in
+    let s : tie.Start = search in
+    λ car L.
     let T = s .pre .1 in
     let vs = s .args .speeds .now in
     let hs = s .args .holds .now in
     let i = s .args .about in
     let m = T .trip .moves i (T .since) (T .until) in
-    let q = c .before .before .before .before .before .before .before .before .before .before .before .before .before .trip-chain .ensures .0 car L in
+    let q = at-trip-chain .trip-chain .ensures .0 car L in
     let r = link-role car vs hs i m q in
     let g = link-C car vs hs i m q in
-    let e : rd (c .before .before .before .before .before .before .before .before .before .before .required-at .result) ≡ required car (at vs i) (rise vs i) =
-    result (c .before .before .before .before .before .before .before .before .before .before .required-at .ok) ∙ c .before .before .before .before .before .before .before .before .before .before .required-at .ensures .0 car (L .has .counts) ∙ ap (required car (at vs i)) (sym (rise-here vs i (omega (arith, T .until, T .trip .inside)))) in
-    let w : c .before .before .before .before .before .before .before .clutch-reason .result ≡ clutch-reason car vs (s .args .second) (gear-at car vs hs i) = c .before .before .before .before .before .before .before .clutch-reason .ensures car (L .has) ∙ ap (clutch-reason car vs (s .args .second)) g in
+    let e : rd (at-required-at .required-at .result) ≡ required car (at vs i) (rise vs i) =
+    result (at-required-at .required-at .ok) ∙ at-required-at .required-at .ensures .0 car (L .has .counts) ∙ ap (required car (at vs i)) (sym (rise-here vs i (omega (arith, T .until, T .trip .inside)))) in
+    let w : at-clutch-reason .clutch-reason .result ≡ clutch-reason car vs (s .args .second) (gear-at car vs hs i) = at-clutch-reason .clutch-reason .ensures car (L .has) ∙ ap (clutch-reason car vs (s .args .second)) g in
     said-is car vs hs (s .args .second) i
     (sym (trip-start vs (its-trip T) i (T .since) (T .until)))
     (ap (λ (b : ℕ). b - 1) (sym (trip-stop vs (its-trip T) i (T .since) (T .until))))
     e
-    (c .before .before .before .before .before .gear-list .ensures car (rise vs i) L e ∙ rw r)
+    (at-gear-list .gear-list .ensures car (rise vs i) L e ∙ rw r)
     (s .pre .3)
-    (c .before .before .before .before .role-code .ensures ∙ ap role-code r)
+    (at-role-code .role-code .ensures ∙ ap role-code r)
     refl
     (link-choice car vs hs i m q)
-    (c .before .before .before .sentence-of .ensures ∙ rw (c .before .before .before .before .before .before .before .before .gear-facts .ensures car (rise vs i) L e, r, link-choice car vs hs i m q))
+    (c .before .before .before .sentence-of .ensures ∙ rw (at-gear-facts .gear-facts .ensures car (rise vs i) L e, r, link-choice car vs hs i m q))
     (link-A car vs hs i m q)
     (link-B car vs hs i m q)
     g
@@ -66,12 +79,12 @@ returns c = λ car L.
 pub explain-spec : {M : Type 1} → statement M
 explain-spec =
     let answers = tie.spec (λ c κs. let s = c .before .before in (s .pre .0, s .pre .1)) (λ c. search needs)
-    (λ c. let s = c .before .before .before .before in omega (arith, s .pre .1 .until, s .pre .1 .trip .inside))
-    (λ c. let s = c .before .before .before .before in omega (arith, s .pre .1 .until, s .pre .1 .trip .inside, s .pre .1 .short, longest-is)) (λ c. search needs)
-    (λ c. let s = c .before .before .before .before .before in omega (arith, s .pre .1 .until, s .pre .1 .trip .inside)) required-at-requires
-    (λ c. let s = c .before .before .before .before .before .before .before in omega (arith, s .pre .1 .until, s .pre .1 .trip .inside, s .pre .1 .rooms)) (λ c. search needs) gear-facts-requires
-    (λ c κs. c .before .before .before .before .before .before .before .before .pre .2)
-    (λ c. let s = c .before .before .before .before .before .before .before .before .before .before in omega (arith, s .pre .1 .until)) gear-list-requires (λ c κs. search needs) (λ c κs. search needs)
-    (λ c κs. gears-few (c .before .before .before .before .before .before .before .before .before .before .before .before .before .pre .0)) cast-t29 (λ c κs. search needs)
-    (λ c κs. c .before .before .before .before .before .before .before .before .before .before .before .before .trip-chain .ensures .1) returns in
+    (λ c. let s : tie.Start = search in omega (arith, s .pre .1 .until, s .pre .1 .trip .inside))
+    (λ c. let s : tie.Start = search in omega (arith, s .pre .1 .until, s .pre .1 .trip .inside, s .pre .1 .short, longest-is)) (λ c. search needs)
+    (λ c. let s : tie.Start = search in omega (arith, s .pre .1 .until, s .pre .1 .trip .inside)) required-at-requires
+    (λ c. let s : tie.Start = search in omega (arith, s .pre .1 .until, s .pre .1 .trip .inside, s .pre .1 .rooms)) (λ c. search needs) gear-facts-requires
+    (λ c κs. let start : tie.Start = search in start .pre .2)
+    (λ c. let s : tie.Start = search in omega (arith, s .pre .1 .until)) gear-list-requires (λ c κs. search needs) (λ c κs. search needs)
+    (λ c κs. let at-trip-chain : tie.After-trip-chain = search in let start : tie.Start = search in gears-few (start .pre .0)) cast-t29 (λ c κs. search needs)
+    (λ c κs. let at-required-at : tie.After-required-at = search in let at-trip-chain : tie.After-trip-chain = search in at-trip-chain .trip-chain .ensures .1) returns in
     tie.close answers

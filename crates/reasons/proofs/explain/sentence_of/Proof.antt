@@ -9,11 +9,15 @@ returns-3 c = rw (eq-eqb _ 0 (c .before .before .before .if1 .left), ne-eqb _ 0 
 
 returns-4 : tie.Need-returns-4
 unfolding sentence
-returns-4 c = rw (eq-eqb _ 0 (c .before .before .before .before .if1 .left), ne-eqb _ 0 (c .before .before .before .if2 .left), ← c .before .before .is-first .ensures, c .before .if3 .left, c .if4 .taken)
+returns-4 c =
+    let else1 : tie.Else1 = search in
+    rw (eq-eqb _ 0 (else1 .if1 .left), ne-eqb _ 0 (c .before .before .before .if2 .left), ← c .before .before .is-first .ensures, c .before .if3 .left, c .if4 .taken)
 
 returns-5 : tie.Need-returns-5
 unfolding sentence
-returns-5 c = rw (eq-eqb _ 0 (c .before .before .before .before .if1 .left), ne-eqb _ 0 (c .before .before .before .if2 .left), ← c .before .before .is-first .ensures, c .before .if3 .left, c .if4 .left)
+returns-5 c =
+    let else1 : tie.Else1 = search in
+    rw (eq-eqb _ 0 (else1 .if1 .left), ne-eqb _ 0 (c .before .before .before .if2 .left), ← c .before .before .is-first .ensures, c .before .if3 .left, c .if4 .left)
 
 pub sentence-of-spec : {M : Type 1} → statement M
 unfolding sentence

@@ -10,11 +10,13 @@ fits-in : (s : tie.Start) → s .args .trip .hi - s .args .trip .lo ≤ 16384
 fits-in s = omega (arith, s .pre .1 .trip .inside, s .pre .1 .short, longest-is)
 
 chain-requires : tie.Need-chain-requires
-chain-requires c κs = let s = c .before .before .before .before .before in (s .pre .0, trip-ready (s .pre .1) (length-take-le _ _ (fits-in s)), trip-place (s .pre .1))
+chain-requires c κs =
+    let s : tie.Start = search in
+    (s .pre .0, trip-ready (s .pre .1) (length-take-le _ _ (fits-in s)), trip-place (s .pre .1))
 
 returns : tie.Need-returns
 returns c =
-    let s = c .before .before .before .before .before .before .before in
+    let s : tie.Start = search in
     let P = s .pre .0 in
     (λ car L. c .before .chain .ensures car L ∙ trip-lists (s .pre .1) car, chain-small (s .pre .1) (P .lent) (c .before .chain .ensures (P .car) (P .lent)))
 
@@ -22,7 +24,7 @@ pub trip-chain-spec : {M : Type 1} → statement M
 trip-chain-spec =
     let answers = tie.spec (λ c. search needs) (λ c. search needs) (λ c. search needs) (λ c. search needs) (λ c. search needs)
     (λ c. search needs) (λ c. search needs) (λ c. search needs) (λ c. search needs) (λ c. search needs)
-    (λ c. fits-in (c .before .before .before .before))
-    (λ c. sym (length-take-le _ _ (fits-in (c .before .before .before .before .before))))
+    (λ c. fits-in (search))
+    (λ c. sym (length-take-le _ _ (fits-in (search))))
     chain-requires returns in
     tie.close answers

@@ -28,7 +28,7 @@ segment-at-requires c κs =
 
 returns-2 : tie.Need-returns-2
 returns-2 c =
-    let s = c .before .before .before .before .before in
+    let s : tie.Start = search in
     let L = s .pre .0 .lent in (
       λ car M. c .power-at .ensures car M ∙ power-read (M .has) _ _ (turns (c .before .before) .under),
       sized-of L _ _ (turns (c .before .before)) (c .power-at .result) (c .power-at .ensures (s .pre .0 .car) L),
@@ -36,5 +36,5 @@ returns-2 c =
 
 pub listed-power-spec : {M : Type 1} → statement M
 listed-power-spec =
-    let answers = tie.spec (λ c κs. search needs) (λ c κs. search needs) returns segment-at-requires (λ c κs. (c .before .before .before .before .pre .0, turns (c .before), c .segment-at .ensures)) returns-2 in
+    let answers = tie.spec (λ c κs. search needs) (λ c κs. search needs) returns segment-at-requires (λ c κs. let start : tie.Start = search in (start .pre .0, turns (c .before), c .segment-at .ensures)) returns-2 in
     tie.close answers

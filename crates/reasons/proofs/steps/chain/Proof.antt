@@ -6,38 +6,56 @@ use Rattle.reasons.proofs.steps.chain.Statement.{statement}
 use Rattle.reasons.proofs.steps.chain.Tie as tie
 
 peak-at-requires : tie.Need-peak-at-requires
-peak-at-requires c κs = let s = c .before .before .before .before .before .before .before .before .before .before .before in (gears-few (s .pre .0), record { speeds = s .pre .1 .lists .speeds; gears = search needs }, s .pre .2)
+peak-at-requires c κs =
+    let s : tie.Start = search in
+    (gears-few (s .pre .0), record { speeds = s .pre .1 .lists .speeds; gears = search needs }, s .pre .2)
 
 rising-at-requires : tie.Need-rising-at-requires
-rising-at-requires c κs = let s = c .before .before .before .before .before .before .before .before .before .before .before .before .before .before .before in (gears-few (s .pre .0), record { speeds = s .pre .1 .lists .speeds; gears = search needs }, s .pre .2)
+rising-at-requires c κs =
+    let at-gs : tie.After-gs = search in
+    let s : tie.Start = search in
+    (gears-few (s .pre .0), record { speeds = s .pre .1 .lists .speeds; gears = search needs }, s .pre .2)
 
 ceiling-in-requires : tie.Need-ceiling-in-requires
 ceiling-in-requires c κs =
-    let s = c .before .before .before .before .before .before .before .before .before .before .before .before .before .before .before .before .before .before .before in
+    let at-peak-at : tie.After-peak-at = search in
+    let at-choose-at : tie.After-choose-at = search in
+    let s : tie.Start = search in
     let L = s .pre .0 .lent in
-    B-low (s .pre .0 .car) (s .args .us .now) (s .args .hs .now) (s .args .j) (c .before .before .before .before .before .before .before .before .before .before .before .before .before .choose-at .ensures .1 _ L) (c .before .before .before .before .before .before .before .peak-at .ensures .1 _ (L .has)) (c .before .before .before .rising-at .ensures .1 _ (L .has)) refl L (s .pre .1) (s .pre .2)
+    B-low (s .pre .0 .car) (s .args .us .now) (s .args .hs .now) (s .args .j) (at-choose-at .choose-at .ensures .1 _ L) (at-peak-at .peak-at .ensures .1 _ (L .has)) (c .before .before .before .rising-at .ensures .1 _ (L .has)) refl L (s .pre .1) (s .pre .2)
 
 slowing-at-requires : tie.Need-slowing-at-requires
 slowing-at-requires c κs =
-    let s = c .before .before .before .before .before .before .before .before .before .before .before .before .before .before .before .before .before .before .before .before .before in
+    let at-rising-at : tie.After-rising-at = search in
+    let at-peak-at : tie.After-peak-at = search in
+    let at-choose-at : tie.After-choose-at = search in
+    let at-closing-from : tie.After-closing-from = search in
+    let s : tie.Start = search in
     let L = s .pre .0 .lent in
-    let long = B-long (s .pre .0 .car) (s .args .us .now) (s .args .hs .now) (s .args .j) (c .before .before .before .before .before .before .before .before .before .before .before .before .before .before .before .choose-at .ensures .1 _ L) (c .before .before .before .before .before .before .before .before .before .peak-at .ensures .1 _ (L .has)) (c .before .before .before .before .before .rising-at .ensures .1 _ (L .has)) refl in
-    (gears-few (s .pre .0), record { us = s .args .us .now; speeds = s .pre .1 .lists .speeds; gears = long; run = c .before .before .before .before .before .before .before .before .before .before .before .before .before .before .before .before .before .closing-from .ensures }, s .pre .2)
+    let long = B-long (s .pre .0 .car) (s .args .us .now) (s .args .hs .now) (s .args .j) (at-choose-at .choose-at .ensures .1 _ L) (at-peak-at .peak-at .ensures .1 _ (L .has)) (at-rising-at .rising-at .ensures .1 _ (L .has)) refl in
+    (gears-few (s .pre .0), record { us = s .args .us .now; speeds = s .pre .1 .lists .speeds; gears = long; run = at-closing-from .closing-from .ensures }, s .pre .2)
 
 returns : tie.Need-returns
-returns c = λ car L.
-    let s = c .before .before .before .before .before .before .before .before .before .before .before .before .before .before .before .before .before .before .before .before .before .before .before .before in
+returns c =
+    let at-ceiling-in : tie.After-ceiling-in = search in
+    let at-rising-at : tie.After-rising-at = search in
+    let at-peak-at : tie.After-peak-at = search in
+    let at-role-in : tie.After-role-in = search in
+    let at-choose-at : tie.After-choose-at = search in
+    let at-closing-from : tie.After-closing-from = search in
+    let s : tie.Start = search in
+    λ car L.
     let us = s .args .us .now in
     let hs = s .args .hs .now in
-    let run = c .before .before .before .before .before .before .before .before .before .before .before .before .before .before .before .before .before .before .before .before .closing-from .ensures in
-    let f = c .before .before .before .before .before .before .before .before .before .before .before .before .before .before .before .before .before .before .choose-at .ensures .1 car L in
-    chain-is car us hs (s .args .j) f (c .before .before .before .before .before .before .before .before .before .before .before .before .peak-at .ensures .1 car (L .has)) (c .before .before .before .before .before .before .before .before .rising-at .ensures .1 car (L .has)) (c .before .before .slowing-at .ensures .1 car us (L .has .counts) (s .pre .1 .lists .speeds) run)
-    (c .before .before .before .before .before .before .before .before .before .before .before .before .before .before .role-in .ensures car us hs (L .has .counts) (s .pre .1 .lists .speeds ∙ ap suc (sym (ap length f ∙ length-firsts car us hs))) run)
-    (c .before .before .before .before .before .before .before .before .before .before .before .before .before .before .before .before .before .before .choose-at .ensures .0) (c .before .before .before .before .before .before .before .before .before .before .before .before .peak-at .ensures .0) (c .before .before .before .before .before .before .before .before .rising-at .ensures .0) (c .before .before .slowing-at .ensures .0) (c .before .before .before .before .ceiling-in .ensures car)
+    let run = at-closing-from .closing-from .ensures in
+    let f = at-choose-at .choose-at .ensures .1 car L in
+    chain-is car us hs (s .args .j) f (at-peak-at .peak-at .ensures .1 car (L .has)) (at-rising-at .rising-at .ensures .1 car (L .has)) (c .before .before .slowing-at .ensures .1 car us (L .has .counts) (s .pre .1 .lists .speeds) run)
+    (at-role-in .role-in .ensures car us hs (L .has .counts) (s .pre .1 .lists .speeds ∙ ap suc (sym (ap length f ∙ length-firsts car us hs))) run)
+    (at-choose-at .choose-at .ensures .0) (at-peak-at .peak-at .ensures .0) (at-rising-at .rising-at .ensures .0) (c .before .before .slowing-at .ensures .0) (at-ceiling-in .ceiling-in .ensures car)
 
 pub chain-spec : {M : Type 1} → statement M
 chain-spec =
     let answers = tie.spec (λ c κs. let s = c .before .before .before in (moves-on (s .pre .1), omega (arith, s .pre .1 .lists .speeds)))
-    (λ c κs. let s = c .before .before .before .before .before in (s .pre .0, s .pre .1, s .pre .2, c .before .closing-from .ensures)) (λ c κs. search needs) peak-at-requires rising-at-requires
+    (λ c κs. let s : tie.Start = search in (s .pre .0, s .pre .1, s .pre .2, c .before .closing-from .ensures)) (λ c κs. search needs) peak-at-requires rising-at-requires
     ceiling-in-requires slowing-at-requires (λ c. search needs) returns in
     tie.close answers

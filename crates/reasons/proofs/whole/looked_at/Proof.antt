@@ -5,18 +5,20 @@ use Rattle.reasons.proofs.whole.looked_at.Statement.{statement}
 use Rattle.reasons.proofs.whole.looked_at.Tie as tie
 
 returns : tie.Need-returns
-returns c = let s = c .before .before .before .before in span-standing (s .args .speeds .now) (s .args .second) (s .pre .0) (sym (c .before .moving .ensures) ∙ not-true (c .before .moving .result) (c .if1 .taken))
+returns c =
+    let s : tie.Start = search in
+    span-standing (s .args .speeds .now) (s .args .second) (s .pre .0) (sym (c .before .moving .ensures) ∙ not-true (c .before .moving .result) (c .if1 .taken))
 
 returns-2 : tie.Need-returns-2
 returns-2 c =
-    let s = c .before .before .before .before .before .before in
+    let s : tie.Start = search in
     let x = span-moving (s .args .speeds .now) (s .args .second) (s .pre .0) (sym (c .before .before .before .moving .ensures) ∙ not-false (c .before .before .before .moving .result) (c .before .before .if1 .left)) in
     let y : s .args .trip .hi + 1 ≡ min (suc (stop (s .args .speeds .now) (s .args .second))) (length (s .args .speeds .now)) = omega (arith, s .pre .2, c .if2 .taken) in
     (c .before .before2 .ensures ∙ ap (λ (a : ℕ). a - 1) (s .pre .1) ∙ x .0, y ∙ x .1)
 
 returns-3 : tie.Need-returns-3
 returns-3 c =
-    let s = c .before .before .before .before .before .before in
+    let s : tie.Start = search in
     let x = span-moving (s .args .speeds .now) (s .args .second) (s .pre .0) (sym (c .before .before .before .moving .ensures) ∙ not-false (c .before .before .before .moving .result) (c .before .before .if1 .left)) in
     let y : length (s .args .speeds .now) ≡ min (suc (stop (s .args .speeds .now) (s .args .second))) (length (s .args .speeds .now)) = omega (arith, s .pre .2, c .if2 .left) in
     (c .before .before2 .ensures ∙ ap (λ (a : ℕ). a - 1) (s .pre .1) ∙ x .0, y ∙ x .1)

@@ -11,20 +11,30 @@ three : (v : ℕ) → 16384 ≤ v → length (form v) ≡ 3
 three v h = ap length (form-three v h)
 
 returns-2 : tie.Need-returns-2
-returns-2 c = rw (form-two (c .before .before .before .before .before .before .before .before .before .before .before .args .v) (omega arith) (omega arith)) (put-both (c .before .before .before .before .before .before .before .put-byte2 .ensures) (c .before .before .put-byte3 .ensures))
+returns-2 c =
+    let at-put-byte2 : tie.After-put-byte2 = search in
+    let start : tie.Start = search in
+    rw (form-two (start .args .v) (omega arith) (omega arith)) (put-both (at-put-byte2 .put-byte2 .ensures) (c .before .before .put-byte3 .ensures))
 
 put-byte-requires-5 : tie.Need-put-byte-requires-5
-put-byte-requires-5 c κs = omega (arith, three (c .before .before .before .before .before .before .before .before .before .before .before .before .args .v) (omega arith))
+put-byte-requires-5 c κs =
+    let at-put-byte2 : tie.After-put-byte2 = search in
+    let start : tie.Start = search in
+    omega (arith, three (start .args .v) (omega arith))
 
 returns-3 : tie.Need-returns-3
-returns-3 c = rw (form-three (c .before .before .before .before .before .before .before .before .before .before .before .before .before .before .before .args .v) (omega arith)) (put-both (c .before .before .before .before .before .before .before .before .before .before .before .put-byte2 .ensures) (put-both (c .before .before .before .before .before .before .put-byte4 .ensures) (c .before .before .put-byte5 .ensures)))
+returns-3 c =
+    let at-put-byte4 : tie.After-put-byte4 = search in
+    let at-put-byte2 : tie.After-put-byte2 = search in
+    let start : tie.Start = search in
+    rw (form-three (start .args .v) (omega arith)) (put-both (at-put-byte2 .put-byte2 .ensures) (put-both (at-put-byte4 .put-byte4 .ensures) (c .before .before .put-byte5 .ensures)))
 
 pub put-group-spec : {M : Type 1} → statement M
 put-group-spec =
     let answers = tie.spec (λ c. search needs)
     (λ c κs. omega (arith, form-size (c .before .before .before .args .v) .0))
-    (λ c. search needs) (λ c. rw (form-one (c .before .before .before .before .before .before .args .v) (omega arith)) (c .before .before .put-byte .ensures)) (λ c. search needs) (λ c. search needs)
+    (λ c. search needs) (λ c. let start : tie.Start = search in rw (form-one (start .args .v) (omega arith)) (c .before .before .put-byte .ensures)) (λ c. search needs) (λ c. search needs)
     (λ c κs. omega (arith, form-size (c .before .before .before .args .v) .0))
-    (λ c. search needs) (λ c κs. omega (arith, two (c .before .before .before .before .before .before .before .before .args .v) (omega arith) (omega arith))) (λ c. search needs) returns-2 (λ c. search needs) (λ c. search needs)
-    (λ c κs. omega (arith, three (c .before .before .before .before .before .before .before .before .args .v) (omega arith))) (λ c. search needs) put-byte-requires-5 (λ c. search needs) returns-3 in
+    (λ c. search needs) (λ c κs. let start : tie.Start = search in omega (arith, two (start .args .v) (omega arith) (omega arith))) (λ c. search needs) returns-2 (λ c. search needs) (λ c. search needs)
+    (λ c κs. let start : tie.Start = search in omega (arith, three (start .args .v) (omega arith))) (λ c. search needs) put-byte-requires-5 (λ c. search needs) returns-3 in
     tie.close answers

@@ -24,22 +24,23 @@ loop-holds c =
 
 put-hold-requires : tie.Need-put-hold-requires Inv-loop μ-loop
 put-hold-requires c κs =
+    let start : tie.Start Inv-loop μ-loop = search in
     let c₀ = c .before .before .before in
-    let s = c₀ .before .before .before .before in
+    let s = start in
     let l = said-as (held-more (s .args .holds .now) (c₀ .loop .second) (omega arith)) (c₀ .loop .inv .1) in
     let L = s .pre .0 in
     (omega (arith, L .seconds), L .gears (c₀ .loop .second) (omega arith), omega (arith, has-space (hold-bytes (c₀ .loop .second) (at (s .args .holds .now) (c₀ .loop .second))) (pairs-bytes (held-left (s .args .holds .now) (suc (c₀ .loop .second)))) l))
 
 loop-again : tie.Need-loop-again Inv-loop μ-loop
 loop-again c =
-    let c₀ = c .before .before .before .before .before .before in
+    let c₀ : tie.At-loop Inv-loop μ-loop = search in
     let s = c₀ .before .before .before .before in
     let l = said-as (held-more (s .args .holds .now) (c₀ .loop .second) (omega arith)) (c₀ .loop .inv .1) in
     (omega arith, rw add-one (fewer-left l (c .before .before .put-hold .ensures)))
 
 returns-2 : tie.Need-returns-2 Inv-loop μ-loop
 returns-2 c =
-    let s = c .before .before .before .before .before in
+    let s : tie.Start Inv-loop μ-loop = search in
     none-left (said-as (held-end (s .args .holds .now) (c .before .loop .second) (omega arith)) (c .before .loop .inv .1))
 
 pub put-held-spec : {M : Type 1} → statement M

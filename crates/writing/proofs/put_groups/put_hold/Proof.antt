@@ -17,12 +17,17 @@ size : (s g : ℕ) → g ≢ 0 → length (hold-bytes s g) ≡ length (form s) +
 size s g e = ap length (a-hold s g e) ∙ length-append (form s) (form g)
 
 put-byte-requires : tie.Need-put-byte-requires
-put-byte-requires c κs = let s = c .before .before .before .before .before .before .before in omega (arith, s .pre .2, ap length (form-one (s .args .gear) (s .pre .1)), size (s .args .second) (s .args .gear) (c .before .before .before .before .before .if1 .left))
+put-byte-requires c κs =
+    let else1 : tie.Else1 = search in
+    let s : tie.Start = search in
+    omega (arith, s .pre .2, ap length (form-one (s .args .gear) (s .pre .1)), size (s .args .second) (s .args .gear) (else1 .if1 .left))
 
 returns-2 : tie.Need-returns-2
 returns-2 c =
-    let s = c .before .before .before .before .before .before .before .before .before .before in
-    rw (a-hold (s .args .second) (s .args .gear) (c .before .before .before .before .before .before .before .before .if1 .left), form-one (s .args .gear) (s .pre .1)) (put-both (c .before .before .before .before .before .before .put-short .ensures) (c .before .before .put-byte .ensures))
+    let at-put-short : tie.After-put-short = search in
+    let else1 : tie.Else1 = search in
+    let s : tie.Start = search in
+    rw (a-hold (s .args .second) (s .args .gear) (else1 .if1 .left), form-one (s .args .gear) (s .pre .1)) (put-both (at-put-short .put-short .ensures) (c .before .before .put-byte .ensures))
 
 pub put-hold-spec : {M : Type 1} → statement M
 put-hold-spec =

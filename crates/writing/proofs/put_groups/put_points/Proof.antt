@@ -14,40 +14,47 @@ abbrev μ-loop : tie.MeasureT-loop
 
 loop-holds : tie.Need-loop-holds Inv-loop μ-loop
 loop-holds c =
-    let s = c .before .before .before .before in
+    let s : tie.Start Inv-loop μ-loop = search in
     (omega arith, points-begin (s .args .version) (s .args .room .now) (s .args .at) (s .args .ns .now) (s .args .ps .now) (s .args .ms .now) (s .args .count) (s .pre .3))
 
 put-group-requires : tie.Need-put-group-requires Inv-loop μ-loop
 put-group-requires c κs =
+    let start : tie.Start Inv-loop μ-loop = search in
     let c₀ = c .before .before .before in
-    let s = c₀ .before .before .before .before .before in
+    let s = start in
     let l = said-as (points-more (s .args .version) (s .args .ns .now) (s .args .ps .now) (s .args .ms .now) (s .args .count) (c₀ .loop .i) (omega arith)) (c₀ .loop .inv .1) in
     omega (arith, has-space (form (at (s .args .ns .now) (c₀ .loop .i))) (form (at (s .args .ps .now) (c₀ .loop .i)) ++ (margin (s .args .version) .write (at (s .args .ms .now) (c₀ .loop .i)) ++ points-left (s .args .version) (s .args .ns .now) (s .args .ps .now) (s .args .ms .now) (s .args .count) (suc (c₀ .loop .i)))) l)
 
 put-group-requires-2 : tie.Need-put-group-requires-2 Inv-loop μ-loop
 put-group-requires-2 c κs =
-    let c₀ = c .before .before .before .before .before .before .before .before in
+    let at-put-group : tie.After-put-group Inv-loop μ-loop = search in
+    let c₀ : tie.At-loop Inv-loop μ-loop = search in
     let s = c₀ .before .before .before .before .before in
     let l = said-as (points-more (s .args .version) (s .args .ns .now) (s .args .ps .now) (s .args .ms .now) (s .args .count) (c₀ .loop .i) (omega arith)) (c₀ .loop .inv .1) in
-    omega (arith, has-space (form (at (s .args .ps .now) (c₀ .loop .i))) (margin (s .args .version) .write (at (s .args .ms .now) (c₀ .loop .i)) ++ points-left (s .args .version) (s .args .ns .now) (s .args .ps .now) (s .args .ms .now) (s .args .count) (suc (c₀ .loop .i))) (fewer-left l (c .before .before .before .before .put-group .ensures)))
+    omega (arith, has-space (form (at (s .args .ps .now) (c₀ .loop .i))) (margin (s .args .version) .write (at (s .args .ms .now) (c₀ .loop .i)) ++ points-left (s .args .version) (s .args .ns .now) (s .args .ps .now) (s .args .ms .now) (s .args .count) (suc (c₀ .loop .i))) (fewer-left l (at-put-group .put-group .ensures)))
 
 put-since-requires : tie.Need-put-since-requires Inv-loop μ-loop
 put-since-requires c κs =
-    let c₀ = c .before .before .before .before .before .before .before .before .before .before .before .before .before in
+    let at-put-group2 : tie.After-put-group2 Inv-loop μ-loop = search in
+    let at-put-group : tie.After-put-group Inv-loop μ-loop = search in
+    let c₀ : tie.At-loop Inv-loop μ-loop = search in
     let s = c₀ .before .before .before .before .before in
     let l = said-as (points-more (s .args .version) (s .args .ns .now) (s .args .ps .now) (s .args .ms .now) (s .args .count) (c₀ .loop .i) (omega arith)) (c₀ .loop .inv .1) in
-    omega (arith, has-space (margin (s .args .version) .write (at (s .args .ms .now) (c₀ .loop .i))) (points-left (s .args .version) (s .args .ns .now) (s .args .ps .now) (s .args .ms .now) (s .args .count) (suc (c₀ .loop .i))) (fewer-left (fewer-left l (c .before .before .before .before .before .before .before .before .before .put-group .ensures)) (c .before .before .before .before .put-group2 .ensures)))
+    omega (arith, has-space (margin (s .args .version) .write (at (s .args .ms .now) (c₀ .loop .i))) (points-left (s .args .version) (s .args .ns .now) (s .args .ps .now) (s .args .ms .now) (s .args .count) (suc (c₀ .loop .i))) (fewer-left (fewer-left l (at-put-group .put-group .ensures)) (at-put-group2 .put-group2 .ensures)))
 
 loop-again : tie.Need-loop-again Inv-loop μ-loop
 loop-again c =
-    let c₀ = c .before .before .before .before .before .before .before .before .before .before .before .before .before .before .before .before in
+    let at-put-group2 : tie.After-put-group2 Inv-loop μ-loop = search in
+    let at-put-group : tie.After-put-group Inv-loop μ-loop = search in
+    let in-loop : tie.In-loop Inv-loop μ-loop = search in
+    let c₀ : tie.At-loop Inv-loop μ-loop = search in
     let s = c₀ .before .before .before .before .before in
-    let l = said-as (points-more (s .args .version) (s .args .ns .now) (s .args .ps .now) (s .args .ms .now) (s .args .count) (c₀ .loop .i) (omega (arith, c .before .before .before .before .before .before .before .before .before .before .before .before .before .before .before .loop-test))) (c₀ .loop .inv .1) in
-    (omega (arith, c .before .before .before .before .before .before .before .before .before .before .before .before .before .before .before .loop-test), rw add-one (fewer-left (fewer-left (fewer-left l (c .before .before .before .before .before .before .before .before .before .before .before .before .put-group .ensures)) (c .before .before .before .before .before .before .before .put-group2 .ensures)) (c .before .before .put-since .ensures)))
+    let l = said-as (points-more (s .args .version) (s .args .ns .now) (s .args .ps .now) (s .args .ms .now) (s .args .count) (c₀ .loop .i) (omega (arith, in-loop .loop-test))) (c₀ .loop .inv .1) in
+    (omega (arith, in-loop .loop-test), rw add-one (fewer-left (fewer-left (fewer-left l (at-put-group .put-group .ensures)) (at-put-group2 .put-group2 .ensures)) (c .before .before .put-since .ensures)))
 
 returns : tie.Need-returns Inv-loop μ-loop
 returns c =
-    let s = c .before .before .before .before .before .before in
+    let s : tie.Start Inv-loop μ-loop = search in
     none-left (said-as (points-none (s .args .version) (s .args .ns .now) (s .args .ps .now) (s .args .ms .now) (s .args .count) (c .before .loop .i) (omega arith)) (c .before .loop .inv .1))
 
 pub put-points-spec : {M : Type 1} → statement M

@@ -12,7 +12,10 @@ put-group-requires : tie.Need-put-group-requires
 put-group-requires c κs = let s = c .before .before .before in rw (since-late (s .args .first) (s .args .version) (s .args .v) (le-leb _ _ (c .before .if1 .left))) at (s .pre)
 
 returns-2 : tie.Need-returns-2
-returns-2 c = let s = c .before .before .before .before .before .before in rw (since-late (s .args .first) (s .args .version) (s .args .v) (le-leb _ _ (c .before .before .before .before .if1 .left))) (c .before .before .put-group .ensures)
+returns-2 c =
+    let else1 : tie.Else1 = search in
+    let s : tie.Start = search in
+    rw (since-late (s .args .first) (s .args .version) (s .args .v) (le-leb _ _ (else1 .if1 .left))) (c .before .before .put-group .ensures)
 
 pub put-since-spec : {M : Type 1} → statement M
 put-since-spec = let answers = tie.spec returns put-group-requires (λ c. search needs) returns-2 in tie.close answers

@@ -26,14 +26,14 @@ put-short-requires c κs =
 
 loop-again : tie.Need-loop-again Inv-loop μ-loop
 loop-again c =
-    let c₀ = c .before .before .before .before .before .before in
+    let c₀ : tie.At-loop Inv-loop μ-loop = search in
     let s = c₀ .before .before .before in
     let l = said-as (values-more (s .args .speeds .now) (length (s .args .speeds .now)) (c₀ .loop .i) (omega arith)) (c₀ .loop .inv .1) in
     (omega arith, rw add-one (fewer-left l (c .before .before .put-short .ensures)))
 
 returns : tie.Need-returns Inv-loop μ-loop
 returns c =
-    let s = c .before .before .before .before in
+    let s : tie.Start Inv-loop μ-loop = search in
     none-left (said-as (values-none (s .args .speeds .now) (length (s .args .speeds .now)) (c .before .loop .i) (omega arith)) (c .before .loop .inv .1))
 
 pub put-speeds-spec : {M : Type 1} → statement M

@@ -13,12 +13,12 @@ put-group-requires c κs =
 
 put-speeds-requires : tie.Need-put-speeds-requires
 put-speeds-requires c κs =
-    let s = c .before .before .before .before .before .before .before in
+    let s : tie.Start = search in
     let vs = s .args .speeds .now in
     (s .pre .0, omega (arith, s .pre .2, c .before .before .before .put-group .ensures, length-append (form (length vs)) (values-bytes vs (length vs))))
 
 pub put-trace-spec : {M : Type 1} → statement M
 put-trace-spec =
     let answers = tie.spec (λ c. search needs) put-group-requires put-speeds-requires (λ c. search needs)
-    (λ c. put-both (c .before .before .before .before .before .before .put-group .ensures) (c .before .before .put-speeds .ensures)) in
+    (λ c. let at-put-group : tie.After-put-group = search in put-both (at-put-group .put-group .ensures) (c .before .before .put-speeds .ensures)) in
     tie.close answers

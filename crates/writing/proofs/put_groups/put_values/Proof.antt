@@ -26,14 +26,14 @@ put-group-requires c κs =
 
 loop-again : tie.Need-loop-again Inv-loop μ-loop
 loop-again c =
-    let c₀ = c .before .before .before .before .before .before in
+    let c₀ : tie.At-loop Inv-loop μ-loop = search in
     let s = c₀ .before .before .before in
     let l = said-as (values-more (s .args .values .now) (s .args .count) (c₀ .loop .i) (omega arith)) (c₀ .loop .inv .1) in
     (omega arith, rw add-one (fewer-left l (c .before .before .put-group .ensures)))
 
 returns : tie.Need-returns Inv-loop μ-loop
 returns c =
-    let s = c .before .before .before .before in
+    let s : tie.Start Inv-loop μ-loop = search in
     none-left (said-as (values-none (s .args .values .now) (s .args .count) (c .before .loop .i) (omega arith)) (c .before .loop .inv .1))
 
 pub put-values-spec : {M : Type 1} → statement M

@@ -39,57 +39,76 @@ put-since-requires c κs =
 
 put-counted-requires : tie.Need-put-counted-requires
 put-counted-requires c κs =
-    let s = c .before .before .before .before .before .before .before .before .before .before in
+    let at-put-since : tie.After-put-since = search in
+    let s : tie.Start = search in
     let v = s .args .version in
     let car = s .args .t4 in
     let l₀ = said-as (vehicle-bytes v car) (all-left (s .args .room .now) (s .args .at) (vehicle v .write car) (s .pre .1)) in
-    let l₁ = fewer-left l₀ (c .before .before .before .before .before .before .put-since .ensures) in
+    let l₁ = fewer-left l₀ (at-put-since .put-since .ensures) in
     omega (arith, s .pre .0 .ng-to, has-space (gears car) (after-gears v car) l₁)
 
 put-values-requires : tie.Need-put-values-requires
 put-values-requires c κs =
-    let s = c .before .before .before .before .before .before .before .before .before .before .before .before .before .before .before in
+    let at-put-counted : tie.After-put-counted = search in
+    let at-put-since : tie.After-put-since = search in
+    let at-numbers-between : tie.After-numbers-between = search in
+    let s : tie.Start = search in
     let v = s .args .version in
     let car = s .args .t4 in
     let l₀ = said-as (vehicle-bytes v car) (all-left (s .args .room .now) (s .args .at) (vehicle v .write car) (s .pre .1)) in
-    let l₁ = fewer-left l₀ (c .before .before .before .before .before .before .before .before .before .before .before .put-since .ensures) in
-    let l₂ = fewer-left l₁ (c .before .before .before .before .put-counted .ensures) in
-    let r = c .before .before .before .before .before .before .before .before .before .before .before .before .before .numbers-between .ensures in
+    let l₁ = fewer-left l₀ (at-put-since .put-since .ensures) in
+    let l₂ = fewer-left l₁ (at-put-counted .put-counted .ensures) in
+    let r = at-numbers-between .numbers-between .ensures in
     (rw r (omega (arith, eight-long car)), rw r (omega (arith, has-space (eight car) (after-eight v car) l₂)))
 
 put-group-requires : tie.Need-put-group-requires
 put-group-requires c κs =
-    let s = c .before .before .before .before .before .before .before .before .before .before .before .before .before .before .before .before .before .before .before in
+    let at-put-counted : tie.After-put-counted = search in
+    let at-put-since : tie.After-put-since = search in
+    let at-numbers-between : tie.After-numbers-between = search in
+    let s : tie.Start = search in
     let v = s .args .version in
     let car = s .args .t4 in
     let l₀ = said-as (vehicle-bytes v car) (all-left (s .args .room .now) (s .args .at) (vehicle v .write car) (s .pre .1)) in
-    let l₁ = fewer-left l₀ (c .before .before .before .before .before .before .before .before .before .before .before .before .before .before .before .put-since .ensures) in
-    let l₂ = fewer-left l₁ (c .before .before .before .before .before .before .before .before .put-counted .ensures) in
-    let l₃ = fewer-left l₂ (rw (c .before .before .before .before .before .before .before .before .before .before .before .before .before .before .before .before .before .numbers-between .ensures) at (c .before .before .before .put-values .ensures)) in
+    let l₁ = fewer-left l₀ (at-put-since .put-since .ensures) in
+    let l₂ = fewer-left l₁ (at-put-counted .put-counted .ensures) in
+    let l₃ = fewer-left l₂ (rw (at-numbers-between .numbers-between .ensures) at (c .before .before .before .put-values .ensures)) in
     omega (arith, has-space (form (car .points)) (points v car) l₃)
 
 put-points-requires : tie.Need-put-points-requires
 put-points-requires c κs =
-    let s = c .before .before .before .before .before .before .before .before .before .before .before .before .before .before .before .before .before .before .before .before .before .before .before .before .before .before .before .before .before .before in
+    let at-room4 : tie.After-room4 = search in
+    let at-put-group : tie.After-put-group = search in
+    let at-put-values : tie.After-put-values = search in
+    let at-put-counted : tie.After-put-counted = search in
+    let at-put-since : tie.After-put-since = search in
+    let at-numbers-between : tie.After-numbers-between = search in
+    let s : tie.Start = search in
     let v = s .args .version in
     let car = s .args .t4 in
     let l₀ = said-as (vehicle-bytes v car) (all-left (s .args .room .now) (s .args .at) (vehicle v .write car) (s .pre .1)) in
-    let l₁ = fewer-left l₀ (c .before .before .before .before .before .before .before .before .before .before .before .before .before .before .before .before .before .before .before .before .before .before .before .before .before .before .put-since .ensures) in
-    let l₂ = fewer-left l₁ (c .before .before .before .before .before .before .before .before .before .before .before .before .before .before .before .before .before .before .before .put-counted .ensures) in
-    let l₃ = fewer-left l₂ (rw (c .before .before .before .before .before .before .before .before .before .before .before .before .before .before .before .before .before .before .before .before .before .before .before .before .before .before .before .before .numbers-between .ensures) at (c .before .before .before .before .before .before .before .before .before .before .before .before .before .before .put-values .ensures)) in
-    let l₄ = fewer-left l₃ (c .before .before .before .before .before .before .before .before .before .before .put-group .ensures) in
-    omega (arith, s .pre .0 .points-to, l₄ .fits)
+    let l₁ = fewer-left l₀ (at-put-since .put-since .ensures) in
+    let l₂ = fewer-left l₁ (at-put-counted .put-counted .ensures) in
+    let l₃ = fewer-left l₂ (rw (at-numbers-between .numbers-between .ensures) at (at-put-values .put-values .ensures)) in
+    let l₄ = fewer-left l₃ (at-put-group .put-group .ensures) in
+    omega (arith, c, s .pre .0 .points-to, l₄ .fits)
 
 returns : tie.Need-returns
 returns c =
-    let s = c .before .before .before .before .before .before .before .before .before .before .before .before .before .before .before .before .before .before .before .before .before .before .before .before .before .before .before .before .before .before .before .before .before in
+    let at-car2 : tie.After-car2 = search in
+    let at-put-group : tie.After-put-group = search in
+    let at-put-values : tie.After-put-values = search in
+    let at-put-counted : tie.After-put-counted = search in
+    let at-put-since : tie.After-put-since = search in
+    let at-numbers-between : tie.After-numbers-between = search in
+    let s : tie.Start = search in
     let v = s .args .version in
     let car = s .args .t4 in
     let l₀ = said-as (vehicle-bytes v car) (all-left (s .args .room .now) (s .args .at) (vehicle v .write car) (s .pre .1)) in
-    let l₁ = fewer-left l₀ (c .before .before .before .before .before .before .before .before .before .before .before .before .before .before .before .before .before .before .before .before .before .before .before .before .before .before .before .before .before .put-since .ensures) in
-    let l₂ = fewer-left l₁ (c .before .before .before .before .before .before .before .before .before .before .before .before .before .before .before .before .before .before .before .before .before .before .put-counted .ensures) in
-    let l₃ = fewer-left l₂ (rw (c .before .before .before .before .before .before .before .before .before .before .before .before .before .before .before .before .before .before .before .before .before .before .before .before .before .before .before .before .before .before .before .numbers-between .ensures) at (c .before .before .before .before .before .before .before .before .before .before .before .before .before .before .before .before .before .put-values .ensures)) in
-    let l₄ = fewer-left l₃ (c .before .before .before .before .before .before .before .before .before .before .before .before .before .put-group .ensures) in
+    let l₁ = fewer-left l₀ (at-put-since .put-since .ensures) in
+    let l₂ = fewer-left l₁ (at-put-counted .put-counted .ensures) in
+    let l₃ = fewer-left l₂ (rw (at-numbers-between .numbers-between .ensures) at (at-put-values .put-values .ensures)) in
+    let l₄ = fewer-left l₃ (at-put-group .put-group .ensures) in
     last-left l₄ (c .before .before .put-points .ensures)
 
 pub put-vehicle-spec : {M : Type 1} → statement M

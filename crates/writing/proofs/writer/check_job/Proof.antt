@@ -6,20 +6,30 @@ use Rattle.writing.proofs.Checked.{job-told, told-opened, job-seconds}
 use Rattle.writing.proofs.writer.check_job.Statement.{statement}
 use Rattle.writing.proofs.writer.check_job.Tie as tie
 
+abbrev enum-told→start : tie.After-enum-told → tie.Start
+enum-told→start c = c .before .before .before .before .before
+
+abbrev numbers-of→start : tie.After-numbers-of → tie.Start
+numbers-of→start c = c .before .before .before .before .before .before
+
 -- 14, 1, 2 and 3 have passed
-opened-at : (p : tie.After-enum-told) → let s = p .before .before .before .before .before in Opened (s .args .t2) (s .args .speeds .now) (s .args .holds .now) (s .args .holds .now)
-opened-at p = let s = p .before .before .before .before .before in told-opened (s .args .version) (s .args .t2) (s .args .speeds .now) (s .args .holds .now) (p .before .before .check-told .ensures _ _ refl refl) (p .enum-told .given .1)
+opened-at : (p : tie.After-enum-told) → let s = (enum-told→start p) in Opened (s .args .t2) (s .args .speeds .now) (s .args .holds .now) (s .args .holds .now)
+opened-at p =
+    let s : tie.Start = search in
+    told-opened (s .args .version) (s .args .t2) (s .args .speeds .now) (s .args .holds .now) (p .before .before .check-told .ensures _ _ refl refl) (p .enum-told .given .1)
 
 -- the numbers are the vehicle's
-counts-at : (c : tie.After-numbers-of) → Counts (c .before .before .before .before .before .before .args .t2) (c .numbers-of .result)
+counts-at : (c : tie.After-numbers-of) → Counts ((numbers-of→start c) .args .t2) (c .numbers-of .result)
 counts-at c = record { numbers = sym (c .numbers-of .ensures) }
 
 returns : tie.Need-returns
-returns c = let s = c .before .before .before .before .before in job-told (s .args .version) (s .args .t2) (s .args .speeds .now) (s .args .holds .now) (c .before .before .check-told .ensures _ _ refl refl) (c .enum-told2 .given .1)
+returns c =
+    let s : tie.Start = search in
+    job-told (s .args .version) (s .args .t2) (s .args .speeds .now) (s .args .holds .now) (c .before .before .check-told .ensures _ _ refl refl) (c .enum-told2 .given .1)
 
 returns-2 : tie.Need-returns-2
 returns-2 c =
-    let p = c .before .before .before .before in
+    let p : tie.After-enum-told = search in
     let s = p .before .before .before .before .before in
     job-seconds (s .args .version) (s .args .t2) (s .args .speeds .now) (s .args .holds .now) (p .before .before .check-told .ensures _ _ refl refl) (p .enum-told .given .1) 0 0 _
     (c .check-seconds .ensures _ (record { counts = counts-at (c .before .before .before); ratios = refl }))

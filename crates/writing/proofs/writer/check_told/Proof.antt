@@ -9,15 +9,18 @@ use Rattle.writing.proofs.writer.check_told.Statement.{statement}
 use Rattle.writing.proofs.writer.check_told.Tie as tie
 
 returns-3 : tie.Need-returns-3
-returns-3 c = λ vs hs a b.
-    let s = c .before .before .before .before .before in
+returns-3 c =
+    let s : tie.Start = search in
+    λ vs hs a b.
     told-lengths (s .args .version) (s .args .t2) vs hs (in-range 1 3 _ (omega arith) (omega arith)) (c .before .before .check-lengths .ensures vs hs hs a b b) (c .enum-told2 .given .1)
 
 returns-4 : tie.Need-returns-4
-returns-4 c = λ vs hs a b.
-    let p = c .before .before .before .before .before .before .before in
+returns-4 c =
+    let at-numbers-of : tie.After-numbers-of = search in
+    let p : tie.After-enum-told = search in
+    λ vs hs a b.
     let s = p .before .before .before .before .before .args in
-    let K : Counts (s .t2) (c .before .before .before .before .before .before .numbers-of .result) = record { numbers = sym (c .before .before .before .before .before .before .numbers-of .ensures) } in
+    let K : Counts (s .t2) (at-numbers-of .numbers-of .result) = record { numbers = sym (at-numbers-of .numbers-of .ensures) } in
     told-vehicle (s .version) (s .t2) vs hs (in-range 1 3 _ (omega arith) (omega arith)) (p .before .before .check-lengths .ensures vs hs hs a b b) (p .enum-told .given .1)
     (c .check-vehicle .ensures ∙ ap (λ (one : Vehicle). refuse-at 3 (first-failed 1 (bounds (s .version) one))) (whole-of K))
 

@@ -16,14 +16,14 @@ hold-sizes-requires c κs =
 job-size-requires : tie.Need-job-size-requires
 unfolding longest
 job-size-requires c κs =
-    let s = c .before .before .before .before in
+    let s : tie.Start = search in
     let hs = s .args .holds .now in
     let w = writable (s .args .version) (s .args .vehicle) (s .args .speeds .now) hs (s .pre) in
     (w .bounds, omega (arith, w .not-long), omega (arith, w .not-long, w .even, c .hold-sizes .ensures .1, pairs-short (gather 0 hs), gather-few 0 hs))
 
 returns : tie.Need-returns
 returns c =
-    let s = c .before .before .before .before .before .before in
+    let s : tie.Start = search in
     let vs = s .args .speeds .now in
     let hs = s .args .holds .now in
     let e = rw (c .before .before .hold-sizes .ensures .0, c .before .before .hold-sizes .ensures .1) at (c .before .job-size .ensures) in
@@ -32,7 +32,7 @@ returns c =
 
 put-job-requires : tie.Need-put-job-requires
 put-job-requires c κs =
-    let s = c .before .before .before .before .before .before .before in
+    let s : tie.Start = search in
     let vs = s .args .speeds .now in
     let hs = s .args .holds .now in
     let e = rw (c .before .before .before .hold-sizes .ensures .0, c .before .before .before .hold-sizes .ensures .1) at (c .before .before .job-size .ensures) in
@@ -41,10 +41,12 @@ put-job-requires c κs =
 
 returns-2 : tie.Need-returns-2
 returns-2 c =
-    let s = c .before .before .before .before .before .before .before .before .before .before in
+    let at-job-size : tie.After-job-size = search in
+    let at-hold-sizes : tie.After-hold-sizes = search in
+    let s : tie.Start = search in
     let vs = s .args .speeds .now in
     let hs = s .args .holds .now in
-    let e = rw (c .before .before .before .before .before .before .hold-sizes .ensures .0, c .before .before .before .before .before .before .hold-sizes .ensures .1) at (c .before .before .before .before .before .job-size .ensures) in
+    let e = rw (at-hold-sizes .hold-sizes .ensures .0, at-hold-sizes .hold-sizes .ensures .1) at (at-job-size .job-size .ensures) in
     let m = job-length (s .args .version) (s .args .vehicle) vs hs (within-hi 1 3 _ (writable (s .args .version) (s .args .vehicle) vs hs (s .pre) .known)) in
     bytes-as (job-bytes (s .args .version) (s .args .vehicle) vs hs) (s .args .room .now) (c .before .before .put-job .ensures)
 

@@ -6,13 +6,14 @@ use Rattle.writing.proofs.writer.write_if.Tie as tie
 
 returns : tie.Need-returns
 returns c =
-    let s = c .before .before .before .before .before in
+    let s : tie.Start = search in
     refused-as (s .args .version) (s .args .vehicle) (s .args .speeds .now) (s .args .holds .now) (s .args .room .now) (s .pre) (c .enum-told2 .given .1)
 
 returns-2 : tie.Need-returns-2
 returns-2 c =
-    let s = c .before .before .before .before .before .before .before .before .before in
-    write-as (s .args .version) (s .args .vehicle) (s .args .speeds .now) (s .args .holds .now) (s .args .room .now) (none-refused (s .pre) (c .before .before .before .before .enum-told .given .1)) (c .before .before .write-checked .ensures)
+    let at-enum-told : tie.After-enum-told = search in
+    let s : tie.Start = search in
+    write-as (s .args .version) (s .args .vehicle) (s .args .speeds .now) (s .args .holds .now) (s .args .room .now) (none-refused (s .pre) (at-enum-told .enum-told .given .1)) (c .before .before .write-checked .ensures)
 
 pub write-if-spec : {M : Type 1} → statement M
-write-if-spec = let answers = tie.spec (λ c. search needs) (λ c. search needs) returns (λ c κs. none-refused (c .before .before .before .before .before .before .pre) (c .before .enum-told .given .1)) (λ c. search needs) returns-2 in tie.close answers
+write-if-spec = let answers = tie.spec (λ c. search needs) (λ c. search needs) returns (λ c κs. let start : tie.Start = search in none-refused (start .pre) (c .before .enum-told .given .1)) (λ c. search needs) returns-2 in tie.close answers
