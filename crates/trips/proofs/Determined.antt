@@ -3,68 +3,34 @@ use Rattle.rules.proofs.Offered.{ℕ, refl, sym, ap, _∙_, List, [], now}
 use Rattle.gears.proofs.Parts.{built-has}
 use Rattle.rules.specs.Determined.{Determined}
 use Rattle.trips.proofs.Closing.{run-once}
-use Rattle.trips.proofs.byte.byte_at.Kinds as byte-at-kinds
-use Rattle.trips.proofs.byte.byte_at.Reads as byte-at-reads
-use Rattle.trips.proofs.byte.bottom.Kinds as bottom-kinds
-use Rattle.trips.proofs.byte.bottom.Reads as bottom-reads
+use Rattle.trips.proofs.byte.bytes.Kinds as bytes-kinds
+use Rattle.trips.proofs.byte.bytes.Reads as bytes-reads
 use Rattle.trips.proofs.byte.turning.Kinds as turning-kinds
 use Rattle.trips.proofs.byte.turning.Reads as turning-reads
-use Rattle.trips.proofs.held.all_held.Kinds as all-held-kinds
-use Rattle.trips.proofs.held.all_held.Reads as all-held-reads
-use Rattle.trips.proofs.held.held_bytes.Kinds as held-bytes-kinds
-use Rattle.trips.proofs.held.held_bytes.Reads as held-bytes-reads
-use Rattle.trips.proofs.peak.peak_at.Kinds as peak-at-kinds
-use Rattle.trips.proofs.peak.peak_at.Reads as peak-at-reads
 use Rattle.trips.proofs.peak.pass_a.Kinds as pass-a-kinds
 use Rattle.trips.proofs.peak.pass_a.Reads as pass-a-reads
 use Rattle.trips.proofs.rising.pass_b.Kinds as pass-b-kinds
 use Rattle.trips.proofs.rising.pass_b.Reads as pass-b-reads
-use Rattle.trips.proofs.rising.rising_at.Kinds as rising-at-kinds
-use Rattle.trips.proofs.rising.rising_at.Reads as rising-at-reads
-use Rattle.trips.proofs.settle.settle.Kinds as settle-kinds
-use Rattle.trips.proofs.settle.settle.Reads as settle-reads
 use Rattle.trips.proofs.slowing.closing_from.Kinds as closing-from-kinds
 use Rattle.trips.proofs.slowing.closing_from.Reads as closing-from-reads
 use Rattle.trips.proofs.slowing.pass_c.Kinds as pass-c-kinds
 use Rattle.trips.proofs.slowing.pass_c.Reads as pass-c-reads
-use Rattle.trips.proofs.slowing.slowing_at.Kinds as slowing-at-kinds
-use Rattle.trips.proofs.slowing.slowing_at.Reads as slowing-at-reads
 use Rattle.trips.proofs.work.first_choices.Kinds as first-choices-kinds
 use Rattle.trips.proofs.work.first_choices.Reads as first-choices-reads
 use Rattle.trips.proofs.work.work_trip.Kinds as work-trip-kinds
 use Rattle.trips.proofs.work.work_trip.Reads as work-trip-reads
 
--- the byte of one second
-pub byte-at : Determined byte-at-kinds.ps byte-at-kinds.r byte-at-reads.Asked byte-at-reads.Learnt
-byte-at κs a asked z z′ ws ws′ p q = let H = built-has (a .0) (now (a .1 .0)) in (p _ H ∙ sym (q _ H), refl)
-
 -- the engine speed of any gear
 pub turning : Determined turning-kinds.ps turning-kinds.r turning-reads.Asked turning-reads.Learnt
 turning κs a asked z z′ ws ws′ p q = (p ∙ sym q, refl)
 
--- the engine speed of idle
-pub bottom : Determined bottom-kinds.ps bottom-kinds.r bottom-reads.Asked bottom-reads.Learnt
-bottom κs a asked z z′ ws ws′ p q = (p ∙ sym q, refl)
-
--- whether every second is held
-pub all-held : Determined all-held-kinds.ps all-held-kinds.r all-held-reads.Asked all-held-reads.Learnt
-all-held κs a asked z z′ ws ws′ p q = (p ∙ sym q, refl)
-
--- the bytes of the holds
-pub held-bytes : Determined held-bytes-kinds.ps held-bytes-kinds.r held-bytes-reads.Asked held-bytes-reads.Learnt
-held-bytes κs a asked z z′ ws ws′ p q = let H = built-has (a .0) (now (a .1 .0)) in (refl, ap (λ (x : List ℕ). (tt, (tt, (tt, (tt, (x, tt)))))) (p _ H ∙ sym (q _ H)))
-
--- pass A at one second
-pub peak-at : Determined peak-at-kinds.ps peak-at-kinds.r peak-at-reads.Asked peak-at-reads.Learnt
-peak-at κs a asked z z′ ws ws′ p q = let H = built-has (a .0) (now (a .1 .0)) in (p _ H ∙ sym (q _ H), refl)
+-- the bytes of a trip's gears
+pub bytes : Determined bytes-kinds.ps bytes-kinds.r bytes-reads.Asked bytes-reads.Learnt
+bytes κs a asked z z′ ws ws′ p q = let H = built-has (a .0) (now (a .1 .0)) in (refl, ap (λ (x : List ℕ). (tt, (tt, (tt, (x, tt))))) (p _ H ∙ sym (q _ H)))
 
 -- pass A
 pub pass-a : Determined pass-a-kinds.ps pass-a-kinds.r pass-a-reads.Asked pass-a-reads.Learnt
 pass-a κs a asked z z′ ws ws′ p q = let H = built-has (a .0) (now (a .1 .0)) in (refl, ap (λ (x : List ℕ). (tt, (tt, (tt, (tt, (x, tt)))))) (p _ H ∙ sym (q _ H)))
-
--- pass B at one second
-pub rising-at : Determined rising-at-kinds.ps rising-at-kinds.r rising-at-reads.Asked rising-at-reads.Learnt
-rising-at κs a asked z z′ ws ws′ p q = let H = built-has (a .0) (now (a .1 .0)) in (p _ H ∙ sym (q _ H), refl)
 
 -- pass B
 pub pass-b : Determined pass-b-kinds.ps pass-b-kinds.r pass-b-reads.Asked pass-b-reads.Learnt
@@ -74,10 +40,6 @@ pass-b κs a asked z z′ ws ws′ p q = let H = built-has (a .0) (now (a .1 .0)
 pub closing-from : Determined closing-from-kinds.ps closing-from-kinds.r closing-from-reads.Asked closing-from-reads.Learnt
 closing-from κs a asked z z′ ws ws′ p q = (run-once (now (a .0)) z z′ p q, refl)
 
--- pass C at one second
-pub slowing-at : Determined slowing-at-kinds.ps slowing-at-kinds.r slowing-at-reads.Asked slowing-at-reads.Learnt
-slowing-at κs a asked z z′ ws ws′ p q = (p ∙ sym q, refl)
-
 -- pass C, which does not look at the speeds: those that are asked for will do, and some vehicle of these numbers
 pub pass-c : Determined pass-c-kinds.ps pass-c-kinds.r pass-c-reads.Asked pass-c-reads.Learnt
 pass-c κs a asked z z′ ws ws′ p q =
@@ -85,10 +47,6 @@ pass-c κs a asked z z′ ws ws′ p q =
     let s = asked .1 .speeds in
     let r = asked .1 .run in
     (refl, ap (λ (x : List ℕ). (tt, (tt, (tt, (x, tt))))) (p _ _ (H .counts) s r ∙ sym (q _ _ (H .counts) s r)))
-
--- the three passes and the bytes
-pub settle : Determined settle-kinds.ps settle-kinds.r settle-reads.Asked settle-reads.Learnt
-settle κs a asked z z′ ws ws′ p q = let H = built-has (a .0) (now (a .1 .0)) in (refl, ap (λ (x : List ℕ). (tt, (tt, (tt, (tt, (tt, (x, tt))))))) (p _ H ∙ sym (q _ H)))
 
 -- the first choices of a trip
 pub first-choices : Determined first-choices-kinds.ps first-choices-kinds.r first-choices-reads.Asked first-choices-reads.Learnt

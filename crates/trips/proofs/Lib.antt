@@ -2,10 +2,8 @@
 pub mod Along
 pub mod Trip
 pub mod Determined
-pub mod Settling
 pub mod Seconds
 pub mod Passes
 pub mod Closing
-pub mod Creeping
 pub mod Clutch
 pub mod Bytes

@@ -1,7 +1,7 @@
 -- What passes A, B and C make of one second: an answer for each way through the code.
 use Rattle.rules.proofs.Offered.{ℕ, suc, _+_, _-_, _≤_, _<_, max, min, arith, _≡_, refl, sym, Bool, true, false, List, leb, ltb, eqb, length, drop, le-leb, lt-leb, le-ltb, lt-ltb, eq-eqb, ne-eqb, _and_, _or_, at, low, floor, closing, ceiling, free, is-peak, peak, too-high, rising, too-low, slowing, by-order, if-ind, both, and-no}
 use Rattle.rules.specs.declared.Vehicle.{Vehicle}
-use Rattle.trips.specs.Second.{ceiling-of, is-peaked, peaked, is-risen, risen, slowed}
+use Rattle.trips.specs.Second.{is-peaked, peaked, is-risen, risen, slowed}
 use Rattle.trips.specs.Trip.{one-above}
 
 -- ---- tests
@@ -56,16 +56,11 @@ above-no p g q h = no-and _ _ (ne-eqb g (max p q + 1) (λ z. omega arith))
 
 -- ---- the ceiling
 
--- it is the gear before, or one more
-ceiling-from : (last : ℕ) (level : Bool) → last ≤ ceiling-of last level
-unfolding ceiling-of
-ceiling-from last level = if-ind (λ c. last ≤ c) level (λ t. omega arith) (λ t. omega arith)
-
 module _ (j : ℕ) (gs : List ℕ) where
-  -- from the gears before
-  pub ceiling-is : ceiling j gs ≡ ceiling-of (at gs (j - 1)) (leb 2 j and eqb (at gs (j - 1)) (at gs (j - 2)))
-  unfolding ceiling ceiling-of
-  ceiling-is = refl
+  -- it is the gear before, or one more
+  ceiling-from : at gs (j - 1) ≤ ceiling j gs
+  unfolding ceiling
+  ceiling-from = if-ind (λ c. at gs (j - 1) ≤ c) (leb 2 j and eqb (at gs (j - 1)) (at gs (j - 2))) (λ t. omega arith) (λ t. omega arith)
 
   -- one second before
   pub ceiling-second : j < 2 → at gs (j - 1) ≡ ceiling j gs
@@ -176,33 +171,33 @@ module _ (car : Vehicle) (us hs : List ℕ) (j : ℕ) where
     risen-cut f l e = rw (both (both f (lt-ltb (at us (j - 1)) (at us j) l)) (lt-ltb c g e))
 
   -- nor is it, if it is not above the gear before
-  pub risen-level : (last : ℕ) (level : Bool) (g : ℕ) → g ≤ last → g ≡ risen car us hs j (ceiling-of last level) g
-  risen-level last level g h = risen-low (ceiling-of last level) g (omega (arith, ceiling-from last level))
+  pub risen-level : (gs : List ℕ) (g : ℕ) → g ≤ at gs (j - 1) → g ≡ risen car us hs j (ceiling j gs) g
+  risen-level gs g h = risen-low (ceiling j gs) g (omega (arith, ceiling-from j gs))
 
   -- ---- pass C
 
-  -- past the trip's first second it looks at the hold, at the closing run and at the gear
-  pub slowing-is : (gs : List ℕ) → 1 ≤ j → slowing car us hs j gs ≡ slowed (at hs j) (closing (drop j us)) (low car) (at gs j)
+  -- before the closing run the gear stays
+  pub slowing-open : (gs : List ℕ) → closing (drop j us) ≡ false → slowing car us hs j gs ≡ at gs j
+  unfolding slowing too-low
+  slowing-open gs e = rw (no-and _ (eqb (at gs j) (low car)) (and-no (free car us hs j) _ e))
+
+  -- in it, past the trip's first second, it looks at the hold and at the gear
+  pub slowing-is : (gs : List ℕ) → 1 ≤ j → closing (drop j us) ≡ true → slowing car us hs j gs ≡ slowed (at hs j) (low car) (at gs j)
   unfolding slowing too-low free slowed _and_
-  slowing-is gs l = rw (lt-ltb 0 j l, and-yes (eqb (at hs j) 0))
+  slowing-is gs l e = rw (lt-ltb 0 j l, e, and-yes (eqb (at hs j) 0), and-yes (eqb (at hs j) 0))
 
-module _ (hold : ℕ) (closes : Bool) (low g : ℕ) where
-  -- not in the closing run
-  pub slowed-open : closes ≡ false → g ≡ slowed hold closes low g
-  unfolding slowed
-  slowed-open e = rw (no-and _ (eqb g low) (and-no (eqb hold 0) closes e))
-
+module _ (hold low g : ℕ) where
   -- another gear than the lowest
-  pub slowed-other : (g ≡ low → ⊥) → g ≡ slowed hold closes low g
+  pub slowed-other : (g ≡ low → ⊥) → g ≡ slowed hold low g
   unfolding slowed
-  slowed-other e = rw (and-no (eqb hold 0 and closes) _ (ne-eqb g low e))
+  slowed-other e = rw (and-no (eqb hold 0) _ (ne-eqb g low e))
 
   -- held
-  pub slowed-still : (hold ≡ 0 → ⊥) → g ≡ slowed hold closes low g
+  pub slowed-still : (hold ≡ 0 → ⊥) → g ≡ slowed hold low g
   unfolding slowed
-  slowed-still e = rw (no-and _ (eqb g low) (no-and _ closes (ne-eqb hold 0 e)))
+  slowed-still e = rw (no-and _ (eqb g low) (ne-eqb hold 0 e))
 
-  -- the lowest gear in the closing run
-  pub slowed-up : hold ≡ 0 → closes ≡ true → g ≡ low → low + 1 ≡ slowed hold closes low g
+  -- the lowest gear
+  pub slowed-up : hold ≡ 0 → g ≡ low → low + 1 ≡ slowed hold low g
   unfolding slowed
-  slowed-up h c e = rw (both (both (eq-eqb hold 0 h) c) (eq-eqb g low e))
+  slowed-up h e = rw (both (eq-eqb hold 0 h) (eq-eqb g low e))

@@ -1,5 +1,5 @@
 -- What the calls of one trip's work come to, one after the other.
-use Rattle.rules.proofs.Offered.{ℕ, suc, _+_, _-_, _*_, _≤_, _<_, arith, _≡_, sym, _∙_, Bool, true, false, List, leb, ltb, eqb, ℤ, length, drop, ltb-true, eq-eqb, ne-eqb, InBounds, if_then_else_, _and_, at, every, pass, table, rise, closing, role-of, here, first-choice, firsts, after-A, after-B, gears, byte, by-order, table-ext, every-at, held-gear}
+use Rattle.rules.proofs.Offered.{ℕ, suc, _+_, _-_, _*_, _≤_, _<_, arith, _≡_, sym, ap, _∙_, Bool, true, false, List, leb, eqb, ℤ, length, drop, eq-eqb, ne-eqb, InBounds, if_then_else_, _and_, at, pass, table, rise, closing, role-of, here, first-choice, peak, rising, slowing, firsts, after-A, after-B, gears, byte, by-order}
 use Rattle.rules.specs.declared.Vehicle.{Vehicle}
 use Rattle.rules.specs.declared.Role.the-variants.{First}
 use Rattle.trips.proofs.Passes.{pass-same, firsts-fresh}
@@ -7,11 +7,10 @@ use Rattle.gears.specs.declared.Numbers.{Numbers}
 use Rattle.gears.specs.Parts.{low-in, Has, Parts}
 use Rattle.gears.specs.Second.{Driven}
 use Rattle.gears.proofs.Parts.{low-of, ng-of, points-of}
-use Rattle.gears.specs.Choosing.{Higher, Hints, only-lowest, first-of, first-parts}
+use Rattle.gears.specs.Choosing.{Hints, only-lowest, first-of, first-parts}
 use Rattle.gears.proofs.Speeds.{fits-over, fits-one}
 use Rattle.gears.proofs.Choices.{choice-first}
 use Rattle.trips.specs.Ready.{Geared, Ready}
-use Rattle.trips.specs.Second.{to-A, to-B, to-C, settled}
 use Rattle.trips.specs.Trip.{AllMoving, RunFrom, AllGeared, on-way, trip-bytes}
 
 -- the first choice of a trip's first second with no hold: the lowest gear where it turns at most at nmax, otherwise none
@@ -60,27 +59,20 @@ module _ (car : Vehicle) (us hs : List ℕ) where
   unfolding on-way
   way-step begins run last before j gs a b e = e ∙ rw (a, b)
 
-  -- what the passes make of the first choices are the trip's gears
-  pub gears-is : {f : List ℕ} → f ≡ firsts car us hs → to-C car us hs f ≡ gears car us hs
-  unfolding gears after-B after-A to-A to-B to-C
-  gears-is e = rw e
+  -- what the passes make of them are the trip's gears
+  pub gears-is : {f a b g : List ℕ} → f ≡ firsts car us hs → a ≡ pass (peak car us hs) (length hs) f → b ≡ pass (rising car us hs) (length hs) a
+      → g ≡ pass (slowing car us hs) (length hs) b → g ≡ gears car us hs
+  unfolding gears after-B after-A
+  gears-is e pa pb pc = rw (pc, pb, pa, e)
+
+  -- which the ratios have places for
+  pub gears-there : {g : List ℕ} → g ≡ gears car us hs → length us ≡ suc (length hs) → length g ≡ length hs → AllGeared car us hs → Geared us g
+  gears-there e s n G = record { speeds = s ∙ ap suc (sym n); gear = λ j l. rw e (G .gear j (omega (arith, n))) }
 
   -- then the bytes
-  pub bytes-is : {f t : List ℕ} → f ≡ firsts car us hs → t ≡ settled car us hs f → t ≡ trip-bytes car us hs
-  unfolding trip-bytes settled
-  bytes-is e q = q ∙ rw (gears-is e)
-
-  -- where every second is held, they are those of the holds
-  module _ (all : every (λ j. ltb 0 (at hs j)) 0 (length hs) ≡ true) where
-    all-gears : (j : ℕ) → j < length hs → at (gears car us hs) j ≡ at hs j
-    all-gears j l = held-gear car us hs j l (λ z. let h = ltb-true 0 (at hs j) (every-at (λ i. ltb 0 (at hs i)) (length hs) 0 all j (omega arith) (omega arith)) in omega (arith, h, z))
-
-    pub held-there : length us ≡ suc (length hs) → AllGeared car us hs → Geared us hs
-    held-there s G = record { speeds = s; gear = λ j l. rw (all-gears j l) at (G .gear j l) }
-
-    pub held-is : {t : List ℕ} → t ≡ table (λ j. byte car us j (at hs j)) 0 (length hs) → t ≡ trip-bytes car us hs
-    unfolding trip-bytes
-    held-is q = q ∙ table-ext _ _ 0 (length hs) (λ j a l. rw (all-gears j (omega arith)))
+  pub bytes-is : {g t : List ℕ} → g ≡ gears car us hs → length g ≡ length hs → t ≡ table (λ j. byte car us j (at g j)) 0 (length g) → t ≡ trip-bytes car us hs
+  unfolding trip-bytes
+  bytes-is e n q = q ∙ rw (n, e)
 
 -- the gears are no more than the ratios have places, and the lowest is one of them
 pub gears-few : {k : Numbers} {ratio n p : List ℕ} → Parts k ratio n p → Driven k
@@ -88,10 +80,6 @@ gears-few P = record {
   ng-to = omega (arith, ng-of (P .lent .has .counts), P .lent .bounds .ng-to);
   low-to = omega (arith, ng-of (P .lent .has .counts), low-of (P .lent .has .counts), P .lent .bounds .low-ng);
 }
-
--- and there is one above it
-pub gears-two : {k : Numbers} {ratio n p : List ℕ} → Parts k ratio n p → Higher k (low-in k + 1)
-gears-two P = let C = P .lent .has .counts in record { from = omega arith; to = omega (arith, ng-of C, low-of C, P .lent .bounds .low-ng) }
 
 -- a search may start from the gear above the lowest and the curve's first segment
 pub any-hints : {k : Numbers} {ratio n p : List ℕ} → Parts k ratio n p → Hints k (low-in k + 1) 0

@@ -1,9 +1,10 @@
 // The card's bytes of one trip.
-ghost use Rattle.rules.specs.Words.{_≡_, _+_, _-_, _*_, _<_, length, at};
+ghost use Rattle.rules.specs.Words.{_≡_, _+_, _-_, _*_, _<_, length, at, table};
 ghost use Rattle.rules.specs.Corrections.{byte};
 ghost use Rattle.rules.specs.declared.Vehicle.{Vehicle};
 ghost use Rattle.gears.specs.Parts.{Has};
 ghost use Rattle.gears.specs.Second.{Gear};
+ghost use Rattle.trips.specs.Ready.{Geared};
 use gears::Numbers;
 use gears::engine;
 
@@ -29,14 +30,14 @@ pub fn turning(ratio: &[u16], g: u8, v: u16) -> u64
 }
 
 // The engine speed X of idle.
-pub fn bottom(k: Numbers) -> u64
+fn bottom(k: Numbers) -> u64
     ensures { λ r. ⌜ r ≡ 1000 * k .idle ⌝ }
 {
     1000 * (k.idle as u64)
 }
 
 // The byte of second j, whose gear is g: plus 16 with the clutch down.
-pub fn byte_at(k: Numbers, ratio: &[u16; 10], us: &[u16], j: usize, g: u8) -> u8
+fn byte_at(k: Numbers, ratio: &[u16; 10], us: &[u16], j: usize, g: u8) -> u8
     requires { ⌜ (j + 1 < length (now us)) × Gear g ⌝ }
     ensures { λ r. ⌜ ((car : Vehicle) → Has car k (now (ratio .entry)) → r ≡ byte car (now (us .entry)) j g) ⌝ }
 {
@@ -49,4 +50,17 @@ pub fn byte_at(k: Numbers, ratio: &[u16; 10], us: &[u16], j: usize, g: u8) -> u8
         return g;
     }
     g + 16
+}
+
+// The gears of a trip become its bytes.
+pub fn bytes(k: Numbers, ratio: &[u16; 10], us: &[u16], gs: &mut [u8])
+    requires { ⌜ Geared (now us) (now gs) ⌝ }
+    ensures { λ r. ⌜ ((car : Vehicle) → Has car k (now (ratio .entry)) → now (gs .exit) ≡ table (λ j. byte car (now (us .entry)) j (at (now (gs .entry)) j)) 0 (length (now (gs .entry)))) ⌝ }
+{
+    let mut j = 0;
+    while j < gs.len() {
+        let g = gs[j];
+        gs[j] = byte_at(k, ratio, us, j, g);
+        j += 1;
+    }
 }

@@ -1,9 +1,7 @@
 // The work on one trip, from its own speeds with the one that follows, its holds, and its part of the card, in place.
 mod byte;
-mod held;
 mod peak;
 mod rising;
-mod settle;
 mod slowing;
 mod work;
 

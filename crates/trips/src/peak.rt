@@ -34,7 +34,7 @@ fn one_above(p: u8, g: u8, q: u8) -> bool
 
 // What pass A makes of second j, whose gear is g, after gear last, as corrected. The slice holds the gear after it, not yet corrected. Most gears are no higher
 // than the one before, and stay.
-pub fn peak_at(
+fn peak_at(
     k: Numbers,
     ratio: &[u16; 10],
     us: &[u16],

@@ -5,26 +5,19 @@ ghost use Rattle.rules.specs.declared.Vehicle.{Vehicle};
 ghost use Rattle.gears.specs.Parts.{Has};
 ghost use Rattle.gears.specs.Second.{Driven};
 ghost use Rattle.trips.specs.Ready.{Aligned, Later, TripSecond};
-ghost use Rattle.trips.specs.Second.{ceiling-of, risen};
+ghost use Rattle.trips.specs.Second.{risen};
 use gears::Numbers;
 use gears::floor;
 
-// Whether the two seconds before second j lie in the trip with equal gears, the one before with gear last.
-fn level_at(gs: &[u8], j: usize, last: u8) -> bool
+// The ceiling of second j after gear last, as corrected: one more where the two seconds before lie in the trip with equal gears.
+fn ceiling_at(gs: &[u8], j: usize, last: u8) -> usize
     requires { ⌜ Later (now gs) j last × (j < length (now gs)) ⌝ }
-    ensures { λ r. ⌜ ceiling-of last r ≡ ceiling j (now (gs .entry)) ⌝ }
+    ensures { λ r. ⌜ r ≡ ceiling j (now (gs .entry)) ⌝ }
 {
     if j < 2 {
-        return false;
+        return last as usize;
     }
-    last == gs[j - 2]
-}
-
-// The ceiling after gear last, and whether the second before that has it too.
-fn ceiling_of(last: u8, level: bool) -> usize
-    ensures { λ r. ⌜ r ≡ ceiling-of last level ⌝ }
-{
-    if level {
+    if last == gs[j - 2] {
         return last as usize + 1;
     }
     last as usize
@@ -32,18 +25,18 @@ fn ceiling_of(last: u8, level: bool) -> usize
 
 // What pass B makes of second j, whose gear is g, after gear last, as corrected. Most gears are no higher than the one before, so no higher than the ceiling,
 // and stay.
-pub fn rising_at(
+fn rising_at(
     k: Numbers,
     ratio: &[u16; 10],
     us: &[u16],
     hs: &[u8],
+    gs: &[u8],
     j: usize,
     g: u8,
     last: u8,
-    level: bool,
 ) -> u8
-    requires { ⌜ Driven k × TripSecond (now us) (now hs) j × (1 ≤ j) ⌝ }
-    ensures { λ r. ⌜ ((car : Vehicle) → Has car k (now (ratio .entry)) → r ≡ risen car (now (us .entry)) (now (hs .entry)) j (ceiling-of last level) g) ⌝ }
+    requires { ⌜ Driven k × TripSecond (now us) (now hs) j × Later (now gs) j last × (1 ≤ j) × (j < length (now gs)) ⌝ }
+    ensures { λ r. ⌜ ((car : Vehicle) → Has car k (now (ratio .entry)) → r ≡ risen car (now (us .entry)) (now (hs .entry)) j (ceiling j (now (gs .entry))) g) ⌝ }
 {
     if g <= last {
         return g;
@@ -55,7 +48,7 @@ pub fn rising_at(
     if v <= us[j - 1] {
         return g;
     }
-    let ceiling = ceiling_of(last, level);
+    let ceiling = ceiling_at(gs, j, last);
     if g as usize <= ceiling {
         return g;
     }
@@ -78,8 +71,7 @@ pub fn pass_b(k: Numbers, ratio: &[u16; 10], us: &[u16], hs: &[u8], gs: &mut [u8
     let mut last = gs[0];
     while j < gs.len() {
         let g = gs[j];
-        let level = level_at(gs, j, last);
-        last = rising_at(k, ratio, us, hs, j, g, last, level);
+        last = rising_at(k, ratio, us, hs, gs, j, g, last);
         gs[j] = last;
         j += 1;
     }

@@ -1,5 +1,5 @@
 // Pass C: the closing run.
-ghost use Rattle.rules.specs.Words.{_≡_, List, ℕ, suc, _≤_, _<_, leb, length, at, pass};
+ghost use Rattle.rules.specs.Words.{_≡_, List, ℕ, suc, _≤_, length, pass};
 ghost use Rattle.rules.specs.declared.Vehicle.{Vehicle};
 ghost use Rattle.rules.specs.Corrections.{slowing};
 use gears::Numbers;
@@ -29,18 +29,15 @@ pub fn closing_from(us: &[u16]) -> usize
     j
 }
 
-// What pass C makes of second j, not the trip's first, whose gear is g: in the closing run the lowest gear becomes the one above it, unless it is held.
-pub fn slowing_at(low: u8, run: usize, hs: &[u8], j: usize, g: u8) -> u8
-    requires { ⌜ (low ≤ 10) × (j < length (now hs)) ⌝ }
-    ensures { λ r. ⌜ r ≡ slowed (at (now (hs .entry)) j) (leb run j) low g ⌝ }
+// What pass C makes of a second of the closing run whose gear is g: the lowest gear becomes the one above it, unless it is held.
+fn slowing_at(low: u8, hold: u8, g: u8) -> u8
+    requires { ⌜ low ≤ 10 ⌝ }
+    ensures { λ r. ⌜ r ≡ slowed hold low g ⌝ }
 {
-    if j < run {
-        return g;
-    }
     if g != low {
         return g;
     }
-    if hs[j] != 0 {
+    if hold != 0 {
         return g;
     }
     low + 1
@@ -52,10 +49,13 @@ pub fn pass_c(k: Numbers, run: usize, hs: &[u8], gs: &mut [u8])
     ensures { λ r. ⌜ ((car : Vehicle) (us : List ℕ) → Counts car k → length us ≡ suc (length (now (hs .entry))) → RunFrom us run → now (gs .exit) ≡ pass (slowing car us (now (hs .entry))) (length (now (hs .entry))) (now (gs .entry))) ⌝ }
 {
     let low = lowest(k) as u8;
-    let mut j = 1;
+    let mut j = run;
+    if run == 0 {
+        j = 1;
+    }
     while j < gs.len() {
         let g = gs[j];
-        gs[j] = slowing_at(low, run, hs, j, g);
+        gs[j] = slowing_at(low, hs[j], g);
         j += 1;
     }
 }

@@ -3,18 +3,18 @@ ghost use Rattle.rules.specs.Words.{_≡_, Bool, true, false, List, ℕ, _+_, _
 ghost use Rattle.rules.specs.Units.{rise};
 ghost use Rattle.rules.specs.Corrections.{role-of};
 ghost use Rattle.rules.specs.declared.Vehicle.{Vehicle};
-ghost use Rattle.gears.specs.Choosing.{Higher, Hints, first-of};
+ghost use Rattle.gears.specs.Choosing.{Hints, first-of};
 ghost use Rattle.rules.specs.declared.Role.the-variants.{First};
 ghost use Rattle.rules.specs.Inside.{InBounds};
-ghost use Rattle.gears.specs.Parts.{low-in, Has, Lent, Parts};
+ghost use Rattle.gears.specs.Parts.{Has, Lent, Parts};
 ghost use Rattle.gears.specs.Second.{Driven};
 ghost use Rattle.trips.specs.Ready.{Aligned, TripSecond, Paced, Ready};
 ghost use Rattle.trips.specs.Trip.{on-way, AllGeared, trip-bytes};
-use crate::byte::bottom;
-use crate::held::all_held;
-use crate::held::held_bytes;
-use crate::settle::settle;
+use crate::byte::bytes;
+use crate::peak::pass_a;
+use crate::rising::pass_b;
 use crate::slowing::closing_from;
+use crate::slowing::pass_c;
 use gears::Chosen;
 use gears::Numbers;
 use gears::choice_after;
@@ -35,59 +35,6 @@ fn choice_first(k: Numbers, ratio: &[u16; 10], v: u16, hold: u8) -> u8
         return 0;
     }
     low as u8
-}
-
-// Whether a second without a hold, after one in the lowest gear, can only have that gear: the one above would not reach idle.
-fn creeps(k: Numbers, ratio: &[u16; 10], v: u16, hold: u8) -> bool
-    requires { ⌜ Driven k × Higher k (low-in k + 1) ⌝ }
-    ensures { λ r. ⌜ (r ≡ true → (car : Vehicle) → Has car k (now (ratio .entry)) → InBounds car → (closes : Bool) (d : ℤ) → low-in k ≡ first-of car (role-of car false closes (low-in k)) v d hold) ⌝ }
-{
-    if 0 < hold {
-        return false;
-    }
-    let low = lowest(k);
-    if bottom(k) <= engine(ratio, low + 1, v) {
-        return false;
-    }
-    engine(ratio, low, v) <= top(k)
-}
-
-// The seconds after a trip's first that can only have the lowest gear, as it has, without the loop that looks for more. Says how many are done.
-fn creep(k: Numbers, ratio: &[u16; 10], us: &[u16], hs: &[u8], gs: &mut [u8]) -> usize
-    requires { ⌜ Driven k × Higher k (low-in k + 1) × Aligned (now us) (now hs) (now gs) × (1 ≤ length (now gs)) × (at (now gs) 0 ≡ low-in k) ⌝ }
-    ensures done { λ r. ⌜ (1 ≤ r) × (r ≤ length (now (gs .entry))) ⌝ }
-    ensures gears { λ r. ⌜ ((car : Vehicle) → Has car k (now (ratio .entry)) → InBounds car → (run last : ℕ) (base : List ℕ) → now (gs .entry) ≡ pass (on-way car (now (us .entry)) (now (hs .entry)) true run last) 1 base → now (gs .exit) ≡ pass (on-way car (now (us .entry)) (now (hs .entry)) true run last) r base) ⌝ }
-{
-    let low = lowest(k) as u8;
-    let mut j = 1;
-    while j < gs.len() {
-        if !creeps(k, ratio, us[j], hs[j]) {
-            return j;
-        }
-        gs[j] = low;
-        j += 1;
-    }
-    j
-}
-
-// The choice of a trip's first second, so that the loop over the others need not ask, and of those after it that creep: a short trip often has no others.
-// Says how many are done.
-fn begin(k: Numbers, ratio: &[u16; 10], us: &[u16], hs: &[u8], gs: &mut [u8]) -> usize
-    requires { ⌜ Driven k × Higher k (low-in k + 1) × Aligned (now us) (now hs) (now gs) ⌝ }
-    ensures done { λ r. ⌜ (r ≤ length (now (gs .entry))) × (1 ≤ length (now (gs .entry)) → 1 ≤ r) ⌝ }
-    ensures gears { λ r. ⌜ ((car : Vehicle) → Has car k (now (ratio .entry)) → InBounds car → (run last : ℕ) → now (gs .exit) ≡ pass (on-way car (now (us .entry)) (now (hs .entry)) true run last) r (now (gs .entry))) ⌝ }
-{
-    if 0 < gs.len() {
-        let v = us[0];
-        let hold = hs[0];
-        let first = choice_first(k, ratio, v, hold);
-        gs[0] = first;
-        if first as usize != lowest(k) {
-            return 1;
-        }
-        return creep(k, ratio, us, hs, gs);
-    }
-    0
 }
 
 // The first choice of second j of some in a row, not the trip's first, given where among them the closing run begins and the first choice before.
@@ -142,31 +89,9 @@ fn later_choices<'a>(
     }
 }
 
-// The same of a trip whose first choices are known up to second j.
-fn go_on<'a>(
-    k: Numbers,
-    ratio: &'a [u16; 10],
-    n: &'a [u16; 64],
-    p: &'a [u32; 64],
-    us: &[u16],
-    hs: &[u8],
-    run: usize,
-    j: usize,
-    gs: &mut [u8],
-)
-    requires { ⌜ Parts k (now ratio) (now n) (now p) × Paced (now us) (now hs) × Aligned (now us) (now hs) (now gs) × (j ≤ length (now gs)) × (1 ≤ length (now gs) → 1 ≤ j) ⌝ }
-    ensures { λ r. ⌜ ((car : Vehicle) → Lent car k (now (ratio .entry)) (now (n .entry)) (now (p .entry)) → (before : ℕ) (base : List ℕ) → now (gs .entry) ≡ pass (on-way car (now (us .entry)) (now (hs .entry)) true run before) j base → now (gs .exit) ≡ pass (on-way car (now (us .entry)) (now (hs .entry)) true run before) (length (now (hs .entry))) base) ⌝ }
-{
-    if gs.len() <= j {
-        return;
-    }
-    let last = gs[j - 1];
-    later_choices(k, ratio, n, p, us, hs, run, last, j, gs);
-}
-
 // First choices of some seconds in a row, from left to right, whatever the slice held before. `begins` says whether the trip begins with them, `run` where
-// among them the closing run begins, `last` is the first choice before them. The check for want of a gear goes through a trip so, part by part, and `reasons`
-// through a whole one; the working goes through its trips by `begin` and `go_on`.
+// among them the closing run begins, `last` is the first choice before them. The check for want of a gear goes through a trip so, part by part; the working
+// and `reasons` go through a whole one.
 pub fn first_choices<'a>(
     k: Numbers,
     ratio: &'a [u16; 10],
@@ -182,15 +107,19 @@ pub fn first_choices<'a>(
     requires { ⌜ Parts k (now ratio) (now n) (now p) × Paced (now us) (now hs) × Aligned (now us) (now hs) (now gs) ⌝ }
     ensures { λ r. ⌜ ((car : Vehicle) → Lent car k (now (ratio .entry)) (now (n .entry)) (now (p .entry)) → now (gs .exit) ≡ pass (on-way car (now (us .entry)) (now (hs .entry)) begins run last) (length (now (hs .entry))) (now (gs .entry))) ⌝ }
 {
+    if gs.len() < 1 {
+        return;
+    }
     if begins {
-        let j = begin(k, ratio, us, hs, gs);
-        go_on(k, ratio, n, p, us, hs, run, j, gs);
+        let first = choice_first(k, ratio, us[0], hs[0]);
+        gs[0] = first;
+        later_choices(k, ratio, n, p, us, hs, run, first, 1, gs);
         return;
     }
     later_choices(k, ratio, n, p, us, hs, run, last, 0, gs);
 }
 
-// The trip's bytes, worked out in its part of the card, which is lent on to each step. Where every second is held there is nothing to choose or to correct.
+// The trip's bytes, worked out in its part of the card, which is lent on to each step.
 pub fn work_trip<'a>(
     k: Numbers,
     ratio: &'a [u16; 10],
@@ -203,12 +132,10 @@ pub fn work_trip<'a>(
     requires { ⌜ Parts k (now ratio) (now n) (now p) × Ready k (now us) (now hs) (now gs) × ((car : Vehicle) → Lent car k (now ratio) (now n) (now p) → AllGeared car (now us) (now hs)) ⌝ }
     ensures { λ r. ⌜ ((car : Vehicle) → Lent car k (now (ratio .entry)) (now (n .entry)) (now (p .entry)) → now (gs .exit) ≡ trip-bytes car (now (us .entry)) (now (hs .entry))) ⌝ }
 {
-    if all_held(hs) {
-        held_bytes(k, ratio, us, hs, gs);
-        return;
-    }
     let run = closing_from(us);
-    let j = begin(k, ratio, us, hs, gs);
-    go_on(k, ratio, n, p, us, hs, run, j, gs);
-    settle(k, ratio, run, us, hs, gs);
+    first_choices(k, ratio, n, p, us, hs, true, run, 0, gs);
+    pass_a(k, ratio, us, hs, gs);
+    pass_b(k, ratio, us, hs, gs);
+    pass_c(k, run, hs, gs);
+    bytes(k, ratio, us, gs);
 }

@@ -24,16 +24,19 @@ loop-holds c = let a = c .before .before .before .before .before .args in along-
 
 rising-at-requires : tie.Need-rising-at-requires Inv-loop μ-loop
 rising-at-requires c κs =
-    let s = c .before .before .before .before .before .before .before .before .before .before in
-    let l = c .before .before .before .before .loop .inv in
-    (s .pre .0, record { speeds = s .pre .1 .speeds; inside = omega (arith, l .size, s .pre .1 .gears) }, l .later .from)
+    let l : tie.At-loop Inv-loop μ-loop = search in
+    let s : tie.Start Inv-loop μ-loop = search in
+    let along = l .loop .inv in
+    (s .pre .0, record { speeds = s .pre .1 .speeds; inside = omega (arith, c, along .size, s .pre .1 .gears) }, along .later, along .later .from, omega (arith, c))
 
 loop-again : tie.Need-loop-again Inv-loop μ-loop
 loop-again c =
-    let a = c .before .before .before .before .before .before .before .before .before .before .before .args in
-    let l = c .before .before .before .before .before .loop in
-    along-more (λ car. Has car (a .k) (a .ratio .now)) (λ car. rising car (a .us .now) (a .hs .now)) (l .inv) (omega arith) (c .rising-at .result) _
-    (λ car H. rw (rising-is car (a .us .now) (a .hs .now) (l .j) (l .gs), ← c .before .level-at .ensures) (c .rising-at .ensures car H)) (omega arith)
+    let at-loop : tie.At-loop Inv-loop μ-loop = search in
+    let s : tie.Start Inv-loop μ-loop = search in
+    let a = s .args in
+    let l = at-loop .loop in
+    along-more (λ car. Has car (a .k) (a .ratio .now)) (λ car. rising car (a .us .now) (a .hs .now)) (l .inv) (omega (arith, c)) (c .rising-at .result) _
+    (λ car H. rw (rising-is car (a .us .now) (a .hs .now) (l .j) (l .gs)) (c .rising-at .ensures car H)) (omega (arith, c))
 
 returns-2 : tie.Need-returns-2 Inv-loop μ-loop
 returns-2 c =
@@ -43,7 +46,6 @@ returns-2 c =
 
 pub pass-b-spec : {M : Type 1} → statement M
 pass-b-spec =
-    let answers = tie.spec Inv-loop μ-loop returns (λ c. omega arith) loop-holds (λ c. omega arith) (λ c κs. (c .before .before .before .loop .inv .later, omega arith))
-    rising-at-requires (λ c. omega arith) (λ c. omega arith) (λ c. simp length-set (omega arith)) loop-again
+    let answers = tie.spec Inv-loop μ-loop returns (λ c. omega arith) loop-holds (λ c. omega arith) rising-at-requires (λ c. omega arith) (λ c. omega arith) (λ c. simp length-set (omega arith)) loop-again
     (λ c. c .before .loop .inv .size) returns-2 in
     tie.close answers

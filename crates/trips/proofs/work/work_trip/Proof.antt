@@ -1,63 +1,80 @@
 -- `trips::work::work_trip` meets its contract: what each call leaves is what the next one finds.
-use Rattle.rules.proofs.Offered.{arith, _≡_, sym, _∙_, needs, firsts}
+use Rattle.rules.proofs.Offered.{arith, _≡_, _∙_, needs, length, gears}
 use Rattle.rules.specs.declared.Vehicle.{Vehicle}
 use Rattle.gears.specs.Parts.{Lent}
-use Rattle.trips.proofs.Trip.{way-firsts, gears-is, bytes-is, held-there, held-is, moves-on, gears-few, gears-two}
+use Rattle.trips.proofs.Trip.{way-firsts, gears-is, gears-there, bytes-is, moves-on, gears-few}
 use Rattle.trips.proofs.work.work_trip.Statement.{statement}
 use Rattle.trips.proofs.work.work_trip.Tie as tie
 
-held-bytes-requires : tie.Need-held-bytes-requires
-held-bytes-requires c κs =
-    let s = c .before .before .before .before .before .before in
-    let a = s .args in
+pass-a-requires : tie.Need-pass-a-requires
+pass-a-requires c κs =
+    let first : tie.After-gs = search in
+    let s : tie.Start = search in
+    (gears-few (s .pre .0), record { speeds = s .pre .1 .lists .speeds; gears = first .gs .given ∙ s .pre .1 .lists .gears })
+
+pass-b-requires : tie.Need-pass-b-requires
+pass-b-requires c κs =
+    let a : tie.After-gs2 = search in
+    let first : tie.After-gs = search in
+    let s : tie.Start = search in
+    (gears-few (s .pre .0), record { speeds = s .pre .1 .lists .speeds; gears = a .gs2 .given ∙ first .gs .given ∙ s .pre .1 .lists .gears })
+
+pass-c-requires : tie.Need-pass-c-requires
+pass-c-requires c κs =
+    let b : tie.After-gs3 = search in
+    let a : tie.After-gs2 = search in
+    let first : tie.After-gs = search in
+    let run : tie.After-closing-from = search in
+    let s : tie.Start = search in
+    (gears-few (s .pre .0), record { us = s .args .us .now; speeds = s .pre .1 .lists .speeds; gears = b .gs3 .given ∙ a .gs2 .given ∙ first .gs .given ∙ s .pre .1 .lists .gears; run = run .closing-from .ensures })
+
+abbrev start : tie.After-first-choices → tie.Start
+start c = c .before .before .before .before .before .before
+
+abbrev chosen : tie.After-pass-c → tie.After-first-choices
+chosen c = c .before .before .before .before .before .before .before .before .before .before .before .before
+
+-- after pass C the slice holds the trip's gears
+done : (c : tie.After-pass-c) (car : Vehicle) → let a = start (chosen c) .args in Lent car (a .k) (a .ratio .now) (a .n .now) (a .p .now)
+    → c .pass-c .last .1 .1 .1 .0 ≡ gears car (a .us .now) (a .hs .now)
+done c car L =
+    let b : tie.After-pass-b = search in
+    let a : tie.After-pass-a = search in
+    let first : tie.After-first-choices = search in
+    let run : tie.After-closing-from = search in
+    let s : tie.Start = search in
+    let us = s .args .us .now in
+    let hs = s .args .hs .now in
+    let r = run .closing-from in
+    let P = s .pre .1 .lists in
+    gears-is car us hs (way-firsts car us hs (r .result) (r .ensures) (P .speeds) (s .args .gs .now) (P .gears) (first .first-choices .ensures car L)) (a .pass-a .ensures car (L .has))
+    (b .pass-b .ensures car (L .has)) (c .pass-c .ensures car us (L .has .counts) (P .speeds) (r .ensures))
+
+-- as many as before
+size : (c : tie.After-gs4) → let a = start (chosen (c .before)) .args in length (c .before .pass-c .last .1 .1 .1 .0) ≡ length (a .hs .now)
+size c =
+    let b : tie.After-gs3 = search in
+    let a : tie.After-gs2 = search in
+    let first : tie.After-gs = search in
+    let s : tie.Start = search in
+    c .gs4 .given ∙ b .gs3 .given ∙ a .gs2 .given ∙ first .gs .given ∙ s .pre .1 .lists .gears
+
+bytes-requires : tie.Need-bytes-requires
+bytes-requires c κs =
+    let after : tie.After-gs4 = search in
+    let s = start (chosen (after .before)) in
     let P = s .pre .0 in
-    (held-there (P .car) (a .us .now) (a .hs .now) (sym (c .before .before .all-held .ensures) ∙ c .before .if1 .taken) (s .pre .1 .lists .speeds) (s .pre .2 (P .car) (P .lent)), s .pre .1 .lists .gears)
+    gears-there (P .car) (s .args .us .now) (s .args .hs .now) (done (after .before) (P .car) (P .lent)) (s .pre .1 .lists .speeds) (size after) (s .pre .2 (P .car) (P .lent))
 
 returns : tie.Need-returns
 returns c =
-    let a = c .before .before .before .before .before .before .before .before .before .args in
-    λ car L. held-is car (a .us .now) (a .hs .now) (sym (c .before .before .before .before .before .all-held .ensures) ∙ c .before .before .before .before .if1 .taken) (c .before .before .held-bytes .ensures car (L .has))
-
-go-on-requires : tie.Need-go-on-requires
-go-on-requires c κs =
-    let s = c .before .before .before .before .before .before .before .before .before .before .before in
-    let d = c .before .before .before .begin .ensures .0 in
-    (s .pre .0, s .pre .1 .pace, record { speeds = s .pre .1 .lists .speeds; gears = search needs }, search needs, λ l. d .1 (search needs))
-
--- the slice then holds the trip's first choices
-done : (c : tie.After-go-on) (car : Vehicle) → let s = c .before .before .before .before .before .before .before .before .before .before .before .before in Lent car (s .args .k) (s .args .ratio .now) (s .args .n .now) (s .args .p .now)
-    → c .go-on .last .1 .1 .1 .1 .1 .1 .1 .1 .0 ≡ firsts car (s .args .us .now) (s .args .hs .now)
-done c car L =
-    let s = c .before .before .before .before .before .before .before .before .before .before .before .before in
-    let a = s .args in
-    let run = c .before .before .before .before .before .before .closing-from in
-    way-firsts car (a .us .now) (a .hs .now) (run .result) (run .ensures) (s .pre .1 .lists .speeds) (a .gs .now) (s .pre .1 .lists .gears)
-    (c .go-on .ensures car L 0 (a .gs .now) (c .before .before .before .before .begin .ensures .1 car (L .has) (L .bounds) (run .result) 0))
-
-settle-requires : tie.Need-settle-requires
-settle-requires c κs =
-    let s = c .before .before .before .before .before .before .before .before .before .before .before .before .before .before .before in
-    let a = s .args in
-    let P = s .pre .0 in (
-      gears-few P,
-      c .before .before .before .before .before .before .before .before .before .closing-from .ensures,
-      record { speeds = s .pre .1 .lists .speeds; gears = search needs },
-      record {
-        car = P .car;
-        has = P .lent .has;
-        gear = λ j l. rw (gears-is (P .car) (a .us .now) (a .hs .now) (done (c .before .before .before) (P .car) (P .lent))) (s .pre .2 (P .car) (P .lent) .gear j l);
-      },
-    )
-
-returns-2 : tie.Need-returns-2
-returns-2 c =
-    let a = c .before .before .before .before .before .before .before .before .before .before .before .before .before .before .before .before .before .before .args in
-    λ car L. bytes-is car (a .us .now) (a .hs .now) (done (c .before .before .before .before .before .before) car L) (c .before .before .settle .ensures car (L .has))
+    let at-bytes : tie.After-bytes = search in
+    let after : tie.After-gs4 = search in
+    let s = start (chosen (after .before)) in
+    λ car L. bytes-is car (s .args .us .now) (s .args .hs .now) (done (after .before) car L) (size after) (at-bytes .bytes .ensures car (L .has))
 
 pub work-trip-spec : {M : Type 1} → statement M
 work-trip-spec =
-    let answers = tie.spec (λ c κs. search needs) held-bytes-requires (λ c. search needs) returns
-    (λ c κs. let s = c .before .before .before .before .before in (moves-on (s .pre .1), omega (arith, s .pre .1 .lists .speeds)))
-    (λ c κs. let s = c .before .before .before .before .before .before .before in (gears-few (s .pre .0), gears-two (s .pre .0), s .pre .1 .lists)) go-on-requires settle-requires (λ c. search needs)
-    returns-2 in
+    let answers = tie.spec (λ c κs. let s : tie.Start = search in (moves-on (s .pre .1), omega (arith, s .pre .1 .lists .speeds)))
+    (λ c κs. let s : tie.Start = search in (s .pre .0, s .pre .1 .pace, s .pre .1 .lists)) pass-a-requires pass-b-requires pass-c-requires bytes-requires (λ c. search needs) returns in
     tie.close answers
