@@ -1,174 +1,234 @@
--- The steps of a choice, as the code meets them: the gear tried next, and what each way out of the search comes to.
-use Rattle.rules.proofs.Offered.{ℕ, _-_, _+_, _*_, _≤_, _<_, le-trans, le-refl, arith, _≡_, refl, sym, _∙_, _≢_, Bool, true, false, List, eqb, ℤ, pos, leZ, eqb-true, eqb-false, eq-eqb, ne-eqb, _and_, _or_, at, highest, low, is-first, engine, required, fits, power, enough, more, suits, strongest, choose, NoGear, clash, by-test, by-order, by-eq, if-ind, and-left, highest-holds, highest-none, fits-from, strongest-fits, strongest-none, strongest-tie, strongest-most, more-asym, more-irrefl, no-more-trans, gear-wide, higher, choose-strongest, choose-highest, choose-to, first-choice-plainly, InBounds}
+-- The choice, as a loop from the top gear down meets it: what is left, from here down, with the best gear so far, is what was asked.
+use Rattle.rules.proofs.Offered.{ℕ, zero, suc, _-_, _≤_, _<_, arith, _≡_, refl, sym, _∙_, subst, _≢_, Bool, true, false, not, List, eqb, ℤ, pos, natAbs, leZ, eqb-true, eqb-false, ne-eqb, if_then_else_, _and_, _or_, highest, low, is-first, required, fits, Power, power, enough, more, suits, beats, strongest, choose, NoGear, clash, by-test, and-left, and-no, highest-holds, highest-none, fits-from, strongest-fits, more-asym, no-more-trans, gear-wide, choose-strongest, choose-highest, choose-to, first-choice-plainly, InBounds}
 use Rattle.rules.specs.declared.Vehicle.{Vehicle}
+use Rattle.rules.proofs.Laws.Strongest.{Wide}
 use Rattle.rules.specs.declared.Role.{Role}
 use Rattle.rules.specs.declared.Role.the-variants.{First}
 use Rattle.gears.specs.declared.Numbers.{Numbers}
 use Rattle.gears.specs.declared.Power as code
 use Rattle.gears.specs.declared.Best.{Best}
-use Rattle.gears.specs.Parts.{low-in, Lent}
-use Rattle.gears.specs.Choosing.{power-of, PowerSized, enough-for, suits-for, choose-for, InGear, only-lowest, the-stronger, Highest, Tried}
-use Rattle.gears.proofs.Powers.{turning-of, turning-enough, sized-of}
-use Rattle.gears.proofs.Speeds.{fits-not, fits-below, fits-over}
-use Rattle.gears.proofs.Down.{start, drops, stops}
-use Rattle.gears.proofs.Parts.{low-of, ng-of, engine-of}
+use Rattle.gears.specs.Parts.{Lent}
+use Rattle.gears.specs.Choosing.{power-of, PowerSized, enough-for, InGear, only-lowest, the-stronger}
+use Rattle.gears.proofs.Powers.{nothing, turning-of, turning-enough, sized-of}
+use Rattle.gears.proofs.Speeds.{fits-not, fits-below}
+use Rattle.gears.proofs.Parts.{ng-of}
 
--- ---- what a search comes to
+-- ---- what is left
 
-module _ (car : Vehicle) (here : Role) (v : ℕ) (e : ℤ) where
-  -- the highest gear that suits is the choice
-  for-highest : {g : ℕ} → 0 < g → highest (suits-for car here v e) (car .ng) ≡ g → g ≡ choose-for car here v e
-  unfolding choose-for
-  for-highest {g} l h = rw (h, ne-eqb g 0 (λ z. omega arith))
+module _ (car : Vehicle) (here : Role) (v : ℕ) where
+  -- of the best gear so far, 0 for none, and those up to k the fitting one with most power, the higher gear on a tie
+  unfoldable pub fallback : ℕ → ℕ → ℕ
+  fallback b k =
+      let r = strongest car here v k in
+      if eqb b 0 or (not (eqb r 0) and more (power car v r) (power car v b)) then r else b
 
-  -- where none suits, the strongest is
-  for-none : {g : ℕ} → g ≡ strongest car here v (car .ng) → highest (suits-for car here v e) (car .ng) ≡ 0 → g ≡ choose-for car here v e
-  unfolding choose-for
-  for-none k h = k ∙ rw (eq-eqb _ _ h)
+  -- the best so far once gear g, which fits, is one of them
+  unfoldable better : ℕ → ℕ → ℕ
+  better b g = if eqb b 0 or more (power car v g) (power car v b) then g else b
 
-  -- gear g suits, and none above it
-  pub for-suiting : {g : ℕ} → 0 < g → g ≤ car .ng → suits-for car here v e g ≡ true → ((h : ℕ) → g < h → h ≤ car .ng → suits-for car here v e h ≡ false) → g ≡ choose-for car here v e
-  for-suiting {g} l m t none = for-highest l (stops (drops start g m none) l t)
+  module _ (b g : ℕ) where
+    better-first : eqb b 0 ≡ true → better b g ≡ g
+    unfolding better _or_
+    better-first y = rw y
 
-  -- one that does not fit does not suit
-  unfit : (g : ℕ) → fits car here v g ≡ false → suits-for car here v e g ≡ false
-  unfolding suits-for _and_
-  unfit g f = rw f
+    better-more : more (power car v g) (power car v b) ≡ true → better b g ≡ g
+    unfolding better _or_
+    better-more u = by-test (eqb b 0) (λ y. rw y) (λ y. rw (y, u))
 
-  pub none-suit : {g : ℕ} → ((h : ℕ) → g < h → h ≤ car .ng → fits car here v h ≡ false) → (h : ℕ) → g < h → h ≤ car .ng → suits-for car here v e h ≡ false
-  none-suit none h a b = unfit h (none h a b)
+    better-not : eqb b 0 ≡ false → more (power car v g) (power car v b) ≡ false → better b g ≡ b
+    unfolding better _or_
+    better-not y u = rw (y, u)
 
-  -- one that fits suits if its power is enough
-  pub suits-power : (g : ℕ) (a : code.Power) (t : Bool) → fits car here v g ≡ true → power-of a ≡ power car v g → enough-for (power-of a) e ≡ t → suits-for car here v e g ≡ t
-  unfolding suits-for _and_
-  suits-power g a t f q h = rw (f, ← q) h
+  same-rest : (b j k : ℕ) → strongest car here v j ≡ strongest car here v k → fallback b j ≡ fallback b k
+  unfolding fallback
+  same-rest b j k e = rw e
 
--- or if E is at most 0
-pub suits-none : {car : Vehicle} {k : Numbers} {ratio n p : List ℕ} → Lent car k ratio n p → (here : Role) (v g : ℕ) → InGear k g → (e : ℤ) → fits car here v g ≡ true → leZ e (pos 0) ≡ true → suits-for car here v e g ≡ true
-unfolding suits-for _and_
-suits-none L here v g d e f h = rw (f, turning-enough L v g (turning-of (L .has) here v g d f) e h)
+  module _ (b k : ℕ) where
+    falls-through : eqb b 0 ≡ true → fallback b k ≡ strongest car here v k
+    unfolding fallback _or_
+    falls-through y = rw y
 
--- it is the rules' choice, where E is the required power
-pub choice-for : (car : Vehicle) (here : Role) (v : ℕ) (d : ℤ) {e : ℤ} → e ≡ required car v d → choose-for car here v e ≡ choose car here v d
-unfolding choose-for suits-for enough-for choose suits enough
-choice-for car here v d h = rw h
+    falls-alone : eqb b 0 ≡ false → eqb (strongest car here v k) 0 ≡ true → fallback b k ≡ b
+    unfolding fallback _and_ _or_
+    falls-alone y z = rw (y, z)
 
--- ---- the gears tried from the highest down
+    falls-back : eqb b 0 ≡ false → more (power car v (strongest car here v k)) (power car v b) ≡ false → fallback b k ≡ b
+    unfolding fallback _or_
+    falls-back y t = rw (y, and-no (not (eqb (strongest car here v k) 0)) _ t)
 
--- the first of them
-tried-first : (car : Vehicle) (here : Role) (v : ℕ) (e : ℤ) (g : ℕ) (a : code.Power) → g ≤ car .ng → fits car here v g ≡ true → power-of a ≡ power car v g
-    → enough-for (power-of a) e ≡ false → ((h : ℕ) → g < h → h ≤ car .ng → fits car here v h ≡ false) → Tried car here v e g (record { gear = g; power = a })
-tried-first car here v e g a to f q weak none = record {
-  above = le-refl g;
-  to = to;
-  fitting = f;
-  its-power = q;
-  none-suits = λ h l m. by-eq l (λ x. rw (← x) (suits-power car here v e g a false f q weak)) (λ o. none-suit car here v e none h o m);
-  none-stronger = λ h l m t. by-eq l (λ x. rw (← x) (more-irrefl (power car v g))) (λ o. clash t (none h o m));
-  none-higher = λ h l m t. clash t (none h l m);
-}
+    falls-on : eqb (strongest car here v k) 0 ≡ false → more (power car v (strongest car here v k)) (power car v b) ≡ true → fallback b k ≡ strongest car here v k
+    unfolding fallback _and_ _or_
+    falls-on z t = by-test (eqb b 0) (λ y. rw y) (λ y. rw (y, z, t))
 
--- the highest that fits: its power is within its bounds; with enough power it is the choice, else it has been tried
-module _ {car : Vehicle} {here : Role} {v : ℕ} {b : Best} (H : Highest car here v b) where
-  pub highest-sized : {k : Numbers} {ratio n p : List ℕ} → Lent car k ratio n p → PowerSized (b .power)
-  highest-sized {k} L =
-      sized-of L v (b .gear)
-      (turning-of (L .has) here v (b .gear) (record { from = fits-from car here v (b .gear) (H .fitting); to = omega (arith, H .to, ng-of (L .has .counts)) }) (H .fitting))
-      (b .power) (H .its-power)
+  module _ (k : ℕ) (f : fits car here v (suc k) ≡ true) where
+    tops-alone : eqb (strongest car here v k) 0 ≡ true → strongest car here v (suc k) ≡ suc k
+    unfolding strongest beats _and_ _or_
+    tops-alone z = rw (f, z)
 
-  pub highest-suits : (e : ℤ) → 0 < b .gear → enough-for (power-of (b .power)) e ≡ true → b .gear ≡ choose-for car here v e
-  highest-suits e l t =
-      for-suiting car here v e l (H .to) (suits-power car here v e (b .gear) (b .power) true (H .fitting) (H .its-power) t) (none-suit car here v e (H .none-above))
+    tops : more (power car v (strongest car here v k)) (power car v (suc k)) ≡ false → strongest car here v (suc k) ≡ suc k
+    unfolding strongest beats _and_ _or_
+    tops t = by-test (eqb (strongest car here v k) 0) (λ z. rw (f, z)) (λ z. rw (f, z, t))
 
-  pub highest-tried : (e : ℤ) → enough-for (power-of (b .power)) e ≡ false → Tried car here v e (b .gear) b
-  highest-tried e weak = tried-first car here v e (b .gear) (b .power) (H .to) (H .fitting) (H .its-power) weak (H .none-above)
+    stays : eqb (strongest car here v k) 0 ≡ false → more (power car v (strongest car here v k)) (power car v (suc k)) ≡ true → strongest car here v (suc k) ≡ strongest car here v k
+    unfolding strongest beats _and_ _or_
+    stays z t = rw (f, z, t)
 
-module _ {car : Vehicle} {here : Role} {v : ℕ} {e : ℤ} {g : ℕ} {b : Best} (B : InBounds car) (T : Tried car here v e g b) where
+    -- none of those below fits, or the strongest of them has more power, or no more
+    by-rest : {A : Type 0} → ((g : ℕ) → fits car here v g ≡ true → Wide (power car v g)) → (eqb (strongest car here v k) 0 ≡ true → A)
+        → (eqb (strongest car here v k) 0 ≡ false → Wide (power car v (strongest car here v k)) → more (power car v (strongest car here v k)) (power car v (suc k)) ≡ true → A)
+        → (eqb (strongest car here v k) 0 ≡ false → Wide (power car v (strongest car here v k)) → more (power car v (strongest car here v k)) (power car v (suc k)) ≡ false → A) → A
+    by-rest wide none more-there no-more =
+        by-test (eqb (strongest car here v k) 0) none
+        (λ z. let w = wide (strongest car here v k) (strongest-fits car here v k (eqb-false _ _ z) .0) in by-test (more (power car v (strongest car here v k)) (power car v (suc k))) (more-there z w) (no-more z w))
+
+    -- a gear may be put with those before or with those below
+    fallback-better : InBounds car → (b : ℕ) → (b ≢ 0 → fits car here v b ≡ true) → fallback b (suc k) ≡ fallback (better b (suc k)) k
+    fallback-better B b fitting =
+        let n = suc k in
+        let r = strongest car here v k in
+        let wide = gear-wide car B here v in
+        let some : eqb n 0 ≡ false = ne-eqb n 0 (λ z. omega arith) in
+        by-test (eqb b 0)
+        (λ y.
+        let on : fallback n k ≡ fallback (better b n) k = rw (better-first b n y) in
+        by-rest wide
+        (λ z. falls-through b n y ∙ tops-alone z ∙ sym (falls-alone n k some z) ∙ on)
+        (λ z w t. falls-through b n y ∙ stays z t ∙ sym (falls-on n k z t) ∙ on)
+        (λ z w t. falls-through b n y ∙ tops t ∙ sym (falls-back n k some t) ∙ on))
+        (λ y.
+        let wide-b = wide b (fitting (eqb-false _ _ y)) in
+        by-test (more (power car v n) (power car v b))
+        (λ u.
+        let on : fallback n k ≡ fallback (better b n) k = rw (better-more b n u) in
+        by-rest wide
+        (λ z. falls-on b n (rw (tops-alone z) some) (rw (tops-alone z) u) ∙ tops-alone z ∙ sym (falls-alone n k some z) ∙ on)
+        (λ z w t.
+        let over : more (power car v r) (power car v b) ≡ true =
+        by-test (more (power car v r) (power car v b)) (λ x. x) (λ x. clash t (no-more-trans _ (power car v b) _ w wide-b (wide n f) x (more-asym _ _ u))) in
+        falls-on b n (rw (stays z t) z) (rw (stays z t) over) ∙ stays z t ∙ sym (falls-on n k z t) ∙ on)
+        (λ z w t. falls-on b n (rw (tops t) some) (rw (tops t) u) ∙ tops t ∙ sym (falls-back n k some t) ∙ on))
+        (λ u.
+        let on : fallback b k ≡ fallback (better b n) k = rw (better-not b n y u) in
+        by-rest wide
+        (λ z. falls-back b n y (rw (tops-alone z) u) ∙ sym (falls-alone b k y z) ∙ on)
+        (λ z w t. same-rest b n k (stays z t) ∙ on)
+        (λ z w t. falls-back b n y (rw (tops t) u) ∙ sym (falls-back b k y (no-more-trans _ (power car v n) _ w (wide n f) wide-b t u)) ∙ on)))
+
+  module _ (d : ℤ) where
+    -- the highest up to k that suits, or the fallback
+    unfoldable pub choice-left : ℕ → ℕ → ℕ
+    choice-left b k = let g = highest (suits car here v d) k in if eqb g 0 then fallback b k else g
+
+    -- all gears, to begin with
+    left-all : choose car here v d ≡ choice-left 0 (car .ng)
+    unfolding choose choice-left fallback _or_
+    left-all = refl
+
+    -- one that does not fit
+    left-unfit : (b k : ℕ) → fits car here v (suc k) ≡ false → choice-left b (suc k) ≡ choice-left b k
+    unfolding choice-left fallback highest suits strongest beats _and_
+    left-unfit b k f = rw f
+
+    -- one that fits and has too little power
+    left-weak : InBounds car → (b k : ℕ) → (b ≢ 0 → fits car here v b ≡ true) → fits car here v (suc k) ≡ true → suits car here v d (suc k) ≡ false
+        → choice-left b (suc k) ≡ choice-left (better b (suc k)) k
+    unfolding choice-left highest
+    left-weak B b k fitting f s = rw (s, fallback-better k f B b fitting)
+
+    -- one that suits
+    left-suits : (b k : ℕ) → suits car here v d (suc k) ≡ true → choice-left b (suc k) ≡ suc k
+    unfolding choice-left highest
+    left-suits b k s = rw (s, ne-eqb (suc k) 0 (λ z. omega arith))
+
+    -- none is left: below the lowest none fits
+    left-none : (b k : ℕ) → k < low car → choice-left b k ≡ b
+    unfolding choice-left fallback suits _and_ _or_
+    left-none b k l =
+        let h : highest (suits car here v d) k ≡ 0 = highest-none (suits car here v d) k (λ j x y. rw (fits-below car here v j (omega arith))) in
+        let r : strongest car here v k ≡ 0 =
+        by-test (eqb (strongest car here v k) 0) (λ z. eqb-true _ _ z)
+        (λ z. let s = strongest-fits car here v k (eqb-false _ _ z) in clash (s .0) (fits-below car here v (strongest car here v k) (omega (arith, s .1)))) in
+        rw (h, r) (by-test (eqb b 0) (λ y. rw y (sym (eqb-true b 0 y))) (λ y. rw y))
+
+-- ---- the gears tried so far
+
+-- the next gear down, by one law for each gear that has one
+down : (P : ℕ → ℕ → Type 0) → ((k : ℕ) → P (suc k) k) → (g : ℕ) → 0 < g → P g (g - 1)
+down P h zero l = absurd (omega arith)
+down P h (suc k) l = let e : suc k - 1 ≡ k = omega arith in rw e (h k)
+
+-- those above g: the choice is one of the rest, or b, the best so far, with its power
+pub record Tried (car : Vehicle) (here : Role) (v : ℕ) (d : ℤ) (g : ℕ) (b : Best) : Type 0 where
+  pub left : choose car here v d ≡ choice-left car here v d (b .gear) g
+  pub none : b .gear ≡ 0 → power-of (b .power) ≡ nothing
+  pub its-power : b .gear ≢ 0 → power-of (b .power) ≡ power car v (b .gear)
+  pub fitting : b .gear ≢ 0 → fits car here v (b .gear) ≡ true
+  pub to : b .gear ≤ car .ng
+
+-- none, to begin with
+pub tried-none : (car : Vehicle) (here : Role) (v : ℕ) (d : ℤ) (b : Best) → b .gear ≡ 0 → power-of (b .power) ≡ nothing → Tried car here v d (car .ng) b
+tried-none car here v d b z p = record { left = rw z (left-all car here v d); none = λ y. p; its-power = λ n. absurd (n z); fitting = λ n. absurd (n z); to = omega (arith, z) }
+
+module _ {car : Vehicle} {here : Role} {v : ℕ} {d : ℤ} {g : ℕ} {b : Best} (T : Tried car here v d g b) where
   -- the power of the best is within its bounds
   pub best-sized : {k : Numbers} {ratio n p : List ℕ} → Lent car k ratio n p → PowerSized (b .power)
   best-sized {k} L =
-      sized-of L v (b .gear)
-      (turning-of (L .has) here v (b .gear) (record { from = fits-from car here v (b .gear) (T .fitting); to = omega (arith, T .to, ng-of (L .has .counts)) }) (T .fitting))
-      (b .power) (T .its-power)
+      by-test (eqb (b .gear) 0)
+      (λ y. let p = T .none (eqb-true _ _ y) in record {
+        q-in = subst (λ (z : Power). natAbs (z .Q) ≤ 1000000000000) (sym p) (omega arith);
+        w-in = subst (λ (z : Power). natAbs (z .w) ≤ 1000) (sym p) (omega arith);
+      })
+      (λ y.
+      let f = T .fitting (eqb-false _ _ y) in
+      sized-of L v (b .gear) (turning-of (L .has) here v (b .gear) (record { from = fits-from car here v (b .gear) f; to = omega (arith, T .to, ng-of (L .has .counts)) }) f) (b .power) (T .its-power (eqb-false _ _ y)))
 
-  -- the next one down does not fit
-  pub tried-unfit : fits car here v (g - 1) ≡ false → Tried car here v e (g - 1) b
-  tried-unfit f = record {
-    above = omega (arith, T .above);
-    to = T .to;
-    fitting = T .fitting;
-    its-power = T .its-power;
-    none-suits = λ h l m. by-eq l (λ x. rw (← x) (unfit car here v e (g - 1) f)) (λ o. T .none-suits h (omega arith) m);
-    none-stronger = λ h l m t. by-eq l (λ x. clash (rw (← x) at t) f) (λ o. T .none-stronger h (omega arith) m t);
-    none-higher = T .none-higher;
-  }
+  module _ (l : 0 < g) where
+    -- gear g suits: it is the choice
+    pub tried-suits : suits car here v d g ≡ true → g ≡ choose car here v d
+    tried-suits s = sym (T .left ∙ down (λ i j. suits car here v d i ≡ true → choice-left car here v d (b .gear) i ≡ i) (λ k. left-suits car here v d (b .gear) k) g l s)
 
-  -- or it has too little power: the stronger of the two is kept
-  module _ (a : code.Power) (f : fits car here v (g - 1) ≡ true) (q : power-of a ≡ power car v (g - 1)) (weak : enough-for (power-of a) e ≡ false) where
-    none-suits-down : (h : ℕ) → g - 1 ≤ h → h ≤ car .ng → suits-for car here v e h ≡ false
-    none-suits-down h l m = by-eq l (λ x. rw (← x) (suits-power car here v e (g - 1) a false f q weak)) (λ o. T .none-suits h (omega arith) m)
-
-    compared : more (power-of a) (power-of (b .power)) ≡ more (power car v (g - 1)) (power car v (b .gear))
-    compared = rw (q, T .its-power)
-
-    stronger-down : more (power car v (g - 1)) (power car v (b .gear)) ≡ true → Tried car here v e (g - 1) (record { gear = g - 1; power = a })
-    stronger-down t =
-        let wide = gear-wide car B here v in
-        let last = power car v (g - 1) in
-        let best = power car v (b .gear) in
-        record {
-          above = le-refl (g - 1);
-          to = omega (arith, T .above, T .to);
-          fitting = f;
-          its-power = q;
-          none-suits = none-suits-down;
-          none-stronger = λ h l m u.
-              by-eq l
-              (λ x. rw (← x) (more-irrefl last))
-              (λ o. no-more-trans (power car v h) best last (wide h u) (wide (b .gear) (T .fitting)) (wide (g - 1) f) (T .none-stronger h (omega arith) m u) (more-asym last best t));
-          none-higher = λ h l m u.
-              by-test (more last (power car v h))
-              (λ y. y)
-              (λ y. clash t (no-more-trans last (power car v h) best (wide (g - 1) f) (wide h u) (wide (b .gear) (T .fitting)) y (T .none-stronger h (omega arith) m u)));
-        }
-
-    weaker-down : more (power car v (g - 1)) (power car v (b .gear)) ≡ false → Tried car here v e (g - 1) b
-    weaker-down t = record {
-      above = omega (arith, T .above);
-      to = T .to;
-      fitting = T .fitting;
+    -- it does not fit
+    pub tried-unfit : fits car here v g ≡ false → Tried car here v d (g - 1) b
+    tried-unfit f = record {
+      left = T .left ∙ down (λ i j. fits car here v i ≡ false → choice-left car here v d (b .gear) i ≡ choice-left car here v d (b .gear) j) (λ k. left-unfit car here v d (b .gear) k) g l f;
+      none = T .none;
       its-power = T .its-power;
-      none-suits = none-suits-down;
-      none-stronger = λ h l m u. by-eq l (λ x. rw (← x) t) (λ o. T .none-stronger h (omega arith) m u);
-      none-higher = T .none-higher;
+      fitting = T .fitting;
+      to = T .to;
     }
 
-    pub tried-weak : Tried car here v e (g - 1) (the-stronger b (g - 1) a)
-    unfolding the-stronger
-    tried-weak =
-        if-ind (Tried car here v e (g - 1)) (more (power-of a) (power-of (b .power)))
-        (λ t. stronger-down (sym compared ∙ t))
-        (λ t. weaker-down (sym compared ∙ t))
+    -- it has too little power: the stronger of the two is kept
+    pub tried-weak : InBounds car → g ≤ car .ng → (a : code.Power) → fits car here v g ≡ true → power-of a ≡ power car v g → suits car here v d g ≡ false → more (power car v g) nothing ≡ true
+        → {r : Best} → r ≡ the-stronger b g a → Tried car here v d (g - 1) r
+    unfolding the-stronger better _or_
+    tried-weak B to a f q s some is =
+        let compared : more (power-of a) (power-of (b .power)) ≡ (eqb (b .gear) 0 or more (power car v g) (power car v (b .gear))) =
+        by-test (eqb (b .gear) 0) (λ y. rw (y, q, T .none (eqb-true _ _ y)) some) (λ y. rw (y, q, T .its-power (eqb-false _ _ y))) in
+        let on : choose car here v d ≡ choice-left car here v d (better car here v (b .gear) g) (g - 1) =
+        T .left
+        ∙ down (λ i j. fits car here v i ≡ true → suits car here v d i ≡ false → choice-left car here v d (b .gear) i ≡ choice-left car here v d (better car here v (b .gear) i) j)
+        (λ k x y. left-weak car here v d B (b .gear) k (T .fitting) x y) g l f s in
+        by-test (more (power-of a) (power-of (b .power)))
+        (λ t. rw (is, t) (record { left = rw (sym compared ∙ t) at on; none = λ z. absurd (omega (arith, z)); its-power = λ n. q; fitting = λ n. f; to = to }))
+        (λ t. rw (is, t) (record { left = rw (sym compared ∙ t) at on; none = T .none; its-power = T .its-power; fitting = T .fitting; to = T .to }))
 
-  -- it suits: it is the choice
-  pub tried-suits : 0 < g - 1 → suits-for car here v e (g - 1) ≡ true → g - 1 ≡ choose-for car here v e
-  tried-suits l t = for-suiting car here v e l (omega (arith, T .above, T .to)) t (λ h x y. T .none-suits h (omega arith) y)
+  -- none is left: the best of them is the choice
+  pub tried-all : g < low car → b .gear ≡ choose car here v d
+  tried-all l = sym (T .left ∙ left-none car here v d (b .gear) g l)
 
-  -- all have been tried: the best of them is the strongest
-  is-strongest : g ≤ low car → b .gear ≡ strongest car here v (car .ng)
-  is-strongest l =
-      let s = strongest car here v (car .ng) in
-      let n : s ≢ 0 = λ z. clash (T .fitting) (strongest-none car here v (car .ng) z (b .gear) (T .to)) in
-      let r = strongest-fits car here v (car .ng) n in
-      let from : g ≤ s = by-order s (low car) (λ o. clash (r .0) (fits-below car here v s o)) (λ o. le-trans l o) in
-      by-order s (b .gear)
-      (λ o. clash (strongest-tie car here v (car .ng) (b .gear) o (T .to) (T .fitting)) (T .none-stronger s from (r .1) (r .0)))
-      (λ o. by-eq o (λ x. x) (λ m. clash (T .none-higher s m (r .1) (r .0)) (strongest-most car here v B (car .ng) (b .gear) (T .to) (T .fitting))))
+-- ---- a gear that fits
 
-  pub tried-all : g ≤ low car → b .gear ≡ choose-for car here v e
-  tried-all l =
-      for-none car here v e (is-strongest l)
-      (highest-none (suits-for car here v e) (car .ng) (λ j x y. by-order j (low car) (λ o. unfit car here v e j (fits-below car here v j o)) (λ o. T .none-suits j (le-trans l o) y)))
+-- it suits if its power is enough for E
+pub suits-power : (car : Vehicle) (here : Role) (v : ℕ) (d : ℤ) (g : ℕ) (a : code.Power) {e : ℤ} {t : Bool} → e ≡ required car v d → fits car here v g ≡ true → power-of a ≡ power car v g
+    → enough-for (power-of a) e ≡ t → suits car here v d g ≡ t
+unfolding suits enough enough-for _and_
+suits-power car here v d g a r f q h = rw (f, ← q, ← r) h
+
+-- or if E is at most 0
+pub suits-none : {car : Vehicle} {k : Numbers} {ratio n p : List ℕ} → Lent car k ratio n p → (here : Role) (v g : ℕ) (d : ℤ) {e : ℤ} → InGear k g → e ≡ required car v d → fits car here v g ≡ true → leZ e (pos 0) ≡ true
+    → suits car here v d g ≡ true
+unfolding suits enough enough-for _and_
+suits-none L here v g d {e} i r f h = rw (f, ← r) (turning-enough L v g (turning-of (L .has) here v g i f) e h)
 
 -- ---- the choice where one gear may fit, or none
 
@@ -195,25 +255,3 @@ choice-only car b here v only d =
 pub choice-first : (car : Vehicle) → InBounds car → (v : ℕ) (d : ℤ) → only-lowest car First v ≡ choose car First v d
 unfolding is-first
 choice-first car b v d = choice-only car b First v (λ g l t. by-test (eqb g (low car)) (λ e. eqb-true _ _ e) (λ e. clash t (sym (fits-not car First v g (eqb-false _ _ e) refl)))) d
-
-module _ {car : Vehicle} {k : Numbers} {ratio n p : List ℕ} (L : Lent car k ratio n p) (here : Role) (v g : ℕ) (d : ℤ) (none : (h : ℕ) → g < h → h ≤ car .ng → fits car here v h ≡ false) where
-  -- as where the gear above the lowest is the highest in reach, and below its minimum
-  pub choice-below : g ≡ low-in k + 1 → fits car here v g ≡ false → only-lowest car here v ≡ choose car here v d
-  choice-below e f =
-      let lo = low-of (L .has .counts) in
-      choice-only car (L .bounds) here v
-      (λ i l t. by-order i (low car)
-      (λ o. clash t (fits-below car here v i o))
-      (λ o. by-eq o sym (λ m. by-eq {i = g} {j = i} (omega arith) (λ x. clash (rw (← x) at t) f) (λ y. clash t (none i y l)))))
-      d
-
-  -- where the highest in reach turns past nmax, so do those below it
-  pub choice-past : g ≤ car .ng → 1000 * k .nmax < at ratio (g - 1) * v → 0 ≡ choose car here v d
-  choice-past l past =
-      sym (first-choice-plainly car here v d (L .bounds) .choice-none (λ i m. by-order i (low car)
-      (λ o. fits-below car here v i o)
-      (λ o. by-order g i
-      (λ a. none i a m)
-      (λ a. let z : i + (g - i) ≡ g = omega arith in
-      let x : engine car g v ≤ engine car i v = rw z at (higher car (L .bounds) v i (g - i) o (omega arith)) in
-      sym (fits-over (L .has) here v i (omega (arith, x, engine-of (L .has) g v, engine-of (L .has) i v)))))))

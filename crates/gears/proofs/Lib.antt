@@ -8,4 +8,3 @@ pub mod Powers
 pub mod Derating
 pub mod Reach
 pub mod Choices
-pub mod Down

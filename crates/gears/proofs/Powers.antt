@@ -1,5 +1,5 @@
 -- The power at a gear, from the parts that the code works it out of.
-use Rattle.rules.proofs.Offered.{ℕ, suc, _+_, _-_, _*_, _≤_, _<_, max, le-trans, mul-assoc, mul-left-comm, mul-le-mul-left, max-le, le-max-right, arith, _≡_, refl, sym, ap, _∙_, subst, true, List, ℤ, pos, negℤ, natAbs, _+ℤ_, _-ℤ_, _*ℤ_, +ℤ-assoc, leZ, leb-true, le-leb, at, Power, engine, under-nmax, fits, between, on-segment, segment, power-speed, power, OnSegment, and-right, +ℤ-*ℤ, neg-*ℤ, pos-sub, leZ-trans, leZ-scale, segment-holds, Q-size, w-size}
+use Rattle.rules.proofs.Offered.{ℕ, zero, suc, _+_, _-_, _*_, _≤_, _<_, max, le-trans, mul-assoc, mul-left-comm, mul-le-mul-left, max-le, le-max-right, arith, _≡_, refl, sym, ap, _∙_, subst, true, List, ℤ, pos, negsuc, negℤ, natAbs, _+ℤ_, _-ℤ_, _*ℤ_, +ℤ-assoc, leZ, ltZ, leb-true, le-leb, at, Power, more, engine, under-nmax, fits, between, on-segment, segment, power-speed, power, OnSegment, and-right, +ℤ-*ℤ, neg-*ℤ, pos-sub, leZ-trans, leZ-scale, segment-holds, Q-size, w-size}
 use Rattle.rules.specs.declared.Vehicle.{Vehicle}
 use Rattle.rules.specs.declared.Role.{Role}
 use Rattle.gears.specs.Choosing.{segment-in, segment-parts, Curve, Segment, power-of, turned, Turning, PowerSized, enough-for, InGear}
@@ -23,6 +23,15 @@ Q-pos p1 p2 w t h =
 -- where w is positive and Q is not negative, an E of at most 0 is met
 enough-none : (e : ℤ) → leZ e (pos 0) ≡ true → (w q : ℕ) → 0 < w → leZ (e *ℤ pos w) (pos q *ℤ pos 3240000) ≡ true
 enough-none e h w q l = leZ-trans (e *ℤ pos w) (pos 0 *ℤ pos w) (pos (q * 3240000)) (leZ-scale e (pos 0) w l ∙ h) (le-leb (0 * w) (q * 3240000) (omega arith))
+
+-- less than every power
+abbrev pub nothing : Power
+nothing = record { Q = negsuc 0; w = pos 1 }
+
+-- where w is positive and Q is not negative
+more-nothing : (w q : ℕ) → 0 < w → ltZ (negsuc 0 *ℤ pos w) (pos q *ℤ pos 1) ≡ true
+more-nothing zero q l = absurd (omega arith)
+more-nothing (suc w) q l = let e : 1 * suc w ≡ suc w = omega arith in ap (λ (m : ℕ). ltZ (negℤ (pos m)) (pos (q * 1))) e
 
 module _ {car : Vehicle} {k : Numbers} {ratio n p : List ℕ} (L : Lent car k ratio n p) (v g : ℕ) where
   -- the engine speed at which power is read
@@ -108,6 +117,22 @@ module _ {car : Vehicle} {k : Numbers} {ratio n p : List ℕ} (L : Lent car k ra
           pos-sub x (1000 * at (car .n) s) (on .from),
           Q-pos (at p s) (at p (suc s)) (at (car .n) (suc s) - at (car .n) s) (x - 1000 * at (car .n) s) (omega (arith, on .to)),
         ) (enough-none e h _ _ (omega arith))
+
+    -- and each is more than nothing
+    pub turning-more : more (power car v g) nothing ≡ true
+    unfolding more power on-segment between
+    turning-more =
+        let x = power-speed car v g in
+        let s = segment car x in
+        let on = turning-on in
+        let rise = L .bounds .n-rises s (on .next-point) in
+        rw (
+          L .powers s (omega (arith, on .next-point)),
+          L .powers (suc s) (on .next-point),
+          pos-sub (at (car .n) (suc s)) (at (car .n) s) (omega arith),
+          pos-sub x (1000 * at (car .n) s) (on .from),
+          Q-pos (at p s) (at p (suc s)) (at (car .n) (suc s) - at (car .n) s) (x - 1000 * at (car .n) s) (omega (arith, on .to)),
+        ) (more-nothing (at (car .n) (suc s) - at (car .n) s) _ (omega arith))
 
 -- a gear that fits turns the engine no faster than nmax
 pub turning-of : {car : Vehicle} {k : Numbers} {ratio : List ℕ} → Has car k ratio → (here : Role) (v g : ℕ) → InGear k g → fits car here v g ≡ true → Turning k ratio v g

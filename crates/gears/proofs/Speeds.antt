@@ -73,7 +73,7 @@ module _ {car : Vehicle} {k : Numbers} {ratio : List ℕ} (H : Has car k ratio) 
 
   -- a later second and a gear from two above the lowest on, below their shared minimum
   module _ {least : ℕ} (e : least ≡ 1000 * minimum car here (low-in k + 2)) (a : low-in k + 1 < g) (t : is-first here ≡ false) where
-    shared : least ≡ 1000 * minimum car here g
+    pub shared : least ≡ 1000 * minimum car here g
     shared = e ∙ ap (λ x. 1000 * x) (rw (low-of (H .counts)) at (same-minimum car here g (omega (arith, low-of (H .counts)))))
 
     pub fits-under : at ratio (g - 1) * v < least → false ≡ fits car here v g

@@ -1,13 +1,11 @@
 -- The rules of a choice over the parts that the functions are lent, and what those functions ask of them.
-use Rattle.rules.specs.Words.{ℕ, suc, _+_, _-_, _*_, _≤_, _<_, max, _≡_, refl, Bool, true, false, List, Option·getD, leb, eqb, ℤ, pos, natAbs, _*ℤ_, leZ, if_then_else_, _and_, at, first, highest, pass}
+use Rattle.rules.specs.Words.{ℕ, suc, _-_, _*_, _≤_, _<_, max, _≡_, refl, Bool, List, Option·getD, leb, eqb, ℤ, pos, natAbs, _*ℤ_, leZ, if_then_else_, at, first, pass}
 use Rattle.rules.specs.declared.Vehicle.{Vehicle}
 use Rattle.rules.specs.declared.Role.{Role}
-use Rattle.rules.specs.declared.Role.the-variants.{Inner}
-use Rattle.rules.specs.Gears.{Power, engine, minimum, fits, power, more, strongest, choose, reaches, segment}
+use Rattle.rules.specs.Gears.{Power, fits, more, choose, reaches, segment}
 use Rattle.rules.specs.Units.{low, fastest, steepest, rise}
 use Rattle.rules.specs.Corrections.{here, first-choice}
 use Rattle.gears.specs.declared.Numbers.{Numbers}
-use Rattle.gears.specs.Parts.{low-in}
 use Rattle.gears.specs.declared.Power as code
 use Rattle.gears.specs.declared.Best.{Best}
 
@@ -77,16 +75,6 @@ pub record Weighed (a : code.Power) (e : ℤ) : Type 0 where
 unfoldable pub enough-for : Power → ℤ → Bool
 enough-for a e = leZ (e *ℤ a .w) (a .Q *ℤ pos 3240000)
 
--- a gear fits and has enough power for E
-unfoldable pub suits-for : Vehicle → Role → ℕ → ℤ → ℕ → Bool
-suits-for car here v e g = fits car here v g and enough-for (power car v g) e
-
--- the rules' choice, for an E
-unfoldable pub choose-for : Vehicle → Role → ℕ → ℤ → ℕ
-choose-for car here v e =
-    let g = highest (suits-for car here v e) (car .ng) in
-    if eqb g 0 then strongest car here v (car .ng) else g
-
 -- one of the gears
 pub record InGear (k : Numbers) (g : ℕ) : Type 0 where
   pub from : 1 ≤ g
@@ -97,35 +85,6 @@ pub record Pace (v : ℕ) (d : ℤ) : Type 0 where
   pub v-to : v ≤ fastest
   pub d-in : natAbs d ≤ steepest
 
--- ---- the gears in reach
-
--- gears that all have a place, and ratios that do not rise
-pub record Falling (ng : ℕ) (ratio : List ℕ) : Type 0 where
-  pub ng-to : ng ≤ 10
-  pub falls : (g : ℕ) → 1 ≤ g → g < ng → at ratio g ≤ at ratio (g - 1)
-
--- a gear above the lowest
-pub record Higher (k : Numbers) (g : ℕ) : Type 0 where
-  pub from : low-in k + 1 ≤ g
-  pub to : g ≤ k .ng
-
--- the highest gear to look at, where the gears above the second that is driven share a minimum of engine speed `least`
-pub record Reached (second ng : ℕ) (ratio : List ℕ) (v least g : ℕ) : Type 0 where
-  pub from : second ≤ g
-  pub to : g ≤ ng
-  pub above : (i : ℕ) → g < i → i ≤ ng → at ratio (i - 1) * v < least
-  pub over : second < g → least ≤ at ratio (g - 1) * v
-
--- gear g and those below it are in reach: from two above the lowest on they are over their minimum
-pub record InReach (car : Vehicle) (v g : ℕ) : Type 0 where
-  pub over : (i : ℕ) → low car + 1 < i → i ≤ g → 1000 * minimum car Inner i ≤ engine car i v
-
--- where a search may start: a gear above the lowest, and a segment of the curve
-pub record Hints (k : Numbers) (reached segment : ℕ) : Type 0 where
-  pub from : low-in k + 1 ≤ reached
-  pub to : reached ≤ k .ng
-  pub near : segment + 1 < k .points
-
 -- ---- the fallback
 
 -- the choice where only the lowest gear may fit: that gear if it fits, otherwise 0
@@ -135,23 +94,6 @@ only-lowest car here v = if fits car here v (low car) then low car else 0
 -- gear g with power a where it has more than the best so far, otherwise that one
 unfoldable pub the-stronger : Best → ℕ → code.Power → Best
 the-stronger b g a = if more (power-of a) (power-of (b .power)) then record { gear = g; power = a } else b
-
--- b is the highest gear that fits, with its power
-pub record Highest (car : Vehicle) (here : Role) (v : ℕ) (b : Best) : Type 0 where
-  pub to : b .gear ≤ car .ng
-  pub fitting : fits car here v (b .gear) ≡ true
-  pub its-power : power-of (b .power) ≡ power car v (b .gear)
-  pub none-above : (h : ℕ) → b .gear < h → h ≤ car .ng → fits car here v h ≡ false
-
--- the gears from g on have been tried: none suits for E, and b is the one of them that fits with most power, the higher gear on a tie
-pub record Tried (car : Vehicle) (here : Role) (v : ℕ) (e : ℤ) (g : ℕ) (b : Best) : Type 0 where
-  pub above : g ≤ b .gear
-  pub to : b .gear ≤ car .ng
-  pub fitting : fits car here v (b .gear) ≡ true
-  pub its-power : power-of (b .power) ≡ power car v (b .gear)
-  pub none-suits : (h : ℕ) → g ≤ h → h ≤ car .ng → suits-for car here v e h ≡ false
-  pub none-stronger : (h : ℕ) → g ≤ h → h ≤ car .ng → fits car here v h ≡ true → more (power car v h) (power car v (b .gear)) ≡ false
-  pub none-higher : (h : ℕ) → b .gear < h → h ≤ car .ng → fits car here v h ≡ true → more (power car v (b .gear)) (power car v h) ≡ true
 
 -- ---- the first choice
 

@@ -53,10 +53,9 @@ pub struct Best {
     pub power: Power,
 }
 
-// The first choice of a second, and where the search for the next one's starts: the highest gear in reach, and a segment of the curve.
+// The first choice of a second, and the segment of the curve from which the search for the next one's starts.
 pub struct Chosen {
     pub gear: u8,
-    pub reached: usize,
     pub segment: usize,
 }
 

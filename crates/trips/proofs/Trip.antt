@@ -7,7 +7,7 @@ use Rattle.gears.specs.declared.Numbers.{Numbers}
 use Rattle.gears.specs.Parts.{low-in, Has, Parts}
 use Rattle.gears.specs.Second.{Driven}
 use Rattle.gears.proofs.Parts.{low-of, ng-of, points-of}
-use Rattle.gears.specs.Choosing.{Hints, only-lowest, first-of, first-parts}
+use Rattle.gears.specs.Choosing.{only-lowest, first-of, first-parts}
 use Rattle.gears.proofs.Speeds.{fits-over, fits-one}
 use Rattle.gears.proofs.Choices.{choice-first}
 use Rattle.trips.specs.Ready.{Geared, Ready}
@@ -81,13 +81,9 @@ gears-few P = record {
   low-to = omega (arith, ng-of (P .lent .has .counts), low-of (P .lent .has .counts), P .lent .bounds .low-ng);
 }
 
--- a search may start from the gear above the lowest and the curve's first segment
-pub any-hints : {k : Numbers} {ratio n p : List ℕ} → Parts k ratio n p → Hints k (low-in k + 1) 0
-any-hints P = let C = P .lent .has .counts in record {
-  from = omega arith;
-  to = omega (arith, ng-of C, low-of C, P .lent .bounds .low-ng);
-  near = omega (arith, points-of C, P .lent .bounds .points-from);
-}
+-- a search may start from the curve's first segment
+pub first-segment : {k : Numbers} {ratio n p : List ℕ} → Parts k ratio n p → 0 + 1 < k .points
+first-segment P = omega (arith, points-of (P .lent .has .counts), P .lent .bounds .points-from)
 
 -- every second of a trip that is ready is moving
 pub moves-on : {k : Numbers} {us hs gs : List ℕ} → Ready k us hs gs → AllMoving us

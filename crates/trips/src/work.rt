@@ -1,9 +1,9 @@
 // The work on one trip: first choices, the three passes, the bytes.
-ghost use Rattle.rules.specs.Words.{_≡_, Bool, true, false, List, ℕ, _+_, _-_, _≤_, leb, eqb, ℤ, length, if_then_else_, _and_, at, pass};
+ghost use Rattle.rules.specs.Words.{_≡_, Bool, false, List, ℕ, _+_, _-_, _≤_, _<_, leb, eqb, ℤ, length, if_then_else_, _and_, at, pass};
 ghost use Rattle.rules.specs.Units.{rise};
 ghost use Rattle.rules.specs.Corrections.{role-of};
 ghost use Rattle.rules.specs.declared.Vehicle.{Vehicle};
-ghost use Rattle.gears.specs.Choosing.{Hints, first-of};
+ghost use Rattle.gears.specs.Choosing.{first-of};
 ghost use Rattle.rules.specs.declared.Role.the-variants.{First};
 ghost use Rattle.rules.specs.Inside.{InBounds};
 ghost use Rattle.gears.specs.Parts.{Has, Lent, Parts};
@@ -49,9 +49,9 @@ fn choice_at<'a>(
     before: Chosen,
     j: usize,
 ) -> Chosen
-    requires { ⌜ Parts k (now ratio) (now n) (now p) × Paced (now us) (now hs) × TripSecond (now us) (now hs) j × Hints k (before .reached) (before .segment) ⌝ }
+    requires { ⌜ Parts k (now ratio) (now n) (now p) × Paced (now us) (now hs) × TripSecond (now us) (now hs) j × (before .segment + 1 < k .points) ⌝ }
     ensures gear { λ r. ⌜ ((car : Vehicle) → Lent car k (now (ratio .entry)) (now (n .entry)) (now (p .entry)) → r .gear ≡ first-of car (role-of car false (leb run j) (before .gear)) (at (now (us .entry)) j) (rise (now (us .entry)) j) (at (now (hs .entry)) j)) ⌝ }
-    ensures hints { λ r. ⌜ Hints k (r .reached) (r .segment) ⌝ }
+    ensures segment { λ r. ⌜ r .segment + 1 < k .points ⌝ }
 {
     let v = us[j];
     let next = us[j + 1];
@@ -76,10 +76,9 @@ fn later_choices<'a>(
     ensures { λ r. ⌜ ((car : Vehicle) → Lent car k (now (ratio .entry)) (now (n .entry)) (now (p .entry)) → (begins : Bool) (before : ℕ) (base : List ℕ) → (begins and eqb from 0) ≡ false → last ≡ (if eqb from 0 then before else at (now (gs .entry)) (from - 1)) → now (gs .entry) ≡ pass (on-way car (now (us .entry)) (now (hs .entry)) begins run before) from base → now (gs .exit) ≡ pass (on-way car (now (us .entry)) (now (hs .entry)) begins run before) (length (now (hs .entry))) base) ⌝ }
 {
     let mut j = from;
-    // the first search starts from the gear above the lowest and the curve's first segment
+    // the first search starts from the curve's first segment
     let mut before = Chosen {
         gear: last,
-        reached: lowest(k) + 1,
         segment: 0,
     };
     while j < gs.len() {

@@ -11,7 +11,7 @@ is-D c = result (c .step-of .ok) ∙ c .step-of .ensures
 pub choice-after-spec : {M : Type 1} → statement M
 unfolding first-of
 choice-after-spec =
-    let answers = tie.spec (λ c. let h = c .before .pre .2 in (λ car L. rw (ne-eqb _ 0 (c .if1 .taken)), record { from = h .from; to = h .to; near = h .near })) (λ c κs. search needs)
+    let answers = tie.spec (λ c. (λ car L. rw (ne-eqb _ 0 (c .if1 .taken)), c .before .pre .2)) (λ c κs. search needs)
     (λ c κs. let s = c .before .before in (s .pre .0, rw (is-D c) (s .pre .1), s .pre .2))
     (λ c. (λ car L. rw (eq-eqb _ 0 (c .before .before .if1 .left), ← is-D (c .before)) (c .choose .ensures .0 car L), c .choose .ensures .1)) in
     tie.close answers

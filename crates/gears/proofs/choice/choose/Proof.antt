@@ -1,100 +1,127 @@
--- `gears::choice::choose` meets its contract: one law of the choice for each return.
-use Rattle.rules.proofs.Offered.{ℕ, _+_, _≤_, _<_, arith, true, false, _≡_, refl, sym, _∙_, natAbs, needs, eqb-true, le-leb, toZ-ofZ, choose-to, required-size, rd, result, and-left, fits, required, choose, role-of}
+-- `gears::choice::choose` meets its contract: before each turn the gears above `g` have been tried.
+use Rattle.rules.proofs.Offered.{_+_, _-_, _≤_, _<_, ℤ, arith, true, false, _≡_, refl, sym, _∙_, natAbs, ⊎-elim, needs, toZ-ofZ, w64, toZ, ofZ, choose-to, required-size, rd, result, fits, required, choose, role-of}
 use Rattle.rules.specs.declared.Vehicle.{Vehicle}
 use Rattle.rules.specs.declared.Role.{Role}
-use Rattle.gears.specs.Parts.{Counts, Lent}
-use Rattle.gears.specs.Choosing.{most-E, InGear, Turning, Hints}
+use Rattle.gears.specs.Parts.{low-in, Counts, Lent}
+use Rattle.gears.specs.Choosing.{most-E, InGear, Turning}
 use Rattle.gears.proofs.Parts.{low-of, ng-of, idle-of, rated-of, f0-of, f1-of, f2-of, tm-of}
-use Rattle.gears.proofs.Reach.{falling-of, later, in-reach, none-above, fits-under-own, fits-else}
-use Rattle.gears.proofs.Choices.{for-suiting, none-suit, suits-none, choice-for, choice-below, choice-past}
-use Rattle.gears.proofs.Powers.{turning-of, turned-curve, turned-next}
+use Rattle.gears.proofs.Choices.{Tried, tried-none, best-sized, tried-suits, tried-unfit, tried-weak, tried-all, suits-power, suits-none}
+use Rattle.gears.proofs.Powers.{turning-of, turning-more, turned-curve, turned-next, sized-of}
 use Rattle.gears.proofs.choice.choose.Statement.{statement}
 use Rattle.gears.proofs.choice.choose.Tie as tie
 
+abbrev Inv-loop : tie.InvT-loop
+Inv-loop k ratio n p closes before v d near low e best₀ s₀ g₀ best s g =
+    (low-in k ≤ g) × (g ≤ k .ng) × (s + 1 < k .points) × ((car : Vehicle) → Lent car k ratio n p → Tried car (role-of car false closes before) v (toZ w64 d) g best)
+
+abbrev μ-loop : tie.MeasureT-loop
+μ-loop k ratio n p closes before v d near low e best₀ s₀ g₀ best s g = g
+
 -- the parts lent
-abbrev Of : tie.Start → Vehicle → Type 0
+abbrev Of : tie.Start Inv-loop μ-loop → Vehicle → Type 0
 Of s car = Lent car (s .args .k) (s .args .ratio .now) (s .args .n .now) (s .args .p .now)
 
--- what the second is
-abbrev here : tie.Start → Vehicle → Role
+-- what the second is, and D
+abbrev here : tie.Start Inv-loop μ-loop → Vehicle → Role
 here s car = role-of car false (s .args .closes) (s .args .before)
 
--- the highest gear in reach is one, and the next search may start there
-in-gear : (c : tie.After-reached) → InGear (c .before .before .args .k) (c .reached .result)
-in-gear c = let R = c .reached .ensures in record { from = omega (arith, R .from); to = R .to }
+abbrev D : tie.Start Inv-loop μ-loop → ℤ
+D s = toZ w64 (ofZ w64 (s .args .d))
 
-hints : (c : tie.After-reached) {s : ℕ} → s + 1 < c .before .before .args .k .points → Hints (c .before .before .args .k) (c .reached .result) s
-hints c l = let R = c .reached .ensures in record { from = R .from; to = R .to; near = l }
+-- where a turn begins, and where it has asked whether its gear fits
+abbrev start : tie.At-loop Inv-loop μ-loop → tie.Start Inv-loop μ-loop
+start c = c .before .before .before .before
 
-to-ten : (c : tie.After-reached) → c .reached .result ≤ 10
-to-ten c = let L = c .before .before .pre .0 .lent in omega (arith, c .reached .ensures .to, ng-of (L .has .counts), L .bounds .ng-to)
+abbrev asked : tie.Then1 Inv-loop μ-loop → tie.At-loop Inv-loop μ-loop
+asked c = c .before .before
 
--- none above it fits
-none : (c : tie.After-reached) → let s = c .before .before in (car : Vehicle) → Of s car → (h : ℕ) → c .reached .result < h → h ≤ car .ng → fits car (here s car) (s .args .v) h ≡ false
-none c car L = let s = c .before .before in none-above L (s .args .v) (c .before .shared-least .ensures car (L .has .counts)) (c .reached .ensures) (here s car) (later car (s .args .closes) (s .args .before))
-
--- it is the gear above the lowest and below its minimum: only the lowest may fit
-only : (c : tie.After-only-lowest) → let s = c .before .before .before .before .before .before in (car : Vehicle) → Of s car → c .only-lowest .result ≡ choose car (here s car) (s .args .v) (s .args .d)
-only c car L =
-    let s = c .before .before .before .before .before .before in
-    let t = sym (c .before .if1 .taken) ∙ c .before .before .below-minimum .ensures car (L .has .counts) in
-    c .only-lowest .ensures car (L .has) (here s car)
-    ∙ choice-below L (here s car) (s .args .v) _ (s .args .d) (none (c .before .before .before .before) car L) (eqb-true _ _ (and-left _ _ (sym t)))
-    (sym (fits-under-own (L .has) (here s car) (later car (s .args .closes) (s .args .before)) (s .args .v) _ refl (c .before .before .before .engine .ensures) t))
-
--- else, and within nmax, it fits
-fit : (c : tie.Else2) → let s = c .before .before .before .before .before .before .before in (car : Vehicle) → Of s car → fits car (here s car) (s .args .v) (c .before .before .before .before .before .reached .result) ≡ true
-fit c car L =
-    let s = c .before .before .before .before .before .before .before in
-    let R = c .before .before .before .before .before .reached .ensures in
-    sym (fits-else (L .has) (here s car) (later car (s .args .closes) (s .args .before)) (s .args .v) _ refl (c .before .before .before .before .engine .ensures) (omega (arith, R .from))
-    (in-reach L (s .args .v) (c .before .before .before .before .before .before .shared-least .ensures car (L .has .counts)) R) (sym (c .before .before .if1 .left) ∙ c .before .before .before .below-minimum .ensures car (L .has .counts)))
-    ∙ le-leb _ _ (rw (c .before .top .ensures) at (c .if2 .left))
-
-turns : (c : tie.Else2) → let s = c .before .before .before .before .before .before .before in Turning (s .args .k) (s .args .ratio .now) (s .args .v) (c .before .before .before .before .before .reached .result)
-turns c = let s = c .before .before .before .before .before .before .before in let L = s .pre .0 .lent in turning-of (L .has) _ _ _ (in-gear (c .before .before .before .before .before)) (fit c (s .pre .0 .car) L)
+abbrev fitted : tie.After-stronger Inv-loop μ-loop → tie.Then1 Inv-loop μ-loop
+fitted c = c .before .before .before .before .before .before
 
 -- E is the required power, of every vehicle of these parts
-load : (c : tie.After-required) → let s = c .before .before .before .before .before .before .before .before in (car : Vehicle) → Counts car (s .args .k) → rd (c .required .result) ≡ required car (s .args .v) (s .args .d)
-load c car C =
-    let s = c .before .before .before .before .before .before .before .before in
-    result (c .required .ok) ∙ (rw (toZ-ofZ (s .fits .d)) at (c .required .ensures car C))
+load : (c : tie.After-required Inv-loop μ-loop) → let s = c .before .before in (car : Vehicle) → Counts car (s .args .k) → rd (c .required .result) ≡ required car (s .args .v) (D s)
+load c car C = result (c .required .ok) ∙ c .required .ensures car C
 
-load-in : (c : tie.After-required) → natAbs (rd (c .required .result)) ≤ most-E
+load-in : (c : tie.After-required Inv-loop μ-loop) → natAbs (rd (c .required .result)) ≤ most-E
 load-in c =
-    let s = c .before .before .before .before .before .before .before .before in
+    let s = c .before .before in
     let P = s .pre .0 in
-    rw (load c (P .car) (P .lent .has .counts)) (required-size (P .car) (P .lent .bounds) (s .args .v) (s .pre .1 .v-to) (s .args .d) (s .pre .1 .d-in))
+    rw (load c (P .car) (P .lent .has .counts), toZ-ofZ (s .fits .d)) (required-size (P .car) (P .lent .bounds) (s .args .v) (s .pre .1 .v-to) (s .args .d) (s .pre .1 .d-in))
 
--- what the search from there on found is the rules' choice
-searched : (c : tie.After-choose-from) → let s = c .before .before .before .before .before .before .before .before .before .before .before .before in (car : Vehicle) → Of s car → c .choose-from .result ≡ choose car (here s car) (s .args .v) (s .args .d)
-searched c car L =
-    let s = c .before .before .before .before .before .before .before .before .before .before .before .before in
-    c .choose-from .ensures car L ∙ choice-for car (here s car) (s .args .v) (s .args .d) (load (c .before .before .before .before) car (L .has .counts))
+-- the gear is one
+in-gear : (c : tie.At-loop Inv-loop μ-loop) → InGear (start c .args .k) (c .loop .g)
+in-gear c = record { from = omega (arith, c .loop .inv .0); to = c .loop .inv .1 }
 
-only-lowest-requires : tie.Need-only-lowest-requires
-only-lowest-requires c κs =
-    let L = c .before .before .before .before .before .pre .0 .lent in
-    record { ng-to = omega (arith, ng-of (L .has .counts), L .bounds .ng-to); low-to = omega (arith, ng-of (L .has .counts), low-of (L .has .counts), L .bounds .low-ng) }
+to-ten : (c : tie.At-loop Inv-loop μ-loop) → c .loop .g ≤ 10
+to-ten c = let L = start c .pre .0 .lent in omega (arith, c .loop .inv .1, ng-of (L .has .counts), L .bounds .ng-to)
 
-cast-t20 : tie.Need-cast-t20
-cast-t20 c =
-    let s = c .before .before .before .before .before .before in
-    let car = s .pre .0 .car in
-    let L = s .pre .0 .lent in
-    omega (arith, only c car L, choose-to car (here s car) (s .args .v) (s .args .d), L .bounds .ng-to)
+-- it fits
+fit : (c : tie.Then1 Inv-loop μ-loop) → let s = start (asked c) in (car : Vehicle) → Of s car → fits car (here s car) (s .args .v) (asked c .loop .g) ≡ true
+fit c car L = sym (c .before .fits-later .ensures car (L .has)) ∙ c .if1 .taken
 
-returns-2 : tie.Need-returns-2
-returns-2 c =
-    let s = c .before .before .before .before .before .before .before in
-    let r = c .before .before .before .before .before in (
-      λ car L. choice-past L (here s car) (s .args .v) _ (s .args .d) (none r car L) (omega (arith, r .reached .ensures .to, ng-of (L .has .counts))) (rw (c .before .top .ensures, c .before .before .before .before .engine .ensures) at (c .if2 .taken)),
-      hints r (s .pre .2 .near),
-    )
+-- so it is within nmax
+turns : (c : tie.Then1 Inv-loop μ-loop) → let s = start (asked c) in Turning (s .args .k) (s .args .ratio .now) (s .args .v) (asked c .loop .g)
+turns c = let s = start (asked c) in let L = s .pre .0 .lent in turning-of (L .has) (here s (s .pre .0 .car)) (s .args .v) _ (in-gear (asked c)) (fit c (s .pre .0 .car) L)
 
-required-requires : tie.Need-required-requires
+-- with too little power it has been tried
+weak : (c : tie.After-stronger Inv-loop μ-loop) → let t = fitted c in let s = start (asked t) in (car : Vehicle) → Of s car
+    → Tried car (here s car) (s .args .v) (D s) (asked t .loop .g - 1) (c .stronger .result)
+weak c car L =
+    let p : tie.After-power-at Inv-loop μ-loop = search in
+    let t = fitted c in
+    let s = start (asked t) in
+    let a = asked t in
+    let q = p .power-at .ensures car L in
+    tried-weak (a .loop .inv .3 car L) (in-gear a .from) (L .bounds) (omega (arith, a .loop .inv .1, ng-of (L .has .counts))) (p .power-at .result) (fit t car L) q
+    (suits-power car (here s car) (s .args .v) (D s) _ (p .power-at .result) (load (a .before .before) car (L .has .counts)) (fit t car L) q (sym (c .before .before .enough .ensures) ∙ c .before .if3 .left))
+    (turning-more L (s .args .v) _ (turning-of (L .has) (here s car) (s .args .v) _ (in-gear a) (fit t car L))) (c .stronger .ensures)
+
+-- after a turn the gears from `g` on have been tried
+tried : (c : tie.Joined1 Inv-loop μ-loop) → let a = c .before .before in let s = start a in
+    (c .if1 .s + 1 < s .args .k .points) × ((car : Vehicle) → Of s car → Tried car (here s car) (s .args .v) (D s) (a .loop .g - 1) (c .if1 .best))
+tried c =
+    let a = c .before .before in
+    let s = start a in
+    ⊎-elim
+    (λ w.
+    let t : tie.Then1 Inv-loop μ-loop = record { before = c .before; if1 = w .0 } in
+    let g : tie.After-segment-at Inv-loop μ-loop = record { before = record { before = t; if2 = w .1 }; segment-at = w .2 } in
+    let all : tie.After-stronger Inv-loop μ-loop = record { before = record { before = record { before = record { before = g; power-at = w .3 }; enough = w .4 }; if3 = w .5 }; stronger = w .6 } in
+    (rw (w .8) (turned-next (s .pre .0 .lent) _ _ (turns t) (w .2 .ensures)), λ car L. rw (w .7) (weak all car L)))
+    (λ w. (rw (w .2) (a .loop .inv .2), λ car L. rw (w .1) (tried-unfit (a .loop .inv .3 car L) (in-gear a .from) (sym (c .before .fits-later .ensures car (L .has)) ∙ w .0 .left))))
+    (c .if1 .came)
+
+-- what the loop yields is the rules' choice
+chosen : (c : tie.Joined1-2 Inv-loop μ-loop) → let s = start (c .before .before) in
+    (c .if1 .s + 1 < s .args .k .points) × ((car : Vehicle) → Of s car → c .if1 .gear ≡ choose car (here s car) (s .args .v) (D s))
+chosen c =
+    let a = c .before .before in
+    let s = start a in
+    ⊎-elim
+    (λ w.
+    let t : tie.Then1 Inv-loop μ-loop = record { before = c .before; if1 = w .0 } in (
+      rw (w .2) (a .loop .inv .2),
+      λ car L. w .3
+          ∙ tried-suits (a .loop .inv .3 car L) (in-gear a .from) (suits-none L (here s car) (s .args .v) _ (D s) (in-gear a) (load (a .before .before) car (L .has .counts)) (fit t car L) (w .1 .taken)),
+    ))
+    (⊎-elim
+    (λ w.
+    let t : tie.Then1 Inv-loop μ-loop = record { before = c .before; if1 = w .0 } in (
+      rw (w .6) (turned-next (s .pre .0 .lent) _ _ (turns t) (w .2 .ensures)),
+      λ car L. w .7
+          ∙ tried-suits (a .loop .inv .3 car L) (in-gear a .from)
+          (suits-power car (here s car) (s .args .v) (D s) _ (w .3 .result) (load (a .before .before) car (L .has .counts)) (fit t car L) (w .3 .ensures car L) (sym (w .4 .ensures) ∙ w .5 .taken)),
+    ))
+    (λ w.
+    let j : tie.Joined1 Inv-loop μ-loop = record { before = c .before; if1 = w .0 } in (
+      rw (w .2) (s .pre .2),
+      λ car L. w .3 ∙ tried-all (tried j .1 car L) (omega (arith, w .1 .taken, a .before .before .before .lowest .ensures, low-of (L .has .counts))),
+    )))
+    (c .if1 .came)
+
+required-requires : tie.Need-required-requires Inv-loop μ-loop
 required-requires c κs =
-    let s = c .before .before .before .before .before .before .before in
+    let s = c .before in
     let L = s .pre .0 .lent in
     rw (toZ-ofZ (s .fits .d)) (record {
       f0-to = omega (arith, f0-of (L .has .counts), L .bounds .f0-to);
@@ -105,61 +132,55 @@ required-requires c κs =
       d-in = s .pre .1 .d-in;
     })
 
-returns-3 : tie.Need-returns-3
-returns-3 c =
-    let s = c .before .before .before .before .before .before .before .before .before in
-    let r = c .before .before .before .before .before .before .before in (
-      λ car L.
-          for-suiting car (here s car) (s .args .v) _ (in-gear r .from) (omega (arith, r .reached .ensures .to, ng-of (L .has .counts)))
-          (suits-none L (here s car) (s .args .v) _ (in-gear r) _ (fit (c .before .before) car L) (c .if3 .taken))
-          (none-suit car (here s car) (s .args .v) _ (none r car L))
-          ∙ choice-for car (here s car) (s .args .v) (s .args .d) (load (c .before) car (L .has .counts)),
-      hints r (s .pre .2 .near),
-    )
+loop-holds : tie.Need-loop-holds Inv-loop μ-loop
+loop-holds c =
+    let s = c .before .before .before in
+    let L = s .pre .0 .lent in
+    (omega (arith, low-of (L .has .counts), ng-of (L .has .counts), L .bounds .low-ng), omega arith, s .pre .2, λ car L. rw (← ng-of (L .has .counts)) (tried-none car (here s car) (s .args .v) (D s) _ refl refl))
 
-segment-at-requires : tie.Need-segment-at-requires
+fits-later-requires : tie.Need-fits-later-requires Inv-loop μ-loop
+fits-later-requires c κs =
+    let L = start c .pre .0 .lent in
+    (record { from = in-gear c .from; to = to-ten c }, c .loop .inv .0, omega (arith, idle-of (L .has .counts), rated-of (L .has .counts), L .bounds .rated-from))
+
+segment-at-requires : tie.Need-segment-at-requires Inv-loop μ-loop
 segment-at-requires c κs =
-    let s = c .before .before .before .before .before .before .before .before .before in
-    let r = c .before .before .before .before .before .before .before in
-    (record { from = in-gear r .from; to = to-ten r }, turned-curve (s .pre .0 .lent) _ _ (turns (c .before .before)), s .pre .2 .near)
+    let a = asked (c .before) in
+    (record { from = in-gear a .from; to = to-ten a }, turned-curve (start a .pre .0 .lent) _ _ (turns (c .before)), a .loop .inv .2)
 
-power-at-requires : tie.Need-power-at-requires
-power-at-requires c κs = (c .before .before .before .before .before .before .before .before .before .before .pre .0, turns (c .before .before .before), c .segment-at .ensures)
+enough-requires : tie.Need-enough-requires Inv-loop μ-loop
+enough-requires c κs =
+    let t : tie.Then1 Inv-loop μ-loop = search in
+    let s = start (asked t) in
+    record { sized = sized-of (s .pre .0 .lent) _ _ (turns t) (c .power-at .result) (c .power-at .ensures (s .pre .0 .car) (s .pre .0 .lent)); e-in = load-in (asked t .before .before) }
 
-choose-from-requires : tie.Need-choose-from-requires
-choose-from-requires c κs =
-    let s = c .before .before .before .before .before .before .before .before .before .before .before in
-    let r = c .before .before .before .before .before .before .before .before .before in (
-      s .pre .0,
-      load-in (c .before .before .before),
-      turned-next (s .pre .0 .lent) _ _ (turns (c .before .before .before .before)) (c .before .segment-at .ensures),
-      record { from = r .reached .ensures .from; to = r .reached .ensures .to },
-      λ car L. (
-        record {
-          to = omega (arith, r .reached .ensures .to, ng-of (L .has .counts));
-          fitting = fit (c .before .before .before .before) car L;
-          its-power = c .power-at .ensures car L;
-          none-above = none r car L;
-        },
-        in-reach L (s .args .v) (c .before .before .before .before .before .before .before .before .before .before .shared-least .ensures car (L .has .counts)) (r .reached .ensures),
-      ),
-    )
+stronger-requires : tie.Need-stronger-requires Inv-loop μ-loop
+stronger-requires c κs =
+    let p : tie.After-power-at Inv-loop μ-loop = search in
+    let t : tie.Then1 Inv-loop μ-loop = search in
+    let s = start (asked t) in
+    let L = s .pre .0 .lent in
+    (best-sized (asked t .loop .inv .3 (s .pre .0 .car) L) L, sized-of L _ _ (turns t) (p .power-at .result) (p .power-at .ensures (s .pre .0 .car) L))
 
-cast-t24 : tie.Need-cast-t24
-cast-t24 c =
-    let s = c .before .before .before .before .before .before .before .before .before .before .before .before in
+loop-again : tie.Need-loop-again Inv-loop μ-loop
+loop-again c =
+    let a = c .before .before .before in
+    let w = c .if4 .left in
+    (omega (arith, w, a .before .before .before .lowest .ensures), omega (arith, a .loop .inv .1), tried (c .before) .0, tried (c .before) .1)
+
+cast-t23 : tie.Need-cast-t23 Inv-loop μ-loop
+cast-t23 c =
+    let s = start (c .before .before .before) in
     let car = s .pre .0 .car in
     let L = s .pre .0 .lent in
-    omega (arith, searched c car L, choose-to car (here s car) (s .args .v) (s .args .d), L .bounds .ng-to)
+    omega (arith, chosen (c .before) .1 car L, choose-to car (here s car) (s .args .v) (D s), L .bounds .ng-to)
 
-returns-4 : tie.Need-returns-4
-returns-4 c = (searched c, hints (c .before .before .before .before .before .before .before .before .before .before) (turned-next (c .before .before .before .before .before .before .before .before .before .before .before .before .pre .0 .lent) _ _ (turns (c .before .before .before .before .before)) (c .before .before .segment-at .ensures)))
+returns : tie.Need-returns Inv-loop μ-loop
+returns c = let s = start (c .before .before .before) in (λ car L. rw (toZ-ofZ (s .fits .d)) at (chosen (c .before) .1 car L), chosen (c .before) .0)
 
 pub choose-spec : {M : Type 1} → statement M
 choose-spec =
-    let answers = tie.spec (λ c κs. let L = c .pre .0 .lent in omega (arith, idle-of (L .has .counts), rated-of (L .has .counts), L .bounds .rated-from))
-    (λ c κs. let s = c .before in let h = s .pre .2 in (falling-of (s .pre .0 .lent) (s .args .v), record { from = h .from; to = h .to })) (λ c κs. record { from = in-gear c .from; to = to-ten c })
-    (λ c κs. search needs) only-lowest-requires cast-t20 (λ c. (only c, hints (c .before .before .before .before) (c .before .before .before .before .before .before .pre .2 .near)))
-    (λ c κs. search needs) returns-2 required-requires (λ c. omega (arith, to-ten (c .before .before .before .before .before .before .before))) returns-3 segment-at-requires power-at-requires
-    choose-from-requires cast-t24 returns-4 in
+    let answers = tie.spec Inv-loop μ-loop (λ c κs. search needs) required-requires (λ c. search needs) loop-holds fits-later-requires segment-at-requires
+    (λ c κs. let t : tie.Then1 Inv-loop μ-loop = search in (start (asked t) .pre .0, turns t, c .segment-at .ensures)) enough-requires stronger-requires
+    (λ c. let a = c .before .before .before in omega (arith, a .loop .inv .0)) (λ c. let a = c .before .before .before in omega (arith, a .loop .inv .0)) loop-again cast-t23 returns in
     tie.close answers

@@ -1,5 +1,5 @@
 -- `trips::byte::bytes` meets its contract. The loop's invariant: the slice holds bytes up to second j, and gears from it on.
-use Rattle.rules.proofs.Offered.{ℕ, _≤_, _-_, _≡_, refl, sym, ap, _∙_, arith, le-refl, length, length-set, at, pass, pass-later, byte}
+use Rattle.rules.proofs.Offered.{ℕ, _≤_, _-_, _≡_, refl, ap, _∙_, arith, le-refl, length, length-set, at, pass, pass-later, byte}
 use Rattle.rules.specs.declared.Vehicle.{Vehicle}
 use Rattle.gears.specs.Parts.{Has}
 use Rattle.gears.proofs.Parts.{built, built-has}

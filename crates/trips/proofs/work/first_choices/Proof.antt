@@ -1,5 +1,5 @@
 -- `trips::work::first_choices` meets its contract: from the trip's first second on, or from a later one.
-use Rattle.rules.proofs.Offered.{ℕ, arith, _≡_, refl, sym, ap, _∙_, true, needs, length, set, length-set, getD-set-same, pass, rise, and-no}
+use Rattle.rules.proofs.Offered.{ℕ, arith, _≡_, refl, sym, ap, _∙_, true, needs, length, length-set, getD-set-same, pass, rise, and-no}
 use Rattle.trips.specs.Trip.{on-way}
 use Rattle.trips.proofs.Passes.{pass-start, pass-more}
 use Rattle.trips.proofs.Seconds.{no-and}
