@@ -3,7 +3,6 @@ pub mod Steps
 pub mod GroupAnswers
 pub mod StageAnswers
 pub mod Loops
-pub mod Calmness
 pub mod WholeJob
 pub mod Rooms
 pub mod PutInTurn

@@ -1,7 +1,7 @@
 -- The reader's loops. The invariant says that what is left to read, from here, is what was asked; the laws are the loop's ways on.
 use Rattle.rules.proofs.Offered.{ℕ, suc, _+_, _-_, _/_, _<_, _≤_, add-one, arith, _≡_, sym, _∙_, true, List, [], _∷_, leb, ltb, length, set, sets, Fault, _and_, within, at, Read, got, refused, hand-on, _>>=_, _>>_, give, demand, group, Form, value, checked, _then_, row-read, row, many, hold, put, says-now, value-sound, HoldFits, takes-hold, hold-sound}
 use Prim.{Unit, tt}
-use Rattle.reading.specs.Progress.{holds-from, hold-row, Comes, Short, used}
+use Rattle.reading.specs.Progress.{hold-row, Comes, Short, used}
 use Rattle.reading.proofs.Steps.{joined, went, passed, use-as-is, many-length}
 use Rattle.reading.proofs.GroupAnswers.{first-there, gear-inside, gear-first}
 use Rattle.reading.proofs.StageAnswers.{all-filled}
@@ -79,15 +79,8 @@ filled-all job room i e = e ∙ use-as-is (many value (length room)) job i (λ l
 abbrev pub Holds : {B : Type 0} → ℕ → List ℕ → ℕ → ℕ → ℕ → ℕ → (List (ℕ × ℕ) → B) → Read B → Type 0
 Holds count job k i next place keep R = Row (hold count) (λ next h. suc (h .0)) job k i next place keep R
 
-pub holds-begin : {B : Type 0} (count : ℕ) (job : List ℕ) (k from place : ℕ) (keep : List (ℕ × ℕ) → B)
-    → Holds count job k 0 from place keep (used keep (holds-from count from k) job place)
-holds-begin count job k from place keep = row-begins (hold count) (λ next h. suc (h .0)) job k from place keep
-
--- what is left of them is holds from the next second on
-pub holds-left : {B : Type 0} (count : ℕ) {job : List ℕ} {k i next place : ℕ} {keep : List (ℕ × ℕ) → B} {R : Read B}
-    → Holds count job k i next place keep R → used keep (holds-from count next (k - i)) job place ≡ R
-unfolding used row
-holds-left count p = p .left
+pub holds-begin : {B : Type 0} (count : ℕ) (job : List ℕ) (k place : ℕ) (keep : List (ℕ × ℕ) → B) → Holds count job k 0 0 place keep (used keep (hold-row count k) job place)
+holds-begin count job k place keep = row-begins (hold count) (λ next h. suc (h .0)) job k 0 place keep
 
 -- a hold that comes: its second and its gear do, one after the other, and are in their bounds
 module _ (job : List ℕ) (count next i : ℕ) where
@@ -132,7 +125,7 @@ pub record Putting (count : ℕ) (job : List ℕ) (k i place : ℕ) (room : List
 pub put-begins : (count : ℕ) (job : List ℕ) (k place : ℕ) (room : List ℕ) → Comes (hold-row count k .read job place) → count ≤ 16384
     → Putting count job k 0 place room (used (λ hs. put hs room) (hold-row count k) job place)
 put-begins count job k place room c f =
-    record { next = 0; left = holds-begin count job k 0 place (λ hs. put hs room); all = used-comes (λ hs. put hs room) (hold-row count k) job place c; few = f }
+    record { next = 0; left = holds-begin count job k place (λ hs. put hs room); all = used-comes (λ hs. put hs room) (hold-row count k) job place c; few = f }
 
 module _ {count : ℕ} {job : List ℕ} {k i place : ℕ} {room : List ℕ} {R : Read (List ℕ)} (p : Putting count job k i place room R) where
   pub put-ends : k ≤ i → got room place ≡ R

@@ -1,5 +1,4 @@
 -- What the reader promises, and what the functions inside it answer.
 pub mod Reader
 pub mod Progress
-pub mod Calm
 pub mod Lent

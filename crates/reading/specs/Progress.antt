@@ -58,12 +58,9 @@ nothing a = record { answer = a; version = 0; vehicle = blank; count = 0 }
 
 -- ---- what is made of what was read
 
--- second and gear for each of k holds, seconds rising from next on; and from 0 on
-abbrev pub holds-from : ℕ → ℕ → ℕ → Form (List (ℕ × ℕ))
-holds-from count next k = row (hold count) (λ next h. suc (h .0)) next k
-
+-- second and gear for each of k holds, seconds rising from 0 on
 abbrev pub hold-row : ℕ → ℕ → Form (List (ℕ × ℕ))
-hold-row count k = holds-from count 0 k
+hold-row count k = row (hold count) (λ next h. suc (h .0)) 0 k
 
 -- what is read of a part, put to use
 unfoldable pub used : {A B : Type 0} → (A → B) → Form A → List ℕ → Reader B

@@ -10,11 +10,10 @@ use crate::Brief;
 use crate::Came;
 use crate::Group;
 use crate::Judged;
-use crate::calm::calm_end;
 use rules::Refusal;
 
 // A byte of the job.
-pub fn byte_at(job: &[u8], i: usize) -> usize
+fn byte_at(job: &[u8], i: usize) -> usize
     requires { ⌜ i < length (now job) ⌝ }
     ensures { λ r. ⌜ ByteAt (now (job .entry)) i r ⌝ }
 {
@@ -96,8 +95,8 @@ pub fn fill(job: &[u8], at: usize, count: usize, values: &mut [u16]) -> Came
     Came::To(next)
 }
 
-// So many groups, judged and not kept.
-fn skip(job: &[u8], at: usize, count: usize) -> Came
+// So many speeds, judged and not kept.
+pub fn judge_speeds(job: &[u8], at: usize, count: usize) -> Came
     ensures { λ r. ⌜ reached r true ≡ used (λ vs. true) (many value count) (now (job .entry)) at ⌝ }
 {
     let mut next = at;
@@ -111,18 +110,6 @@ fn skip(job: &[u8], at: usize, count: usize) -> Came
         i += 1;
     }
     Came::To(next)
-}
-
-// So many speeds, judged and not kept: by their bytes, and one after the other where that does not do.
-pub fn judge_speeds(job: &[u8], at: usize, count: usize) -> Came
-    requires { ⌜ (1 ≤ count) × (count ≤ 65535) ⌝ }
-    ensures { λ r. ⌜ reached r true ≡ used (λ vs. true) (many value count) (now (job .entry)) at ⌝ }
-{
-    let end = calm_end(job, at, count);
-    if end == 0 {
-        return skip(job, at, count);
-    }
-    Came::To(end)
 }
 
 // A group that was judged, so nothing is left to test but how long it is.

@@ -2,22 +2,21 @@
 ghost use Rattle.rules.specs.Words.{_≡_, true, _≤_, length, replicate};
 ghost use Rattle.rules.specs.Groups.{got};
 ghost use Rattle.rules.specs.Job.{put};
-ghost use Rattle.reading.specs.Progress.{holds-from, hold-row, reached, Comes, used};
+ghost use Rattle.reading.specs.Progress.{hold-row, reached, Comes, used};
 use crate::Came;
 use crate::Group;
-use crate::calm_holds::calm_hold;
 use crate::groups::bounded;
 use crate::groups::short_at;
 use rules::Refusal;
 
-// So many holds, judged and not kept: each second from `from` on, rising and before `count`, judged before its gear is read.
-fn judge_each(job: &[u8], at: usize, holds: usize, from: u16, count: u16) -> Came
+// So many holds, judged and not kept: each second rising and before `count`, judged before its gear is read.
+pub fn judge_holds(job: &[u8], at: usize, holds: usize, count: u16) -> Came
     requires { ⌜ 1 ≤ count ⌝ }
-    ensures { λ r. ⌜ reached r true ≡ used (λ hs. true) (holds-from count from holds) (now (job .entry)) at ⌝ }
+    ensures { λ r. ⌜ reached r true ≡ used (λ hs. true) (hold-row count holds) (now (job .entry)) at ⌝ }
 {
     let last = count - 1;
     let mut place = at;
-    let mut next = from;
+    let mut next: u16 = 0;
     let mut i = 0;
     while i < holds {
         let s = bounded(job, place, next, last, Refusal::BadHold(place));
@@ -30,26 +29,6 @@ fn judge_each(job: &[u8], at: usize, holds: usize, from: u16, count: u16) -> Cam
         };
         place = after;
         next = second + 1;
-        i += 1;
-    }
-    Came::To(place)
-}
-
-// The same from second 0 on, with few tests as long as they do; from the first hold on with which they do not, each is judged.
-pub fn judge_holds(job: &[u8], at: usize, holds: usize, count: u16) -> Came
-    requires { ⌜ (1 ≤ count) × (count ≤ 16384) ⌝ }
-    ensures { λ r. ⌜ reached r true ≡ used (λ hs. true) (hold-row count holds) (now (job .entry)) at ⌝ }
-{
-    let mut place = at;
-    let mut next: usize = 0;
-    let mut i = 0;
-    while i < holds {
-        let calm = calm_hold(job, place, next, count as usize);
-        if calm.next == 0 {
-            return judge_each(job, place, holds - i, next as u16, count);
-        }
-        place = calm.next;
-        next = calm.value + 1;
         i += 1;
     }
     Came::To(place)

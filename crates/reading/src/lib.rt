@@ -3,8 +3,6 @@ ghost use mathlib.Core.Path.{_≡_};
 ghost use Rattle.reading.specs.Reader.{ReadAs};
 ghost use Rattle.reading.specs.Progress.{group-came, came-answer, nothing};
 
-mod calm;
-mod calm_holds;
 mod groups;
 mod holds;
 mod vehicle;
@@ -40,7 +38,7 @@ struct Judged {
     next: usize,
 }
 
-// The same of a group in one or two bytes, or of a hold.
+// The same of a group in one or two bytes.
 struct Brief {
     value: usize,
     next: usize,

@@ -155,7 +155,7 @@ read-spec =
     let answers = tie.spec (λ c κs. search needs) (λ c. search needs) (λ c. search needs) (λ c κs. search needs) returns
     (λ c. search needs) (λ c κs. search needs) (λ c. search needs) (λ c. search needs) (λ c κs. search needs)
     (λ c κs. search needs) returns-2 (λ c. search needs) (λ c κs. search needs) returns-3 (λ c κs. search needs)
-    returns-4 (λ c κs. let b = some (c .before .before .before) in omega (arith, b)) (λ c. search needs) (λ c. search needs) (λ c κs. search needs) returns-5
+    returns-4 (λ c κs. search needs) (λ c. search needs) (λ c. search needs) (λ c κs. search needs) returns-5
     (λ c κs. search needs) (λ c. search needs) (λ c. search needs) (λ c κs. search needs) (λ c κs. search needs)
     returns-6 (λ c. search needs) (λ c κs. let at-known-told3 : tie.After-known-told3 = search in let else2 : tie.Else2 = search in let at-seconds : tie.After-seconds = search in let b = some at-seconds in omega (arith, b)) (λ c. search needs) (λ c. search needs) (λ c κs. search needs)
     returns-7 (λ c κs. search needs) returns-8 (λ c. search needs) (λ c. sym (length-take-le _ _ (omega arith)))
