@@ -7,11 +7,9 @@ use Rattle.reading.specs.declared.Reading.{Reading}
 use Rattle.reading.specs.Reader.{reading, ReadAs}
 use Rattle.reading.proofs.Demands as reading-says
 use Rattle.reading.proofs.Contracts.{read-beyond}
-use Rattle.writing.specs.declared.Written as written
 use Rattle.writing.specs.Writing.{WriteAs}
 use Rattle.writing.proofs.Demands as writing-says
 use Rattle.writing.proofs.Contracts.{write-beyond}
-use Rattle.summaries.specs.declared.Counted as counted
 use Rattle.summaries.proofs.Demands.{CountedOf, nine-whole}
 use Rattle.cycles.specs.Cycle.{cycle}
 use Rattle.cycles.specs.Parts.{fill-fault, fill-room}
@@ -29,17 +27,17 @@ use Rattle.reasons.specs.Says.{Shows}
 use Rattle.reasons.proofs.Contracts.{why-told}
 use Rattle.reasons.proofs.Theorems.{why-is-the-card}
 use Rattle.capi.specs.declared.Verdict.{Verdict}
-use Rattle.capi.specs.declared.Job.{Job}
-use Rattle.capi.specs.declared.Written.{Written}
-use Rattle.capi.specs.declared.Counted.{Counted}
-use Rattle.capi.specs.declared.Coefficients.{Coefficients}
-use Rattle.capi.specs.declared.Why as explained
+use Rattle.capi.specs.declared.JobAnswer.{JobAnswer}
+use Rattle.capi.specs.declared.WriteAnswer.{WriteAnswer}
+use Rattle.capi.specs.declared.SummaryAnswer.{SummaryAnswer}
+use Rattle.capi.specs.declared.ExportAnswer.{ExportAnswer}
+use Rattle.capi.specs.declared.WhyAnswer.{WhyAnswer}
 use Rattle.capi.specs.Verdicts.{as-verdict, JobRead, JobWritten, ExportRead}
 use Rattle.capi.proofs.Demands.{number-0, some-refusal}
 
 -- ---- the reader
 
-module _ {job speeds holds : List ℕ} {r : Job} {speeds′ holds′ : List ℕ} (R : JobRead job speeds holds r speeds′ holds′) where
+module _ {job speeds holds : List ℕ} {r : JobAnswer} {speeds′ holds′ : List ℕ} (R : JobRead job speeds holds r speeds′ holds′) where
   pub as-read : ReadAs job speeds holds (record { answer = job-told job (length speeds) (length holds) .answer; version = r .version; vehicle = r .vehicle; count = r .count }) speeds′ holds′
   unfolding reading
   as-read = record {
@@ -64,7 +62,7 @@ module _ {job speeds holds : List ℕ} {r : Job} {speeds′ holds′ : List ℕ}
 
 -- ---- the writer
 
-module _ {v : ℕ} {car : Vehicle} {vs hs room : List ℕ} {r : Written} {room′ : List ℕ} (W : JobWritten v car vs hs room r room′) where
+module _ {v : ℕ} {car : Vehicle} {vs hs room : List ℕ} {r : WriteAnswer} {room′ : List ℕ} (W : JobWritten v car vs hs room r room′) where
   pub as-written : WriteAs v car vs hs room (record { answer = write-told v car vs hs room .answer; length = r .length }) room′
   as-written = record { answered = write-told v car vs hs room .says; the-length = W .the-length; room-left = W .room-left }
 
@@ -82,11 +80,11 @@ module _ {v : ℕ} {car : Vehicle} {vs hs room : List ℕ} {r : Written} {room�
 -- ---- the summary of a card
 
 -- what the contract says
-pub record CCounted (vs bs : List ℕ) (r : Counted) : Type 0 where
+pub record CCounted (vs bs : List ℕ) (r : SummaryAnswer) : Type 0 where
   pub answer : r .verdict ≡ as-verdict (summary-fault vs bs)
   pub summary-told : r .summary ≡ counted-summary vs bs
 
-module _ {vs bs : List ℕ} {r : Counted} (C : CCounted vs bs r) where
+module _ {vs bs : List ℕ} {r : SummaryAnswer} (C : CCounted vs bs r) where
   pub as-counted : CountedOf vs bs (record { answer = summary-told vs bs .answer; summary = r .summary })
   as-counted = record { answer = summary-told vs bs .says; summary-told = C .summary-told }
 
@@ -141,7 +139,7 @@ module _ {factor : ℕ} {room : List ℕ} {z : Verdict} {room′ : List ℕ} (S 
 
 -- ---- the export
 
-module _ {bytes : List ℕ} {r : Coefficients} (E : ExportRead bytes r) where
+module _ {bytes : List ℕ} {r : ExportAnswer} (E : ExportRead bytes r) where
   pub as-export : ExportAs bytes (record { answer = export-told bytes .answer; f0 = r .f0; f1 = r .f1; f2 = r .f2; tm = r .tm })
   as-export = record { answered = export-told bytes .says; the-f0 = E .the-f0; the-f1 = E .the-f1; the-f2 = E .the-f2; the-tm = E .the-tm }
 
@@ -155,11 +153,11 @@ module _ {bytes : List ℕ} {r : Coefficients} (E : ExportRead bytes r) where
 -- ---- the reasons of a second
 
 -- what the contract says
-pub record CWhy (car : Vehicle) (vs hs : List ℕ) (s : ℕ) (r : explained.Why) : Type 0 where
+pub record CWhy (car : Vehicle) (vs hs : List ℕ) (s : ℕ) (r : WhyAnswer) : Type 0 where
   pub answer : r .verdict ≡ as-verdict (why-fault car vs hs s)
   pub reasons-told : r .reasons ≡ why car vs hs s
 
-module _ {car : Vehicle} {vs hs : List ℕ} {s : ℕ} {r : explained.Why} (W : CWhy car vs hs s r) where
+module _ {car : Vehicle} {vs hs : List ℕ} {s : ℕ} {r : WhyAnswer} (W : CWhy car vs hs s r) where
   pub why-number-0 : (r .verdict .number ≡ 0) ↔ (why-fault car vs hs s ≡ none)
   why-number-0 = rw (W .answer) (number-0 _ (why-told car vs hs s))
 

@@ -8,9 +8,9 @@ use Rattle.rules.specs.Job.{job-read, read-fault, job-of, filled}
 use Rattle.rules.specs.Write.{job-bytes, write-fault, write-room}
 use Rattle.exports.specs.Export.{export-read, numbers-of}
 use Rattle.capi.specs.declared.Verdict.{Verdict}
-use Rattle.capi.specs.declared.Job as answered
-use Rattle.capi.specs.declared.Written.{Written}
-use Rattle.capi.specs.declared.Coefficients.{Coefficients}
+use Rattle.capi.specs.declared.JobAnswer.{JobAnswer}
+use Rattle.capi.specs.declared.WriteAnswer.{WriteAnswer}
+use Rattle.capi.specs.declared.ExportAnswer.{ExportAnswer}
 
 -- a refusal as a C caller is told it
 unfoldable pub as-verdict : Option Fault → Verdict
@@ -28,7 +28,7 @@ says-told Done f e = ap as-verdict e
 says-told (Refused r) f e = ap as-verdict e
 
 -- the answer r, and the rooms as they are left, are what is read
-pub record JobRead (job speeds holds : List ℕ) (r : answered.Job) (speeds′ holds′ : List ℕ) : Type 0 where
+pub record JobRead (job speeds holds : List ℕ) (r : JobAnswer) (speeds′ holds′ : List ℕ) : Type 0 where
   pub answered : r .verdict ≡ as-verdict (read-fault (job-read job (length speeds) (length holds)))
   pub the-version : r .version ≡ job-of (job-read job (length speeds) (length holds)) .version
   pub the-vehicle : r .vehicle ≡ job-of (job-read job (length speeds) (length holds)) .vehicle
@@ -37,13 +37,13 @@ pub record JobRead (job speeds holds : List ℕ) (r : answered.Job) (speeds′ h
   pub holds-left : holds′ ≡ filled holds (job-of (job-read job (length speeds) (length holds)) .holds)
 
 -- the answer r, and the room as it is left, are what is written
-pub record JobWritten (v : ℕ) (car : Vehicle) (vs hs room : List ℕ) (r : Written) (room′ : List ℕ) : Type 0 where
+pub record JobWritten (v : ℕ) (car : Vehicle) (vs hs room : List ℕ) (r : WriteAnswer) (room′ : List ℕ) : Type 0 where
   pub answered : r .verdict ≡ as-verdict (write-fault v car vs hs room)
   pub the-length : r .length ≡ left (write-fault v car vs hs room) 0 (length (job-bytes v car vs hs))
   pub room-left : room′ ≡ write-room v car vs hs room
 
 -- the answer r is what is read of the export; all 0 where it is refused
-pub record ExportRead (bytes : List ℕ) (r : Coefficients) : Type 0 where
+pub record ExportRead (bytes : List ℕ) (r : ExportAnswer) : Type 0 where
   pub answered : r .verdict ≡ as-verdict (read-fault (export-read bytes 0))
   pub the-f0 : pos (r .f0) ≡ numbers-of (export-read bytes 0) .f0
   pub the-f1 : r .f1 ≡ numbers-of (export-read bytes 0) .f1

@@ -24,7 +24,7 @@ pub struct Verdict {
 
 // What the reader answers: where it refuses, the version is 0, the vehicle all zeros and the count 0.
 #[repr(C)]
-pub struct Job {
+pub struct JobAnswer {
     pub verdict: Verdict,
     pub version: u16,
     pub vehicle: Vehicle,
@@ -33,28 +33,28 @@ pub struct Job {
 
 // What an edit answers: the summary as it is then, where it refuses the one it was given.
 #[repr(C)]
-pub struct Counted {
+pub struct SummaryAnswer {
     pub verdict: Verdict,
     pub summary: Summary,
 }
 
 // What the writer answers: how many bytes it wrote, 0 where it refuses.
 #[repr(C)]
-pub struct Written {
+pub struct WriteAnswer {
     pub verdict: Verdict,
     pub length: usize,
 }
 
 // What is said of one second, with the verdict.
 #[repr(C)]
-pub struct Why {
+pub struct WhyAnswer {
     pub verdict: Verdict,
     pub reasons: Reasons,
 }
 
 // What the export reader answers: where it refuses, all are 0.
 #[repr(C)]
-pub struct Coefficients {
+pub struct ExportAnswer {
     pub verdict: Verdict,
     pub f0: u16,
     pub f1: i32,
@@ -71,26 +71,26 @@ fn verdict_of(answer: Answer) -> Verdict
     }
 }
 
-fn counted_of(counted: summaries::Counted) -> Counted
+fn counted_of(counted: summaries::Summarized) -> SummaryAnswer
     ensures verdict { λ r. ⌜ r .verdict ≡ says (counted .answer) ⌝ }
     ensures summary { λ r. ⌜ r .summary ≡ counted .summary ⌝ }
 {
     let told = counted.answer;
     let summary = counted.summary;
     let verdict = verdict_of(told);
-    Counted { verdict, summary }
+    SummaryAnswer { verdict, summary }
 }
 
 // Reads a job into the start of the lent rooms.
 #[no_mangle]
-pub extern "C" fn gearcard_read(job: &[u8], speeds: &mut [u16], holds: &mut [u8]) -> Job
+pub extern "C" fn gearcard_read(job: &[u8], speeds: &mut [u16], holds: &mut [u8]) -> JobAnswer
     ensures { λ r. ⌜ JobRead (now (job .entry)) (now (speeds .entry)) (now (holds .entry)) r (now (speeds .exit)) (now (holds .exit)) ⌝ }
 {
     let reading = reading::read(job, speeds, holds);
     let answer = reading.answer;
     let vehicle = reading.vehicle;
     let verdict = verdict_of(answer);
-    Job {
+    JobAnswer {
         verdict: verdict,
         version: reading.version,
         vehicle: vehicle,
@@ -106,13 +106,13 @@ pub extern "C" fn gearcard_write<'a>(
     speeds: &'a [u16],
     holds: &'a [u8],
     room: &mut [u8],
-) -> Written
+) -> WriteAnswer
     ensures { λ r. ⌜ JobWritten version vehicle (now (speeds .entry)) (now (holds .entry)) (now (room .entry)) r (now (room .exit)) ⌝ }
 {
     let written = writing::write(version, vehicle, speeds, holds, room);
     let said = written.answer;
     let verdict = verdict_of(said);
-    Written {
+    WriteAnswer {
         verdict,
         length: written.length,
     }
@@ -135,7 +135,7 @@ pub extern "C" fn gearcard_work<'a>(
 
 // Counts the whole card.
 #[no_mangle]
-pub extern "C" fn gearcard_summary_of<'a>(speeds: &'a [u16], card: &'a [u8]) -> Counted
+pub extern "C" fn gearcard_summary_of<'a>(speeds: &'a [u16], card: &'a [u8]) -> SummaryAnswer
     ensures answer { λ r. ⌜ r .verdict ≡ as-verdict (summary-fault (now (speeds .entry)) (now (card .entry))) ⌝ }
     ensures summary { λ r. ⌜ r .summary ≡ counted-summary (now (speeds .entry)) (now (card .entry)) ⌝ }
 {
@@ -153,7 +153,7 @@ pub extern "C" fn gearcard_hold(
     second: usize,
     gear: u8,
     summary: Summary,
-) -> Counted
+) -> SummaryAnswer
     ensures answer { λ r. ⌜ r .verdict ≡ as-verdict (edit-fault vehicle (Hold second gear) (showing (now (speeds .entry)) (now (holds .entry)) (now (card .entry)) summary)) ⌝ }
     ensures summary { λ r. ⌜ r .summary ≡ edited vehicle (Hold second gear) (showing (now (speeds .entry)) (now (holds .entry)) (now (card .entry)) summary) .summary ⌝ }
     ensures holds { λ r. ⌜ now (holds .exit) ≡ edited vehicle (Hold second gear) (showing (now (speeds .entry)) (now (holds .entry)) (now (card .entry)) summary) .holds ⌝ }
@@ -172,7 +172,7 @@ pub extern "C" fn gearcard_release(
     card: &mut [u8],
     second: usize,
     summary: Summary,
-) -> Counted
+) -> SummaryAnswer
     ensures answer { λ r. ⌜ r .verdict ≡ as-verdict (edit-fault vehicle (Release second) (showing (now (speeds .entry)) (now (holds .entry)) (now (card .entry)) summary)) ⌝ }
     ensures summary { λ r. ⌜ r .summary ≡ edited vehicle (Release second) (showing (now (speeds .entry)) (now (holds .entry)) (now (card .entry)) summary) .summary ⌝ }
     ensures holds { λ r. ⌜ now (holds .exit) ≡ edited vehicle (Release second) (showing (now (speeds .entry)) (now (holds .entry)) (now (card .entry)) summary) .holds ⌝ }
@@ -192,7 +192,7 @@ pub extern "C" fn gearcard_mend(
     second: usize,
     speed: u16,
     summary: Summary,
-) -> Counted
+) -> SummaryAnswer
     ensures answer { λ r. ⌜ r .verdict ≡ as-verdict (edit-fault vehicle (Mend second speed) (showing (now (speeds .entry)) (now (holds .entry)) (now (card .entry)) summary)) ⌝ }
     ensures summary { λ r. ⌜ r .summary ≡ edited vehicle (Mend second speed) (showing (now (speeds .entry)) (now (holds .entry)) (now (card .entry)) summary) .summary ⌝ }
     ensures speeds { λ r. ⌜ now (speeds .exit) ≡ edited vehicle (Mend second speed) (showing (now (speeds .entry)) (now (holds .entry)) (now (card .entry)) summary) .speeds ⌝ }
@@ -209,7 +209,7 @@ pub extern "C" fn gearcard_why<'a>(
     speeds: &'a [u16],
     holds: &'a [u8],
     second: usize,
-) -> Why
+) -> WhyAnswer
     ensures answer { λ r. ⌜ r .verdict ≡ as-verdict (why-fault vehicle (now (speeds .entry)) (now (holds .entry)) second) ⌝ }
     ensures reasons { λ r. ⌜ r .reasons ≡ why vehicle (now (speeds .entry)) (now (holds .entry)) second ⌝ }
 {
@@ -217,7 +217,7 @@ pub extern "C" fn gearcard_why<'a>(
     let heard = told.answer;
     let found = told.reasons;
     let verdict = verdict_of(heard);
-    Why {
+    WhyAnswer {
         verdict,
         reasons: found,
     }
@@ -253,13 +253,13 @@ pub extern "C" fn gearcard_downscale(factor: u32, room: &mut [u16]) -> Verdict
 
 // Reads the bench computer's export.
 #[no_mangle]
-pub extern "C" fn gearcard_export(bytes: &[u8]) -> Coefficients
+pub extern "C" fn gearcard_export(bytes: &[u8]) -> ExportAnswer
     ensures { λ r. ⌜ ExportRead (now (bytes .entry)) r ⌝ }
 {
     let export = exports::read_export(bytes);
     let answer = export.answer;
     let told = verdict_of(answer);
-    Coefficients {
+    ExportAnswer {
         verdict: told,
         f0: export.f0,
         f1: export.f1,

@@ -1,19 +1,20 @@
--- An edit that no check refuses, carried out: what the sweep asks of the screen with its byte written, and that what is left is the screen of the definitions.
-use Rattle.rules.proofs.Offered.{ℕ, suc, _+_, _-_, _<_, min, add-one, arith, _≡_, sym, ap, _∙_, inl, none, List, length, at, patch, card-at, fault, said, span-fault, updated, Screen, Span, showing, second, asked-speeds, asked-holds, span, asked-fault, edit-fault, asked-screen, edited, by-order, Taken, taken, trace-in, rooms-in, vehicle-in, length-asked, length-holds, refused-alone, taken-asked, span-passes, span-kept, counts, counts-by-range}
+-- An edit judged: where it is refused the screen is left as it was, and where it is not, carrying it out asks what was judged and leaves the screen of the
+-- definitions. One law each for the three edits.
+use Rattle.rules.proofs.Offered.{ℕ, suc, _-_, _<_, min, add-one, arith, _≡_, sym, ap, _∙_, inl, none, List, length, patch, card-at, fault, said, span-fault, summary, Screen, Span, showing, second, asked-speeds, asked-holds, span, asked-fault, edit-fault, asked-screen, edited, by-order, Taken, taken, trace-in, rooms-in, vehicle-in, length-asked, length-holds, refused-alone, taken-asked, span-passes, span-kept, counts-by-range}
 use Rattle.rules.specs.declared.Vehicle.{Vehicle}
 use Rattle.rules.specs.declared.Summary.{Summary}
 use Rattle.rules.specs.declared.Edit.{Edit}
 use Rattle.rules.specs.declared.Refusal.{Refusal}
-use Rattle.rules.specs.declared.Answer.{Answer}
 use Rattle.rules.specs.declared.Answer.the-variants.{Done, Refused}
-use Rattle.gears.specs.Parts.{Lent, Parts, numbers-of}
+use Rattle.gears.specs.Parts.{numbers-of}
 use Rattle.checks.proofs.Rows.{Opened, said-none, longest-is}
 use Rattle.cards.specs.Rework.{Range, Passes}
 use Rattle.cards.proofs.Reworking.{ends-stand}
-use Rattle.summaries.specs.Tallies.{tallied, in-ten, Countable}
+use Rattle.summaries.specs.declared.Summarized.{Summarized}
+use Rattle.summaries.specs.Tallies.{Countable}
 use Rattle.summaries.proofs.Counting.{ten-of}
 use Rattle.edits.specs.declared.Judged.{Judged}
-use Rattle.edits.specs.Asks.{Ready}
+use Rattle.edits.specs.Asks.{Ready, Carries, CarriedOut}
 use Rattle.edits.proofs.Places.{Lies, lies-asked}
 
 -- what its own checks passed is what the sweep asks for
@@ -28,26 +29,38 @@ passes-at one e vs hs l ok =
 abbrev pub Judges : Vehicle → Edit → List ℕ → List ℕ → List ℕ → Judged → List ℕ → Type 0
 Judges car e vs hs old j powers = ((n : Summary) → said (j .answer) ≡ edit-fault car e (showing vs hs old n)) × (j .answer ≡ Done → Ready car e vs hs old j powers)
 
+-- an answer, the summary, and the lists of a screen as an edit leaves them
+pub record Leaves (car : Vehicle) (e : Edit) (x : Screen) (r : Summarized) (vs hs bytes : List ℕ) : Type 0 where
+  pub answer : said (r .answer) ≡ edit-fault car e x
+  pub summary : r .summary ≡ edited car e x .summary
+  pub speeds : vs ≡ edited car e x .speeds
+  pub holds : hs ≡ edited car e x .holds
+  pub card : bytes ≡ edited car e x .card
+
 -- a refusal leaves the screen as it was
-pub refused-left : (car : Vehicle) (e : Edit) (x : Screen) {a : Answer} {q : Refusal} → said a ≡ edit-fault car e x → a ≡ Refused q → edited car e x ≡ x
+pub refused-left : {car : Vehicle} {e : Edit} {vs hs old : List ℕ} {n : Summary} {j : Judged} {powers : List ℕ} {q : Refusal} → Judges car e vs hs old j powers → j .answer ≡ Refused q
+    → Leaves car e (showing vs hs old n) (record { answer = j .answer; summary = n }) vs hs old
 unfolding said
-refused-left car e x {a} {q} says r = refused-alone car e x (fault q) (sym says ∙ ap said r)
+refused-left {car} {e} {vs} {hs} {old} {n} {j} {powers} {q} J r =
+    let z = sym (refused-alone car e (showing vs hs old n) (fault q) (sym (J .0 n) ∙ ap said r)) in
+    record {
+      answer = J .0 n;
+      summary = ap (λ (x : Screen). x .summary) z;
+      speeds = ap (λ (x : Screen). x .speeds) z;
+      holds = ap (λ (x : Screen). x .holds) z;
+      card = ap (λ (x : Screen). x .card) z;
+    }
 
 -- an edit of a screen that was judged, and not refused
-pub record Accepted (car : Vehicle) (e : Edit) (vs hs old : List ℕ) (n : Summary) (j : Judged) (powers : List ℕ) : Type 0 where
-  pub says : said (j .answer) ≡ edit-fault car e (showing vs hs old n)
-  pub done : j .answer ≡ Done
-  pub ready : Ready car e vs hs old j powers
-
-module _ {car : Vehicle} {e : Edit} {vs hs old : List ℕ} {n : Summary} {j : Judged} {powers : List ℕ} (A : Accepted car e vs hs old n j powers) where
+module _ {car : Vehicle} {e : Edit} {vs hs old : List ℕ} {j : Judged} {powers : List ℕ} (J : Judges car e vs hs old j powers) (done : j .answer ≡ Done) where
   R : Ready car e vs hs old j powers
-  R = A .ready
+  R = J .1 done
 
-  accepted-at : edit-fault car e (showing vs hs old n) ≡ none
-  accepted-at = said-none (A .says) (A .done)
+  accepted-at : (n : Summary) → edit-fault car e (showing vs hs old n) ≡ none
+  accepted-at n = said-none (J .0 n) done
 
-  its : Taken car e (showing vs hs old n)
-  its = taken car e (showing vs hs old n) accepted-at
+  its : Taken car e (showing vs hs old (summary vs old))
+  its = taken car e _ (accepted-at _)
 
   opened-at : Opened car vs hs old
   opened-at =
@@ -60,10 +73,7 @@ module _ {car : Vehicle} {e : Edit} {vs hs old : List ℕ} {n : Summary} {j : Ju
   pub in-holds-at : second e < length hs
   in-holds-at = omega (arith, in-trace-at, opened-at .holds-long)
 
-  pub parts-at : Parts (numbers-of car) (car .ratio) (car .n) powers
-  parts-at = record { car = car; lent = R .lent }
-
-  pub range-at : Range (asked-speeds e vs) (asked-holds e hs) old (j .range .lo) (j .range .hi)
+  range-at : Range (asked-speeds e vs) (asked-holds e hs) old (j .range .lo) (j .range .hi)
   range-at =
       let L = lies-asked e vs in-trace-at in
       let O = opened-at in
@@ -80,12 +90,9 @@ module _ {car : Vehicle} {e : Edit} {vs hs old : List ℕ} {n : Summary} {j : Ju
         ends = L .ends;
       })
 
-  pub passes-there : (one : Vehicle) → Lent one (numbers-of car) (car .ratio) (car .n) powers → Passes one (asked-speeds e vs) (asked-holds e hs) (j .range .lo) (j .range .hi)
-  passes-there one L = rw (R .from, R .to) (R .passes one L)
-
   -- the seconds can be counted again
-  pub countable-again : {new : List ℕ} → length new ≡ length old → Countable (asked-speeds e vs) new (j .range .lo) (j .range .hi)
-  countable-again n =
+  countable-again : (new : List ℕ) → length new ≡ length old → Countable (asked-speeds e vs) new (j .range .lo) (j .range .hi)
+  countable-again new n =
       let L = lies-asked e vs in-trace-at in
       let k = length-asked e vs in
       let t = trace-in vs (its .trace) .1 in
@@ -97,31 +104,29 @@ module _ {car : Vehicle} {e : Edit} {vs hs old : List ℕ} {n : Summary} {j : Ju
         ends = λ z. L .ends;
       })
 
+  -- what carrying it out asks, of the speeds and the holds that it asks for
+  pub carries-at : Carries (numbers-of car) (car .ratio) (car .n) powers (asked-speeds e vs) (asked-holds e hs) old j
+  carries-at = record { parts = record { car = car; lent = R .lent }; reworkable = range-at; passes = λ one L. rw (R .from, R .to) (R .passes one L); countable = countable-again }
+
   -- ---- what is left
 
-  left-at : edited car e (showing vs hs old n) ≡ asked-screen car e (showing vs hs old n)
-  left-at = taken-asked car e (showing vs hs old n) accepted-at
+  left-at : (n : Summary) → edited car e (showing vs hs old n) ≡ asked-screen car e (showing vs hs old n)
+  left-at n = taken-asked car e (showing vs hs old n) (accepted-at n)
 
-  pub speeds-at : asked-speeds e vs ≡ edited car e (showing vs hs old n) .speeds
+  pub carried-at : {n : Summary} {r : Summarized} {new : List ℕ} → CarriedOut (numbers-of car) (car .ratio) (car .n) powers (asked-speeds e vs) (asked-holds e hs) old j n r new
+      → Leaves car e (showing vs hs old n) r (asked-speeds e vs) (asked-holds e hs) new
   unfolding asked-screen
-  speeds-at = sym (ap (λ (w : Screen). w .speeds) left-at)
-
-  pub holds-at : asked-holds e hs ≡ edited car e (showing vs hs old n) .holds
-  unfolding asked-screen
-  holds-at = sym (ap (λ (w : Screen). w .holds) left-at)
-
-  module _ {new : List ℕ} (swept : (one : Vehicle) → Lent one (numbers-of car) (car .ratio) (car .n) powers
-      → new ≡ patch old (j .range .lo) (j .range .hi) (card-at one (asked-speeds e vs) (asked-holds e hs))) where
-    pub card-left-at : new ≡ edited car e (showing vs hs old n) .card
-    unfolding asked-screen
-    card-left-at =
-        swept car (R .lent)
-        ∙ rw (R .from, R .to) (ap (λ (r : Span). patch old (r .lo) (r .hi) (card-at car (asked-speeds e vs) (asked-holds e hs))) (sym (span-kept e vs)))
-        ∙ sym (ap (λ (w : Screen). w .card) left-at)
-
-    pub summary-at : {m : Summary} → m ≡ updated n (in-ten (j .counted)) (in-ten (tallied (asked-speeds e vs) new (j .range .lo) (j .range .hi - j .range .lo)))
-        → m ≡ edited car e (showing vs hs old n) .summary
-    summary-at u =
-        let a = span e vs .lo in
-        let k = span e vs .hi - span e vs .lo in
-        u ∙ rw (R .from, R .to, R .counted-are, ten-of vs old a k, ten-of (asked-speeds e vs) new a k, speeds-at, card-left-at) (sym (counts-by-range car e (showing vs hs old n) accepted-at))
+  carried-at {n} {r} {new} c =
+      let a = span e vs .lo in
+      let k = span e vs .hi - span e vs .lo in
+      let speeds : asked-speeds e vs ≡ edited car e (showing vs hs old n) .speeds = sym (ap (λ (w : Screen). w .speeds) (left-at n)) in
+      let card : new ≡ edited car e (showing vs hs old n) .card = c .reworked car (R .lent)
+      ∙ rw (R .from, R .to) (ap (λ (r : Span). patch old (r .lo) (r .hi) (card-at car (asked-speeds e vs) (asked-holds e hs))) (sym (span-kept e vs)))
+      ∙ sym (ap (λ (w : Screen). w .card) (left-at n)) in
+      record {
+        answer = ap said (c .done ∙ sym done) ∙ J .0 n;
+        summary = c .recounted ∙ rw (R .from, R .to, R .counted-are, ten-of vs old a k, ten-of (asked-speeds e vs) new a k, speeds, card) (sym (counts-by-range car e (showing vs hs old n) (accepted-at n)));
+        speeds = speeds;
+        holds = sym (ap (λ (w : Screen). w .holds) (left-at n));
+        card = card;
+      }

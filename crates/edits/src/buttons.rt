@@ -1,18 +1,44 @@
-// The three edits, each its own call: judged, written, the card re-worked, and the summary brought up to date from what it counted there and counts now.
+// The three edits, each its own call: judged, its hold or sample written, and carried out.
 ghost use mathlib.Core.Path.{_≡_};
 ghost use Rattle.rules.specs.declared.Edit.the-variants.{Hold, Release, Mend};
 ghost use Rattle.rules.specs.Refusals.{said};
 ghost use Rattle.rules.specs.Edit.{showing, edit-fault, edited};
+ghost use Rattle.edits.specs.Asks.{Carries, CarriedOut};
+use crate::Judged;
 use crate::judging::judge;
 use cards::sweep;
+use gears::Numbers;
 use gears::numbers_of;
 use rules::Answer;
 use rules::Edit;
 use rules::Summary;
 use rules::Vehicle;
-use summaries::Counted;
+use summaries::Summarized;
 use summaries::count;
 use summaries::updated;
+
+// An edit that no check refuses, once it is written: its range re-worked, and the summary brought up to date from what the card counted there and counts now.
+fn carry_out<'a>(
+    k: Numbers,
+    ratio: &'a [u16; 10],
+    n: &'a [u16; 64],
+    powers: &'a [u32; 64],
+    speeds: &'a [u16],
+    holds: &'a [u8],
+    card: &mut [u8],
+    judged: Judged,
+    summary: Summary,
+) -> Summarized
+    requires { ⌜ Carries k (now ratio) (now n) (now powers) (now speeds) (now holds) (now card) judged ⌝ }
+    ensures { λ r. ⌜ CarriedOut k (now (ratio .entry)) (now (n .entry)) (now (powers .entry)) (now (speeds .entry)) (now (holds .entry)) (now (card .entry)) judged summary r (now (card .exit)) ⌝ }
+{
+    sweep(k, ratio, n, powers, speeds, holds, card, judged.range);
+    let counted = count(speeds, card, judged.range);
+    Summarized {
+        answer: Answer::Done,
+        summary: updated(summary, judged.counted, counted),
+    }
+}
 
 // One second held in a gear. Gear 0 is none, and is refused by 7 in the table's order.
 pub fn hold(
@@ -23,7 +49,7 @@ pub fn hold(
     second: usize,
     gear: u8,
     summary: Summary,
-) -> Counted
+) -> Summarized
     ensures answer { λ r. ⌜ said (r .answer) ≡ edit-fault vehicle (Hold second gear) (showing (now (speeds .entry)) (now (holds .entry)) (now (card .entry)) summary) ⌝ }
     ensures summary { λ r. ⌜ r .summary ≡ edited vehicle (Hold second gear) (showing (now (speeds .entry)) (now (holds .entry)) (now (card .entry)) summary) .summary ⌝ }
     ensures holds { λ r. ⌜ now (holds .exit) ≡ edited vehicle (Hold second gear) (showing (now (speeds .entry)) (now (holds .entry)) (now (card .entry)) summary) .holds ⌝ }
@@ -46,10 +72,10 @@ pub fn hold(
     );
     let answer = judged.answer;
     let Answer::Done = answer else {
-        return Counted { answer, summary };
+        return Summarized { answer, summary };
     };
     holds[second] = gear;
-    sweep(
+    carry_out(
         k,
         &vehicle.ratio,
         &vehicle.n,
@@ -57,13 +83,9 @@ pub fn hold(
         speeds,
         holds,
         card,
-        judged.range,
-    );
-    let held = count(speeds, card, judged.range);
-    Counted {
-        answer,
-        summary: updated(summary, judged.counted, held),
-    }
+        judged,
+        summary,
+    )
 }
 
 // One second released; a free second is worked like any other.
@@ -74,7 +96,7 @@ pub fn release(
     card: &mut [u8],
     second: usize,
     summary: Summary,
-) -> Counted
+) -> Summarized
     ensures answer { λ r. ⌜ said (r .answer) ≡ edit-fault vehicle (Release second) (showing (now (speeds .entry)) (now (holds .entry)) (now (card .entry)) summary) ⌝ }
     ensures summary { λ r. ⌜ r .summary ≡ edited vehicle (Release second) (showing (now (speeds .entry)) (now (holds .entry)) (now (card .entry)) summary) .summary ⌝ }
     ensures holds { λ r. ⌜ now (holds .exit) ≡ edited vehicle (Release second) (showing (now (speeds .entry)) (now (holds .entry)) (now (card .entry)) summary) .holds ⌝ }
@@ -97,10 +119,10 @@ pub fn release(
     );
     let answer = judged.answer;
     let Answer::Done = answer else {
-        return Counted { answer, summary };
+        return Summarized { answer, summary };
     };
     holds[second] = 0;
-    sweep(
+    carry_out(
         k,
         &vehicle.ratio,
         &vehicle.n,
@@ -108,13 +130,9 @@ pub fn release(
         speeds,
         holds,
         card,
-        judged.range,
-    );
-    let freed = count(speeds, card, judged.range);
-    Counted {
-        answer,
-        summary: updated(summary, judged.counted, freed),
-    }
+        judged,
+        summary,
+    )
 }
 
 // One sample corrected.
@@ -126,7 +144,7 @@ pub fn mend(
     second: usize,
     speed: u16,
     summary: Summary,
-) -> Counted
+) -> Summarized
     ensures answer { λ r. ⌜ said (r .answer) ≡ edit-fault vehicle (Mend second speed) (showing (now (speeds .entry)) (now (holds .entry)) (now (card .entry)) summary) ⌝ }
     ensures summary { λ r. ⌜ r .summary ≡ edited vehicle (Mend second speed) (showing (now (speeds .entry)) (now (holds .entry)) (now (card .entry)) summary) .summary ⌝ }
     ensures speeds { λ r. ⌜ now (speeds .exit) ≡ edited vehicle (Mend second speed) (showing (now (speeds .entry)) (now (holds .entry)) (now (card .entry)) summary) .speeds ⌝ }
@@ -149,10 +167,10 @@ pub fn mend(
     );
     let answer = judged.answer;
     let Answer::Done = answer else {
-        return Counted { answer, summary };
+        return Summarized { answer, summary };
     };
     speeds[second] = speed;
-    sweep(
+    carry_out(
         k,
         &vehicle.ratio,
         &vehicle.n,
@@ -160,11 +178,7 @@ pub fn mend(
         speeds,
         holds,
         card,
-        judged.range,
-    );
-    let mended = count(speeds, card, judged.range);
-    Counted {
-        answer,
-        summary: updated(summary, judged.counted, mended),
-    }
+        judged,
+        summary,
+    )
 }

@@ -3,7 +3,7 @@ use Rattle.rules.proofs.Offered.{ℕ, zero, suc, _+_, _*_, _/_, _%_, _^_, _<_, 
 use Rattle.exports.specs.declared.Field.{Field}
 use Rattle.exports.specs.Floats.{signed, scaled}
 use Rattle.exports.specs.Fields.{F0, F1, F2, TM, units, in-bounds}
-use Rattle.exports.specs.Bits.{negative, significand, shift, size-of, Moderate, Judged, Fair, Unsigned}
+use Rattle.exports.specs.Bits.{negative, significand, shift, size-of, Moderate, InField, Fair, Unsigned}
 use Rattle.exports.proofs.Values.{scaled-is, moderate}
 
 -- ---- order
@@ -75,7 +75,7 @@ sided false n lo hi z h l m = (refl, low-enough n hi h m)
 sided true zero lo hi z h l m = (refl, omega arith)
 sided true (suc n) lo hi z h l m = absurd (not-below n lo z l)
 
-module _ (field : Field) (x : Float) (u : Unsigned field) (j : Judged field x) where
+module _ (field : Field) (x : Float) (u : Unsigned field) (j : InField field x) where
   pub size-is : (pos (size-of (field .scale) (toBits binary32 x)) ≡ units field x) × (size-of (field .scale) (toBits binary32 x) ≤ 65535)
   unfolding units
   size-is =
@@ -91,7 +91,7 @@ short (pos n) l m = let u = leb-true n 5000 m in record { sfits = omega arith }
 short (negsuc n) l m = let u = leb-true n 4999 l in record { sfits = omega arith }
 
 -- F1 fits 32 bits
-pub f1-short : (x : Float) → Judged F1 x → SFits w32 (units F1 x)
+pub f1-short : (x : Float) → InField F1 x → SFits w32 (units F1 x)
 unfolding units F1
 f1-short x j = let t = inside F1 x (j .bounded) in short (scaled 1000 x) (and-left _ _ t) (and-right _ _ t)
 

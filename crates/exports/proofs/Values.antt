@@ -5,7 +5,7 @@ use Rattle.rules.proofs.Offered.{ℕ, zero, suc, _+_, _-_, _*_, _/_, _%_, _^_, 
 use Rattle.exports.specs.declared.Field.{Field}
 use Rattle.exports.specs.Floats.{float-of, finite, signed, scaled}
 use Rattle.exports.specs.Fields.{units, in-bounds}
-use Rattle.exports.specs.Bits.{negative, exponent, mantissa, significand, shift, size-of, Moderate, Finite, Judged, Fair}
+use Rattle.exports.specs.Bits.{negative, exponent, mantissa, significand, shift, size-of, Moderate, Finite, InField, Fair}
 
 -- ---- rounding sees only the value of its fraction
 
@@ -194,7 +194,7 @@ beyond field x f t l =
     ∙ far-out field f (toBits binary32 x) l (finite-low (toBits binary32 x) (rw (same-float x (t .held)) (t .number)))
 
 -- a float that was judged is below 2^23 in size
-pub moderate : (field : Field) (x : Float) → Fair field → Judged field x → Moderate (field .scale) x
+pub moderate : (field : Field) (x : Float) → Fair field → InField field x → Moderate (field .scale) x
 moderate field x f j = record {
   held = j .is .held;
   number = j .is .number;

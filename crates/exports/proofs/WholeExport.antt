@@ -8,21 +8,21 @@ use Rattle.exports.specs.declared.Record.the-variants as record-is
 use Rattle.exports.specs.declared.Found.{Found}
 use Rattle.exports.specs.Fields.{TM, units}
 use Rattle.exports.specs.Export.{none-yet, with-record, record-read, export-read, numbers-of, ExportAs}
-use Rattle.exports.specs.Bits.{Judged, Bounded, InUnits}
+use Rattle.exports.specs.Bits.{InField, Bounded, InUnits}
 use Rattle.exports.specs.Answers.{Fresh, Good, nothing}
 use Rattle.exports.proofs.Once.{two-kinds}
 
 -- the coefficients and the mass of two records that come were judged
 pub both-judged : (one two : Record) → Fresh none-yet one → Fresh (with-record none-yet one) two → Good one → Good two
-    → Bounded (with-record (with-record none-yet one) two .coefficients) × Judged TM (with-record (with-record none-yet one) two .mass)
+    → Bounded (with-record (with-record none-yet one) two .coefficients) × InField TM (with-record (with-record none-yet one) two .mass)
 both-judged =
     two-kinds
-    (λ one two. Good one → Good two → Bounded (with-record (with-record none-yet one) two .coefficients) × Judged TM (with-record (with-record none-yet one) two .mass))
+    (λ one two. Good one → Good two → Bounded (with-record (with-record none-yet one) two .coefficients) × InField TM (with-record (with-record none-yet one) two .mass))
     (λ c m p q. (p, q))
     (λ m c p q. (q, p))
 
 -- a record that comes at place i: it was read there, is of a kind not met before, and its values were judged
-pub record Came (bytes : List ℕ) (found : Found) (i : ℕ) (one : Record) (j : ℕ) : Type 0 where
+pub record RecordCame (bytes : List ℕ) (found : Found) (i : ℕ) (one : Record) (j : ℕ) : Type 0 where
   pub reads : got one j ≡ record-read bytes found i
   pub fresh : Fresh found one
   pub good : Good one

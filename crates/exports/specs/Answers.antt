@@ -15,7 +15,7 @@ use Rattle.exports.specs.declared.Found.{Found}
 use Rattle.exports.specs.declared.Field.{Field}
 use Rattle.exports.specs.declared.Export.{Export}
 use Rattle.exports.specs.Fields.{TM}
-use Rattle.exports.specs.Bits.{Finite, Judged, Bounded}
+use Rattle.exports.specs.Bits.{Finite, InField, Bounded}
 
 -- what the answer for a float, and for a record, says
 abbrev pub float-as : Number → Read Float
@@ -27,12 +27,12 @@ read-as (next-is.Record r j) = got r j
 read-as (next-is.Fault f) = refused (fault f)
 
 -- a float that comes is finite, or was judged for a field
-abbrev pub Comes : Number → Type 0
-Comes (number-is.Value x j) = Finite x
-Comes (number-is.Fault f) = Unit {0}
+abbrev pub ComesFinite : Number → Type 0
+ComesFinite (number-is.Value x j) = Finite x
+ComesFinite (number-is.Fault f) = Unit {0}
 
 abbrev pub ComesFor : Field → Number → Type 0
-ComesFor field (number-is.Value x j) = Judged field x
+ComesFor field (number-is.Value x j) = InField field x
 ComesFor field (number-is.Fault f) = Unit {0}
 
 -- a record that comes after those found is of a kind not met; the end comes once both were met
@@ -44,7 +44,7 @@ Fresh found record-is.End = (found .«has_coefficients» ≡ true) × (found .«
 -- and each of its floats was judged
 abbrev pub Good : Record → Type 0
 Good (record-is.Coefficients c) = Bounded c
-Good (record-is.Mass m) = Judged TM m
+Good (record-is.Mass m) = InField TM m
 Good record-is.End = Unit {0}
 
 abbrev pub ComesAfter : Found → Next → Type 0

@@ -45,7 +45,7 @@ pub record Finite (x : Float) : Type 0 where
   pub number : finite x ≡ true
 
 -- a float that was judged
-pub record Judged (field : Field) (x : Float) : Type 0 where
+pub record InField (field : Field) (x : Float) : Type 0 where
   pub is : Finite x
   pub bounded : in-bounds field x ≡ true
 
@@ -66,9 +66,9 @@ pub record Unsigned (field : Field) : Type 0 where
 
 -- coefficients that were judged
 pub record Bounded (c : Coefficients) : Type 0 where
-  pub f0-in : Judged F0 (c .f0)
-  pub f1-in : Judged F1 (c .f1)
-  pub f2-in : Judged F2 (c .f2)
+  pub f0-in : InField F0 (c .f0)
+  pub f1-in : InField F1 (c .f1)
+  pub f2-in : InField F2 (c .f2)
 
 -- these in document 01's units
 pub record InUnits (c : Coefficients) (r : Units) : Type 0 where

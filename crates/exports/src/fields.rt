@@ -1,7 +1,7 @@
 // The fields that the bench gives: which floats are within document 01's bounds, and what they are in its units.
 ghost use Rattle.rules.specs.Words.{_≡_, pos, leZ, _and_};
 ghost use Rattle.exports.specs.Fields.{F1, units, in-bounds};
-ghost use Rattle.exports.specs.Bits.{Finite, Judged, Fair, Unsigned, Bounded, InUnits};
+ghost use Rattle.exports.specs.Bits.{Finite, InField, Fair, Unsigned, Bounded, InUnits};
 use crate::Coefficients;
 use crate::Field;
 use crate::Units;
@@ -61,7 +61,7 @@ pub fn in_bounds(x: f32, field: Field) -> bool
 
 // A float that was judged, for a field with no negative values, in its units.
 pub fn whole(x: f32, field: Field) -> u16
-    requires { ⌜ Judged field x × Unsigned field ⌝ }
+    requires { ⌜ InField field x × Unsigned field ⌝ }
     ensures { λ r. ⌜ pos r ≡ units field x ⌝ }
 {
     size_of(f32::to_bits(x), field.scale) as u16
@@ -69,7 +69,7 @@ pub fn whole(x: f32, field: Field) -> u16
 
 // F1, which may be negative.
 fn thousandths(x: f32) -> i32
-    requires { ⌜ Judged F1 x ⌝ }
+    requires { ⌜ InField F1 x ⌝ }
     ensures { λ r. ⌜ r ≡ units F1 x ⌝ }
 {
     scaled(x, 1000) as i32

@@ -3,7 +3,7 @@ ghost use Rattle.rules.specs.Words.{_≡_, false, List, ℕ};
 ghost use Rattle.exports.specs.declared.Found.{Found};
 ghost use Rattle.exports.specs.Export.{finite-float, judged, coefficients-read, mass-read, end-read, record-read};
 ghost use Rattle.exports.specs.Bits.{Fair};
-ghost use Rattle.exports.specs.Answers.{float-as, read-as, Comes, ComesFor, ComesAfter};
+ghost use Rattle.exports.specs.Answers.{float-as, read-as, ComesFinite, ComesFor, ComesAfter};
 use crate::Coefficients;
 use crate::Field;
 use crate::Found;
@@ -22,7 +22,7 @@ use rules::Refusal;
 // A float, four bytes; the record that it stands in begins at spot.
 fn float_at(bytes: &[u8], at: usize, spot: usize) -> Number
     ensures said { λ r. ⌜ float-as r ≡ finite-float (now (bytes .entry)) spot at ⌝ }
-    ensures finite { λ r. ⌜ Comes r ⌝ }
+    ensures finite { λ r. ⌜ ComesFinite r ⌝ }
 {
     let end = bytes.len();
     if end <= at {

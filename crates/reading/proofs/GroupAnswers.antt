@@ -1,6 +1,6 @@
 -- What a value within bounds, a hold and a point answer, one law for each way through them; and what is known of a group that comes.
 use Rattle.rules.proofs.Offered.{ℕ, _+_, _-_, _*_, _/_, _%_, _<_, _≤_, arith, _≡_, refl, sym, ap, _∙_, Bool, true, false, List, length, leb, ltb, le-leb, lt-leb, lt-ltb, le-ltb, leb-true, ltb-true, eqb-false, not-true, _and_, within, at, Fault, Read, got, refused, hand-on, _>>=_, give, demand, early, group-if, group, Form, value, known, only-if, checked, bounded, _then_, point, hold, one, two, two-of, ends-first, ends-second, two-bad, ends-third, three-of, good, three-if, three, by-test, by-order, and-left, and-right, within-lo, within-hi, in-range, says-now, bounded-sound}
-use Rattle.reading.specs.Progress.{Comes, Short}
+use Rattle.reading.specs.Progress.{Comes, ShortGroup}
 use Rattle.reading.proofs.Steps.{joined, same-value, never}
 
 -- ---- tests
@@ -69,7 +69,7 @@ module _ (job : List ℕ) (i : ℕ) (g : Comes (group job i)) where
       three-fits = leb-true _ _ (and-right _ _ third-good)
 
 -- a value of one byte or two has no third
-pub short-last : (job : List ℕ) (i : ℕ) (g : Short (group job i)) → 128 ≤ at job i → at job (i + 1) < 128
+pub short-last : (job : List ℕ) (i : ℕ) (g : ShortGroup (group job i)) → 128 ≤ at job i → at job (i + 1) < 128
 short-last job i g a =
     let c = g .there in
     by-order (at job (i + 1)) 128 (λ l. l) (λ b.

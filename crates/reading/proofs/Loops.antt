@@ -1,7 +1,7 @@
 -- The reader's loops. The invariant says that what is left to read, from here, is what was asked; the laws are the loop's ways on.
 use Rattle.rules.proofs.Offered.{ℕ, suc, _+_, _-_, _/_, _<_, _≤_, add-one, arith, _≡_, sym, _∙_, true, List, [], _∷_, leb, ltb, length, set, sets, Fault, _and_, within, at, Read, got, refused, hand-on, _>>=_, _>>_, give, demand, group, Form, value, checked, _then_, row-read, row, many, hold, put, says-now, value-sound, HoldFits, takes-hold, hold-sound}
 use Prim.{Unit, tt}
-use Rattle.reading.specs.Progress.{hold-row, Comes, Short, used}
+use Rattle.reading.specs.Progress.{hold-row, Comes, ShortGroup, used}
 use Rattle.reading.proofs.Steps.{joined, went, passed, use-as-is, many-length}
 use Rattle.reading.proofs.GroupAnswers.{first-there, gear-inside, gear-first}
 use Rattle.reading.proofs.StageAnswers.{all-filled}
@@ -143,7 +143,7 @@ module _ {count : ℕ} {job : List ℕ} {k i place : ℕ} {room : List ℕ} {R :
     fits e f = hold-fits job count (p .next) place (hold-comes job count (p .next) place here e f)
 
     -- its second has one byte or two
-    pub put-short : Short (group job place)
+    pub put-short : ShortGroup (group job place)
     put-short =
         let b = gear-comes job count (p .next) place here (sym (second .comes)) in
         record { there = second; small = omega (arith, p .few, fits (sym (second .comes)) (sym (b .comes)) .below) }

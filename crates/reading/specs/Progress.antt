@@ -16,7 +16,7 @@ use Rattle.reading.specs.declared.Came.the-variants as came-is
 use Rattle.reading.specs.declared.Reading.{Reading}
 
 -- a byte of the job, and that it is there
-pub record ByteAt (job : List ℕ) (i r : ℕ) : Type 0 where
+pub record JobByte (job : List ℕ) (i r : ℕ) : Type 0 where
   pub is : r ≡ at job i
   pub small : r < 256
   pub there : i < length job
@@ -35,7 +35,7 @@ pub record Comes {A : Type 0} (m : Read A) : Type 0 where
   pub comes : m ≡ got what end
 
 -- and gives a value of one byte or two
-pub record Short (m : Read ℕ) : Type 0 where
+pub record ShortGroup (m : Read ℕ) : Type 0 where
   pub there : Comes m
   pub small : there .what < 16384
 

@@ -5,17 +5,17 @@ ghost use Rattle.rules.specs.Groups.{got, group};
 ghost use Rattle.rules.specs.Forms.{value, bounded, many};
 ghost use Rattle.reading.specs.Reader.{group-as};
 ghost use lib.Seq.{sets};
-ghost use Rattle.reading.specs.Progress.{ByteAt, reached, Comes, Short, used};
+ghost use Rattle.reading.specs.Progress.{JobByte, reached, Comes, ShortGroup, used};
 use crate::Brief;
 use crate::Came;
+use crate::GoodGroup;
 use crate::Group;
-use crate::Judged;
 use rules::Refusal;
 
 // A byte of the job.
-fn byte_at(job: &[u8], i: usize) -> usize
+fn job_byte(job: &[u8], i: usize) -> usize
     requires { ⌜ i < length (now job) ⌝ }
-    ensures { λ r. ⌜ ByteAt (now (job .entry)) i r ⌝ }
+    ensures { λ r. ⌜ JobByte (now (job .entry)) i r ⌝ }
 {
     job[i] as usize
 }
@@ -28,14 +28,14 @@ pub fn group_at(job: &[u8], at: usize) -> Group
     if end <= at {
         return Group::Fault(Refusal::JobEndsEarly(end));
     }
-    let a = byte_at(job, at);
+    let a = job_byte(job, at);
     if a < 128 {
         return Group::Value(a as u16, at + 1);
     }
     if end <= at + 1 {
         return Group::Fault(Refusal::JobEndsEarly(end));
     }
-    let b = byte_at(job, at + 1);
+    let b = job_byte(job, at + 1);
     let two = a % 128 + 128 * (b % 128);
     if b < 128 {
         // A last byte of 0 adds nothing: there is a shorter form.
@@ -47,7 +47,7 @@ pub fn group_at(job: &[u8], at: usize) -> Group
     if end <= at + 2 {
         return Group::Fault(Refusal::JobEndsEarly(end));
     }
-    let c = byte_at(job, at + 2);
+    let c = job_byte(job, at + 2);
     let three = two + 16384 * c;
     if c == 0 {
         return Group::Fault(Refusal::BadGroup(at));
@@ -77,7 +77,7 @@ pub fn bounded(job: &[u8], at: usize, lo: u16, hi: u16, refusal: Refusal) -> Gro
 }
 
 // So many groups, into the start of a room of the reader's own.
-pub fn fill(job: &[u8], at: usize, count: usize, values: &mut [u16]) -> Came
+pub fn fill_values(job: &[u8], at: usize, count: usize, values: &mut [u16]) -> Came
     requires { ⌜ count ≤ length (now values) ⌝ }
     ensures { λ r. ⌜ reached r (now (values .exit)) ≡ used (sets (now (values .entry)) 0) (many value count) (now (job .entry)) at ⌝ }
 {
@@ -113,29 +113,29 @@ pub fn judge_speeds(job: &[u8], at: usize, count: usize) -> Came
 }
 
 // A group that was judged, so nothing is left to test but how long it is.
-pub fn value_at(job: &[u8], at: usize) -> Judged
+pub fn value_at(job: &[u8], at: usize) -> GoodGroup
     requires { ⌜ Comes (group (now job) at) ⌝ }
     ensures { λ r. ⌜ got (r .value) (r .next) ≡ group (now (job .entry)) at ⌝ }
 {
-    let a = byte_at(job, at);
+    let a = job_byte(job, at);
     if a < 128 {
-        return Judged {
+        return GoodGroup {
             value: a as u16,
             next: at + 1,
         };
     }
-    let b = byte_at(job, at + 1);
+    let b = job_byte(job, at + 1);
     // The top bits, 128 of the first byte and 128 times 128 of the second, are no part of the value.
     if b < 128 {
         let two = a + 128 * b - 128;
-        return Judged {
+        return GoodGroup {
             value: two as u16,
             next: at + 2,
         };
     }
-    let c = byte_at(job, at + 2);
+    let c = job_byte(job, at + 2);
     let three = a + 128 * b + 16384 * c - 16512;
-    Judged {
+    GoodGroup {
         value: three as u16,
         next: at + 3,
     }
@@ -143,17 +143,17 @@ pub fn value_at(job: &[u8], at: usize) -> Judged
 
 // The same of a value below 16,384, which has one byte or two.
 pub fn short_at(job: &[u8], at: usize) -> Brief
-    requires { ⌜ Short (group (now job) at) ⌝ }
+    requires { ⌜ ShortGroup (group (now job) at) ⌝ }
     ensures { λ r. ⌜ got (r .value) (r .next) ≡ group (now (job .entry)) at ⌝ }
 {
-    let a = byte_at(job, at);
+    let a = job_byte(job, at);
     if a < 128 {
         return Brief {
             value: a,
             next: at + 1,
         };
     }
-    let b = byte_at(job, at + 1);
+    let b = job_byte(job, at + 1);
     Brief {
         value: a + 128 * b - 128,
         next: at + 2,
@@ -161,7 +161,7 @@ pub fn short_at(job: &[u8], at: usize) -> Brief
 }
 
 // A room is filled with speeds that were judged; answers the place after them.
-pub fn put_speeds(job: &[u8], at: usize, room: &mut [u16]) -> usize
+pub fn fill_speeds(job: &[u8], at: usize, room: &mut [u16]) -> usize
     requires { ⌜ Comes (many value (length (now room)) .read (now job) at) ⌝ }
     ensures { λ r. ⌜ got (now (room .exit)) r ≡ many value (length (now (room .entry))) .read (now (job .entry)) at ⌝ }
 {

@@ -47,7 +47,7 @@ fn clear(room: &mut [u8])
 
 // A room is filled with holds that were judged, and 0 where there is none; answers the place after them. A second has one byte or two; a gear is its
 // group's first byte, and has a second where that says so.
-pub fn put_holds(job: &[u8], at: usize, holds: usize, room: &mut [u8]) -> usize
+pub fn fill_holds(job: &[u8], at: usize, holds: usize, room: &mut [u8]) -> usize
     requires { ⌜ Comes (hold-row (length (now room)) holds .read (now job) at) × (length (now room) ≤ 16384) ⌝ }
     ensures { λ r. ⌜ got (now (room .exit)) r ≡ used (λ hs. put hs (replicate (length (now (room .entry))) 0)) (hold-row (length (now (room .entry))) holds) (now (job .entry)) at ⌝ }
 {

@@ -8,11 +8,11 @@ mod holds;
 mod vehicle;
 
 use groups::bounded;
+use groups::fill_speeds;
 pub use groups::group_at;
 use groups::judge_speeds;
-use groups::put_speeds;
+use holds::fill_holds;
 use holds::judge_holds;
-use holds::put_holds;
 use rules::Answer;
 use rules::LONGEST;
 use rules::Refusal;
@@ -33,7 +33,7 @@ enum Came {
 }
 
 // A group that was judged: its value and the place after it.
-struct Judged {
+struct GoodGroup {
     value: u16,
     next: usize,
 }
@@ -51,7 +51,7 @@ struct Gearbox {
     ratio: [u16; 10],
 }
 
-struct Curve {
+struct CurveRead {
     at: Came,
     points: u16,
     n: [u16; 64],
@@ -146,8 +146,8 @@ pub fn read(job: &[u8], speeds: &mut [u16], holds: &mut [u8]) -> Reading
     if end != job.len() {
         return nothing(Came::Fault(Refusal::BytesAfter(end)));
     }
-    put_speeds(job, trace, &mut speeds[..count]);
-    put_holds(job, first, held, &mut holds[..count]);
+    fill_speeds(job, trace, &mut speeds[..count]);
+    fill_holds(job, first, held, &mut holds[..count]);
     let vehicle = car.vehicle;
     Reading {
         answer: Answer::Done,

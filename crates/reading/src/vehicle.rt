@@ -6,11 +6,11 @@ ghost use Rattle.reading.specs.Reader.{group-as};
 ghost use Rattle.reading.specs.Progress.{reached, blank, used, into, gears, columns, car-of};
 use crate::Came;
 use crate::Car;
-use crate::Curve;
+use crate::CurveRead;
 use crate::Gearbox;
 use crate::Group;
 use crate::groups::bounded;
-use crate::groups::fill;
+use crate::groups::fill_values;
 use crate::groups::group_at;
 use rules::FEWEST_GEARS;
 use rules::FEWEST_POINTS;
@@ -74,7 +74,7 @@ fn gearbox_at(job: &[u8], at: usize, profile: u16) -> Gearbox
             ratio,
         };
     };
-    let end = fill(job, next, ng as usize, &mut ratio);
+    let end = fill_values(job, next, ng as usize, &mut ratio);
     Gearbox { at: end, ng, ratio }
 }
 
@@ -126,7 +126,7 @@ fn fill_points(
 }
 
 // The point count and the points; places past the points stay 0.
-fn curve_at(job: &[u8], at: usize, version: u16) -> Curve
+fn curve_at(job: &[u8], at: usize, version: u16) -> CurveRead
     ensures { λ r. ⌜ reached (r .at) (r .points, (r .n, (r .p, r .m))) ≡ used columns (curve version) (now (job .entry)) at ⌝ }
 {
     let mut n = [0u16; 64];
@@ -140,7 +140,7 @@ fn curve_at(job: &[u8], at: usize, version: u16) -> Curve
         Refusal::VehicleField(11),
     );
     let Group::Value(points, next) = count else {
-        return Curve {
+        return CurveRead {
             at: count.came(),
             points: 0,
             n,
@@ -149,7 +149,7 @@ fn curve_at(job: &[u8], at: usize, version: u16) -> Curve
         };
     };
     let end = fill_points(job, next, version, points as usize, &mut n, &mut p, &mut m);
-    Curve {
+    CurveRead {
         at: end,
         points,
         n,
@@ -159,7 +159,7 @@ fn curve_at(job: &[u8], at: usize, version: u16) -> Curve
 }
 
 // The vehicle of its parts; the numbers are idle, rated, nmax, F0, F1, F2, TM and M.
-fn vehicle_of(profile: u16, gearbox: Gearbox, numbers: [u16; 8], curve: Curve) -> Vehicle
+fn vehicle_of(profile: u16, gearbox: Gearbox, numbers: [u16; 8], curve: CurveRead) -> Vehicle
     ensures { λ r. ⌜ r ≡ car-of profile (gearbox .ng, gearbox .ratio) numbers (curve .points, (curve .n, (curve .p, curve .m))) ⌝ }
 {
     let ratio = gearbox.ratio;
@@ -214,7 +214,7 @@ pub fn car_at(job: &[u8]) -> Car
         return no_car(gears);
     };
     let mut numbers = [0u16; 8];
-    let eight = fill(job, at, 8, &mut numbers);
+    let eight = fill_values(job, at, 8, &mut numbers);
     let Came::To(at) = eight else {
         return no_car(eight);
     };

@@ -12,7 +12,7 @@ use crate::says::say_summary;
 use crate::says::say_value;
 use crate::says::say_values;
 use rules::Vehicle;
-use summaries::Counted;
+use summaries::Summarized;
 
 // What a line asks for: its first letter and its first two numbers.
 struct Asked {
@@ -28,8 +28,8 @@ fn edited(
     speeds: &mut [u16],
     holds: &mut [u8],
     card: &mut [u8],
-    worked: Counted,
-) -> Counted {
+    worked: Summarized,
+) -> Summarized {
     let second = wide(asked.one);
     let value = asked.two;
     let was = worked.summary;
@@ -47,7 +47,14 @@ fn screen(asked: Asked, car: Vehicle, speeds: &mut [u16], holds: &mut [u8], card
     let answer = cards::work(car, speeds, holds, card);
     let counted = summaries::summary_of(speeds, card);
     let summary = counted.summary;
-    let now = edited(asked, car, speeds, holds, card, Counted { answer, summary });
+    let now = edited(
+        asked,
+        car,
+        speeds,
+        holds,
+        card,
+        Summarized { answer, summary },
+    );
     let told = now.answer;
     let counts = now.summary;
     say_answer(told);

@@ -1,11 +1,11 @@
 -- Request Nine, over the contract of `summary_of` as the check reads it. Of the edits it stands in rules/proofs/Demands.
 use Rattle.rules.proofs.Offered.{ℕ, _≡_, sym, _∙_, none, List, now, Lasts, atExit, Lfts, Dens, endedOf, resT, said, summary, summary-fault, counted-summary, left-none}
-use Rattle.summaries.specs.declared.Counted.{Counted}
+use Rattle.summaries.specs.declared.Summarized.{Summarized}
 use Rattle.summaries.proofs.whole.summary_of.Kinds as summary-of-kinds
 use Rattle.summaries.proofs.whole.summary_of.Reads as summary-of-reads
 
 -- what the contract says: an answer, and the summary that is told
-pub record CountedOf (vs bs : List ℕ) (z : Counted) : Type 0 where
+pub record CountedOf (vs bs : List ℕ) (z : Summarized) : Type 0 where
   pub answer : said (z .answer) ≡ summary-fault vs bs
   pub summary-told : z .summary ≡ counted-summary vs bs
 
@@ -18,6 +18,6 @@ pub demand-1-asks-nothing : (κs : Lfts 1) (a : Dens κs summary-of-kinds.ps) �
 demand-1-asks-nothing κs a = tt
 
 -- the summary of a card that is not refused is the count over the whole of it
-pub nine-whole : {vs bs : List ℕ} {z : Counted} → CountedOf vs bs z → said (z .answer) ≡ none → z .summary ≡ summary vs bs
+pub nine-whole : {vs bs : List ℕ} {z : Summarized} → CountedOf vs bs z → said (z .answer) ≡ none → z .summary ≡ summary vs bs
 unfolding counted-summary
 nine-whole C e = C .summary-told ∙ left-none _ _ (sym (C .answer) ∙ e)

@@ -1,7 +1,7 @@
 -- Each public function's contract allows one outcome. `Reads` is the contract's own reading, which the check makes of the clauses.
 use Rattle.rules.proofs.Offered.{_≡_, refl, sym, _∙_, said, said-once}
 use Rattle.rules.specs.Determined.{Determined}
-use Rattle.summaries.specs.declared.Counted.{Counted}
+use Rattle.summaries.specs.declared.Summarized.{Summarized}
 use Rattle.summaries.proofs.whole.summary_of.Kinds as summary-of-kinds
 use Rattle.summaries.proofs.whole.summary_of.Reads as summary-of-reads
 use Rattle.summaries.proofs.stretch.count.Kinds as count-kinds
@@ -12,7 +12,7 @@ use Rattle.summaries.proofs.settle.updated.Kinds as updated-kinds
 use Rattle.summaries.proofs.settle.updated.Reads as updated-reads
 
 -- an answer that says the same, with the same summary
-pub counted-once : (z z′ : Counted) → said (z .answer) ≡ said (z′ .answer) → z .summary ≡ z′ .summary → z ≡ z′
+pub counted-once : (z z′ : Summarized) → said (z .answer) ≡ said (z′ .answer) → z .summary ≡ z′ .summary → z ≡ z′
 counted-once z z′ e f i = record { answer = said-once (z .answer) (z′ .answer) e i; summary = f i }
 
 pub summary-of : Determined summary-of-kinds.ps summary-of-kinds.r summary-of-reads.Asked summary-of-reads.Learnt

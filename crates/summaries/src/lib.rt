@@ -11,7 +11,7 @@ pub use stretch::nothing;
 pub use whole::summary_of;
 
 // An answer, and the summary that goes with it.
-pub struct Counted {
+pub struct Summarized {
     pub answer: Answer,
     pub summary: Summary,
 }

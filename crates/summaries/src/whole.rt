@@ -2,7 +2,7 @@
 ghost use Rattle.rules.specs.Words.{_≡_, []};
 ghost use Rattle.rules.specs.Refusals.{said};
 ghost use Rattle.rules.specs.Summary.{summary, summary-fault, counted-summary};
-use crate::Counted;
+use crate::Summarized;
 use crate::settle::updated;
 use crate::stretch::count;
 use crate::stretch::nothing;
@@ -23,7 +23,7 @@ fn no_counts() -> Summary
 }
 
 // The card counted once; asking after that reads the summary and nothing else.
-pub fn summary_of<'a>(speeds: &'a [u16], card: &'a [u8]) -> Counted
+pub fn summary_of<'a>(speeds: &'a [u16], card: &'a [u8]) -> Summarized
     ensures answer { λ r. ⌜ said (r .answer) ≡ summary-fault (now (speeds .entry)) (now (card .entry)) ⌝ }
     ensures summary { λ r. ⌜ r .summary ≡ counted-summary (now (speeds .entry)) (now (card .entry)) ⌝ }
 {
@@ -31,13 +31,13 @@ pub fn summary_of<'a>(speeds: &'a [u16], card: &'a [u8]) -> Counted
     let seconds = speeds.len();
     let lengths = check_lengths(seconds, card.len(), card.len());
     let Answer::Done = lengths else {
-        return Counted {
+        return Summarized {
             answer: lengths,
             summary: none,
         };
     };
     let all = count(speeds, card, Span { lo: 0, hi: seconds });
-    Counted {
+    Summarized {
         answer: Answer::Done,
         summary: updated(none, nothing(), all),
     }

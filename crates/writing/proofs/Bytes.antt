@@ -117,7 +117,7 @@ job-length v car vs hs small =
     omega (arith, ap length (job-pieces v car vs hs), length-append (form v) (a ++ ((b ++ c) ++ (d ++ e))), length-append a ((b ++ c) ++ (d ++ e)), length-append (b ++ c) (d ++ e), length-append b c, length-append d e, ap length (form-one v (omega arith)))
 
 -- the parts of a vehicle in bounds are short, and so are eight numbers
-pub record Short (v : ℕ) (car : Vehicle) (eight : List ℕ) : Type 0 where
+pub record ShortVehicle (v : ℕ) (car : Vehicle) (eight : List ℕ) : Type 0 where
   pub profile : length (since 3 v .write (car .profile)) ≤ 3
   pub gears : length (form (car .ng)) ≤ 3
   pub ratios : length (values-bytes (car .ratio) (car .ng)) ≤ 30
@@ -127,7 +127,7 @@ pub record Short (v : ℕ) (car : Vehicle) (eight : List ℕ) : Type 0 where
   pub powers : length (values-bytes (car .p) (car .points)) ≤ 192
   pub margins : length (margins-bytes v (car .m) (car .points)) ≤ 192
 
-pub short : (v : ℕ) (car : Vehicle) (eight : List ℕ) → InBounds car → Short v car eight
+pub short : (v : ℕ) (car : Vehicle) (eight : List ℕ) → InBounds car → ShortVehicle v car eight
 short v car eight b = record {
   profile = since-short 3 v (car .profile);
   gears = form-size (car .ng) .1;

@@ -2,22 +2,22 @@
 use Rattle.rules.proofs.Offered.{toZ-ofZ, SFits, w32, needs, _≡_, got}
 use Rattle.exports.specs.Fields.{TM}
 use Rattle.exports.specs.Export.{none-yet, with-record, record-read}
-use Rattle.exports.specs.Bits.{Judged, Bounded}
+use Rattle.exports.specs.Bits.{InField, Bounded}
 use Rattle.exports.proofs.Sizes.{f1-short, tm-plain}
-use Rattle.exports.proofs.WholeExport.{Came, both-judged, first-stops, second-stops, third-stops, more-bytes, all-read, refused-as, read-as-found}
+use Rattle.exports.proofs.WholeExport.{RecordCame, both-judged, first-stops, second-stops, third-stops, more-bytes, all-read, refused-as, read-as-found}
 use Rattle.exports.proofs.read_export.Statement.{statement}
 use Rattle.exports.proofs.read_export.Tie as tie
 
 -- ---- what was read
 
-first : (c : tie.After-first) → Came (c .before .before .before .before .before .args .bytes .now) none-yet 0 (c .first .given .0 .0) (c .first .given .0 .1 .0)
+first : (c : tie.After-first) → RecordCame (c .before .before .before .before .before .args .bytes .now) none-yet 0 (c .first .given .0 .0) (c .first .given .0 .1 .0)
 first c = let r = rw (c .first .given .1, c .before .before .before .none-yet .ensures) at (c .before .before .record-at .ensures) in record { reads = r .0; fresh = r .1 .0; good = r .1 .1 }
 
 half : (c : tie.After-second) → c .before .before .before .and .result ≡ with-record none-yet (c .before .before .before .before .before .first .given .0 .0)
 half c = rw (c .before .before .before .before .before .before .before .before .none-yet .ensures) at (c .before .before .before .and .ensures)
 
 second : (c : tie.After-second) → let f = c .before .before .before .before .before in
-    Came (f .before .before .before .before .before .args .bytes .now) (with-record none-yet (f .first .given .0 .0)) (f .first .given .0 .1 .0) (c .second .given .0 .0) (c .second .given .0 .1 .0)
+    RecordCame (f .before .before .before .before .before .args .bytes .now) (with-record none-yet (f .first .given .0 .0)) (f .first .given .0 .1 .0) (c .second .given .0 .0) (c .second .given .0 .1 .0)
 second c = let r = rw (c .second .given .1, half c) at (c .before .before .record-at2 .ensures) in record { reads = r .0; fresh = r .1 .0; good = r .1 .1 }
 
 both : (c : tie.After-third) → c .before .before .before .and2 .result ≡ with-record (with-record none-yet (c .before .before .before .before .before .before .before .before .before .before .first .given .0 .0)) (c .before .before .before .before .before .second .given .0 .0)
@@ -26,7 +26,7 @@ both c = rw (half (c .before .before .before .before .before)) at (c .before .be
 third : (c : tie.After-third) → got (c .third .given .0 .0) (c .third .given .0 .1 .0) ≡ record-read (c .before .before .before .before .before .before .before .before .before .before .before .before .before .before .before .args .bytes .now) (c .before .before .before .and2 .result) (c .before .before .before .before .before .second .given .0 .1 .0)
 third c = rw (c .third .given .1) at (c .before .before .record-at3 .ensures .0)
 
-judged : (c : tie.After-third) → Bounded (c .before .before .before .and2 .result .coefficients) × Judged TM (c .before .before .before .and2 .result .mass)
+judged : (c : tie.After-third) → Bounded (c .before .before .before .and2 .result .coefficients) × InField TM (c .before .before .before .and2 .result .mass)
 judged c = let h = c .before .before .before .before .before in let f = h .before .before .before .before .before in rw (both c) (both-judged (f .first .given .0 .0) (h .second .given .0 .0) (first f .fresh) (second h .fresh) (first f .good) (second h .good))
 
 -- ---- the returns

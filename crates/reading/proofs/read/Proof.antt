@@ -106,7 +106,7 @@ returns-8 c =
 returns-9 : tie.Need-returns-9
 returns-9 c =
     let at-speeds : tie.After-speeds = search in
-    let at-put-speeds : tie.After-put-speeds = search in
+    let at-fill-speeds : tie.After-fill-speeds = search in
     let else3 : tie.Else3 = search in
     let at-judged : tie.After-judged = search in
     let at-number : tie.After-number = search in
@@ -120,13 +120,13 @@ returns-9 c =
     filled-as _ _ _
     (whole-gives _ _ _ (number at-number) h (omega (arith, c, else3 .if3 .left)))
     (many-length value-sound _ _ _ (sym (judged-comes (many value _) _ _ v)))
-    (speeds-stand _ (s .args .speeds .now) _ (omega (arith, c)) _ (at-put-speeds .put-speeds .ensures) v)
-    (holds-stand _ (s .args .holds .now) _ (omega (arith, c)) _ _ (c .before .before .before .put-holds .ensures) h)
+    (speeds-stand _ (s .args .speeds .now) _ (omega (arith, c)) _ (at-fill-speeds .fill-speeds .ensures) v)
+    (holds-stand _ (s .args .holds .now) _ (omega (arith, c)) _ _ (c .before .before .before .fill-holds .ensures) h)
 
 -- ---- what the callees ask
 
-put-speeds-requires : tie.Need-put-speeds-requires
-put-speeds-requires c κs =
+fill-speeds-requires : tie.Need-fill-speeds-requires
+fill-speeds-requires c κs =
     let at-judge-holds : tie.After-judge-holds = search in
     let at-group-at : tie.After-group-at = search in
     let at-passed : tie.After-passed = search in
@@ -136,8 +136,8 @@ put-speeds-requires c κs =
     let start : tie.Start = search in
     rw (length-take-le (at-seconds .seconds .given .0 .0) (start .args .speeds .now) (omega (arith, c))) (comes-by (judged-comes (many value _) _ _ (speeds at-passed)))
 
-put-holds-requires : tie.Need-put-holds-requires
-put-holds-requires c κs =
+fill-holds-requires : tie.Need-fill-holds-requires
+fill-holds-requires c κs =
     let else3 : tie.Else3 = search in
     let at-judged : tie.After-judged = search in
     let at-number : tie.After-number = search in
@@ -159,6 +159,6 @@ read-spec =
     (λ c κs. search needs) (λ c. search needs) (λ c. search needs) (λ c κs. search needs) (λ c κs. search needs)
     returns-6 (λ c. search needs) (λ c κs. let at-known-told3 : tie.After-known-told3 = search in let else2 : tie.Else2 = search in let at-seconds : tie.After-seconds = search in let b = some at-seconds in omega (arith, b)) (λ c. search needs) (λ c. search needs) (λ c κs. search needs)
     returns-7 (λ c κs. search needs) returns-8 (λ c. search needs) (λ c. sym (length-take-le _ _ (omega arith)))
-    put-speeds-requires (λ c. search needs) (λ c. sym (length-take-le _ _ (omega arith))) put-holds-requires
+    fill-speeds-requires (λ c. search needs) (λ c. sym (length-take-le _ _ (omega arith))) fill-holds-requires
     (λ c. search needs) (λ c. search needs) returns-9 in
     tie.close answers

@@ -1,10 +1,7 @@
--- `edits::buttons::hold` meets its contract: `Carried` has what the sweep asks and what is left.
-use Rattle.rules.proofs.Offered.{ℕ, List, length-replicate, arith, _≡_, sym, ap, _∙_, needs, Screen, second, asked-speeds, asked-holds}
-use Rattle.rules.specs.declared.Vehicle.{Vehicle}
-use Rattle.rules.specs.declared.Edit.{Edit}
-use Rattle.edits.specs.declared.Judged.{Judged}
+-- `edits::buttons::hold` meets its contract: `Carried` has what carrying it out asks, and each way that it is left.
+use Rattle.rules.proofs.Offered.{ℕ, length-replicate, needs, second, asked-speeds, asked-holds}
 use Rattle.rules.specs.declared.Edit.the-variants.{Hold}
-use Rattle.edits.proofs.Carried.{Judges, Accepted, refused-left, in-trace-at, in-holds-at, parts-at, range-at, passes-there, countable-again, speeds-at, holds-at, card-left-at, summary-at}
+use Rattle.edits.proofs.Carried.{Judges, refused-left, in-holds-at, carries-at, carried-at}
 use Rattle.edits.proofs.buttons.hold.Statement.{statement}
 use Rattle.edits.proofs.buttons.hold.Tie as tie
 
@@ -15,44 +12,33 @@ numbers c = c .before .before .before .before .before .before .before .before .b
 abbrev start : tie.After-judge → tie.Start
 start c = numbers c .before .before .before .before
 
--- a statement of the arguments and of what was judged
-abbrev Of : (Vehicle → Edit → List ℕ → List ℕ → List ℕ → Judged → List ℕ → Type 0) → tie.After-judge → Type 0
-Of P c = let a = start c .args in P (a .t1) (Hold (a .second) (a .gear)) (a .speeds .now) (a .holds .now) (a .card .now) (c .judge .result) (c .judge .last .1 .1 .1 .1 .1 .1 .0)
-
 -- judged, of the vehicle itself
-judged-at : (c : tie.After-judge) → Of Judges c
+judged-at : (c : tie.After-judge)
+    → let a = start c .args in Judges (a .t1) (Hold (a .second) (a .gear)) (a .speeds .now) (a .holds .now) (a .card .now) (c .judge .result) (c .judge .last .1 .1 .1 .1 .1 .1 .0)
 judged-at c = rw (numbers c .numbers-of .ensures) at (c .judge .ensures)
 
--- and not refused
-accepted-at : (c : tie.After-enum-told) → Of (λ car e vs hs old. Accepted car e vs hs old (start (c .before .before) .args .summary)) (c .before .before)
-accepted-at c = let j = judged-at (c .before .before) in record { says = j .0 _; done = c .enum-told .given .1; ready = j .1 (c .enum-told .given .1) }
-
 returns : tie.Need-returns
-returns c =
-    let says = judged-at (search) .0 _ in
-    let z = refused-left _ _ _ says (c .enum-told2 .given .1) in
-    (says, (sym (ap (λ (x : Screen). x .summary) z), (sym (ap (λ (x : Screen). x .holds) z), sym (ap (λ (x : Screen). x .card) z))))
+returns c = let x = refused-left (judged-at (search)) (c .enum-told2 .given .1) in (x .answer, (x .summary, (x .holds, x .card)))
 
-sweep-requires : tie.Need-sweep-requires
+carry-out-requires : tie.Need-carry-out-requires
 unfolding asked-speeds asked-holds
-sweep-requires c κs =
+carry-out-requires c κs =
+    let told : tie.After-enum-told = search in
     let j : tie.After-judge = search in
-    let A = accepted-at (search) in
-    rw (numbers j .numbers-of .ensures) (parts-at A, range-at A, passes-there A)
+    rw (numbers j .numbers-of .ensures) (carries-at (judged-at j) (told .enum-told .given .1))
 
 returns-2 : tie.Need-returns-2
 unfolding asked-speeds asked-holds
 returns-2 c =
+    let carried : tie.After-carry-out = search in
+    let told : tie.After-enum-told = search in
     let j : tie.After-judge = search in
-    let swept : tie.After-sweep = search in
-    let A = accepted-at (search) in
-    let r = rw (numbers j .numbers-of .ensures) at (swept .sweep .ensures) in
-    (A .says, (summary-at A r (c .updated .ensures ∙ rw (c .before .count .ensures)), (holds-at A, card-left-at A r)))
+    let x = carried-at (judged-at j) (told .enum-told .given .1) (rw (numbers j .numbers-of .ensures) at (carried .carry-out .ensures)) in
+    (x .answer, (x .summary, (x .holds, x .card)))
 
 pub hold-spec : {M : Type 1} → statement M
 unfolding second asked-speeds
 hold-spec =
     let answers = tie.spec (λ c κs. search needs) (λ c κs. length-replicate {A = ℕ} 64 0) (λ c. search needs) (λ c. search needs) (λ c. search needs) (λ c. search needs) returns
-    (λ c. in-holds-at (accepted-at c)) sweep-requires (λ c κs. countable-again (accepted-at (search)) (search needs))
-    (λ c κs. search needs) (λ c. search needs) (λ c. search needs) returns-2 in
+    (λ c. in-holds-at (judged-at (search)) (c .enum-told .given .1)) carry-out-requires (λ c. search needs) (λ c. search needs) returns-2 in
     tie.close answers

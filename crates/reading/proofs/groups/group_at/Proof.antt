@@ -6,13 +6,13 @@ use Rattle.reading.proofs.groups.group_at.Tie as tie
 returns-2 : tie.Need-returns-2
 returns-2 c =
     let s : tie.Start = search in
-    rw (c .before .byte-at .ensures .is) (sym (one (s .args .job .now) (s .args .at) (omega arith) (omega arith)))
+    rw (c .before .job-byte .ensures .is) (sym (one (s .args .job .now) (s .args .at) (omega arith) (omega arith)))
 
 returns-5 : tie.Need-returns-5
 returns-5 c =
-    let at-byte-at : tie.After-byte-at = search in
+    let at-job-byte : tie.After-job-byte = search in
     let s : tie.Start = search in
-    rw (at-byte-at .byte-at .ensures .is, c .before .before .byte-at2 .ensures .is) (sym (of₅ (two (s .args .job .now) (s .args .at)) (omega arith)))
+    rw (at-job-byte .job-byte .ensures .is, c .before .before .job-byte2 .ensures .is) (sym (of₅ (two (s .args .job .now) (s .args .at)) (omega arith)))
 
 returns-7 : tie.Need-returns-7
 returns-7 c =
@@ -22,16 +22,16 @@ returns-7 c =
 
 returns-8 : tie.Need-returns-8
 returns-8 c =
-    let at-byte-at : tie.After-byte-at = search in
+    let at-job-byte : tie.After-job-byte = search in
     let s : tie.Start = search in
     sym (of₅ (three-bad (s .args .job .now) (s .args .at)) (omega arith) (λ p q r. omega arith))
 
 returns-9 : tie.Need-returns-9
 returns-9 c =
-    let at-byte-at2 : tie.After-byte-at2 = search in
-    let at-byte-at : tie.After-byte-at = search in
+    let at-job-byte2 : tie.After-job-byte2 = search in
+    let at-job-byte : tie.After-job-byte = search in
     let s : tie.Start = search in
-    rw (at-byte-at .byte-at .ensures .is, at-byte-at2 .byte-at2 .ensures .is, c .before .before .byte-at3 .ensures .is) (sym (of₈ (three (s .args .job .now) (s .args .at)) (omega arith)))
+    rw (at-job-byte .job-byte .ensures .is, at-job-byte2 .job-byte2 .ensures .is, c .before .before .job-byte3 .ensures .is) (sym (of₈ (three (s .args .job .now) (s .args .at)) (omega arith)))
 
 pub group-at-spec : {M : Type 1} → statement M
 unfolding early

@@ -44,7 +44,7 @@ returns-3 c =
 
 returns-4 : tie.Need-returns-4
 returns-4 c =
-    let c₁ : tie.After-fill = search in
+    let c₁ : tie.After-fill-values = search in
     let c₂ = c₁ .before .before .before in
     let c₃ = c₂ .before .before in
     let c₄ = c₃ .before .before in
@@ -53,7 +53,7 @@ returns-4 c =
     let c₇ = c₆ .before .before in
     let s = c₇ .before .before in
     let g = c .before .enum-told4 .given .1 in
-    rw (c .no-car4 .ensures, g) (numbers-stop (s .args .job .now) 0 (rw (c₆ .version .given .1) at (c₇ .bounded .ensures)) (rw (c₄ .profile .given .1) at (c₅ .profile-at .ensures)) (rw (c₂ .gears .given .1) at (c₃ .gearbox-at .ensures)) (rw g at (c₁ .fill .ensures)))
+    rw (c .no-car4 .ensures, g) (numbers-stop (s .args .job .now) 0 (rw (c₆ .version .given .1) at (c₇ .bounded .ensures)) (rw (c₄ .profile .given .1) at (c₅ .profile-at .ensures)) (rw (c₂ .gears .given .1) at (c₃ .gearbox-at .ensures)) (rw g at (c₁ .fill-values .ensures)))
 
 returns-5 : tie.Need-returns-5
 returns-5 c =
@@ -66,7 +66,7 @@ returns-5 c =
     let c₇ = c₆ .before .before in
     let c₈ = c₇ .before .before in
     let s = c₈ .before .before in
-    rw (c .vehicle-of .ensures) (car-on (s .args .job .now) 0 (rw (c₇ .version .given .1) at (c₈ .bounded .ensures)) (rw (c₅ .profile .given .1) at (c₆ .profile-at .ensures)) (rw (c₃ .gears .given .1) at (c₄ .gearbox-at .ensures)) (rw (c₁ .eight .given .1) at (c₂ .fill .ensures)) (c .before .curve-at .result .at) _ (c .before .curve-at .ensures))
+    rw (c .vehicle-of .ensures) (car-on (s .args .job .now) 0 (rw (c₇ .version .given .1) at (c₈ .bounded .ensures)) (rw (c₅ .profile .given .1) at (c₆ .profile-at .ensures)) (rw (c₃ .gears .given .1) at (c₄ .gearbox-at .ensures)) (rw (c₁ .eight .given .1) at (c₂ .fill-values .ensures)) (c .before .curve-at .result .at) _ (c .before .curve-at .ensures))
 
 pub car-at-spec : {M : Type 1} → statement M
 car-at-spec =

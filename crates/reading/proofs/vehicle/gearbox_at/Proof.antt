@@ -12,7 +12,7 @@ returns c =
     let g = c .before .enum-told .given .1 in
     rw (c .came .ensures, g) (gearbox-stops (s .args .job .now) (s .args .at) (s .args .profile) (rw g at (c₁ .bounded .ensures)))
 
-fill-requires : tie.Need-fill-requires
+fill-requires : tie.Need-fill-values-requires
 fill-requires c κs =
     let c₁ = c .before .before in
     let c₂ = c₁ .before .before in
@@ -24,7 +24,7 @@ returns-2 c =
     let c₁ : tie.After-count = search in
     let c₂ = c₁ .before .before in
     let s = c₂ .before .before in
-    gearbox-on (s .args .job .now) (s .args .at) (s .args .profile) (rw (c₁ .count .given .1) at (c₂ .bounded .ensures)) (c .before .fill .result) (c .before .fill .last .1 .1 .1 .0) (c .before .fill .ensures)
+    gearbox-on (s .args .job .now) (s .args .at) (s .args .profile) (rw (c₁ .count .given .1) at (c₂ .bounded .ensures)) (c .before .fill-values .result) (c .before .fill-values .last .1 .1 .1 .0) (c .before .fill-values .ensures)
 
 pub gearbox-at-spec : {M : Type 1} → statement M
 gearbox-at-spec =

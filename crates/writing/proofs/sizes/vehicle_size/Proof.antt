@@ -1,10 +1,10 @@
 -- `writing::sizes::vehicle_size` meets its contract: the sizes of the vehicle's parts, which are small, in a sum.
 use Rattle.rules.proofs.Offered.{arith, needs}
-use Rattle.writing.proofs.Bytes.{Short, short, vehicle-length}
+use Rattle.writing.proofs.Bytes.{ShortVehicle, short, vehicle-length}
 use Rattle.writing.proofs.sizes.vehicle_size.Statement.{statement}
 use Rattle.writing.proofs.sizes.vehicle_size.Tie as tie
 
-short-at : (c : tie.After-numbers-between) → Short (c .before .args .version) (c .before .args .t2) (c .numbers-between .result)
+short-at : (c : tie.After-numbers-between) → ShortVehicle (c .before .args .version) (c .before .args .t2) (c .numbers-between .result)
 short-at c = short _ _ _ (c .before .pre)
 
 returns : tie.Need-returns

@@ -1,9 +1,9 @@
--- `reading::holds::put_holds` meets its contract. The loop's invariant: reading the holds that are left into the room as it stands is what was asked.
+-- `reading::holds::fill_holds` meets its contract. The loop's invariant: reading the holds that are left into the room as it stands is what was asked.
 use Rattle.rules.proofs.Offered.{_≤_, _-_, arith, _≡_, refl, length, length-set, length-replicate, needs, put}
 use Rattle.reading.specs.Progress.{hold-row, used}
 use Rattle.reading.proofs.Loops.{Putting, put-begins, put-ends, put-short, gear-there, gear-ends, second-fits, put-again}
-use Rattle.reading.proofs.holds.put_holds.Statement.{statement}
-use Rattle.reading.proofs.holds.put_holds.Tie as tie
+use Rattle.reading.proofs.holds.fill_holds.Statement.{statement}
+use Rattle.reading.proofs.holds.fill_holds.Tie as tie
 
 abbrev Inv-loop : tie.InvT-loop
 Inv-loop job at holds room₀ place₀ i₀ room place i = (i ≤ holds) × (length room ≡ length room₀) × Putting (length room₀) job holds i place room (used (λ hs. put hs room₀) (hold-row (length room₀) holds) job at)
@@ -39,8 +39,8 @@ loop-again c =
     let byte = c .shared-slice-known2 .given (c .before .short-at .result .next) in
     (omega arith, simp length-set (c₁ .loop .inv .1), put-again (c₁ .loop .inv .2) (omega arith) (c .before .short-at .ensures) (omega (arith, byte)))
 
-pub put-holds-spec : {M : Type 1} → statement M
-put-holds-spec =
+pub fill-holds-spec : {M : Type 1} → statement M
+fill-holds-spec =
     let answers = tie.spec Inv-loop μ-loop (λ c κs. search needs) loop-holds (λ c κs. put-short (c .before .loop .inv .2) (omega arith))
     (λ c. gear-there (c .before .before .before .loop .inv .2) (omega arith) (c .before .short-at .ensures)) slice-write-room add-place
     (λ c. omega (arith, c .shared-slice-known2 .given (c .before .short-at .result .next)))
