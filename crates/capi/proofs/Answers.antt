@@ -1,9 +1,10 @@
--- Demand 1 of the other C functions: the reader, the writer, the summary, the cycle, downscaling, the export, the reasons of a second. Each answers as the function behind it, so all
+-- Demand 1 of the other C functions: the reader, the writer, the summary, the cycle, downscaling,
+-- the export, the reasons of a second. Each answers as the function behind it, so all
 -- that this function's Demands have holds of it too; number 0 exactly where nothing is refused, and any other number changes no byte.
-use Rattle.rules.proofs.Offered.{ℕ, _≤_, _≡_, refl, _∙_, _≢_, _↔_, none, List, length, at, card, said, job-read, read-fault, write-fault, summary, summary-fault, counted-summary, why-fault, why, Told, told-or, told-when, summary-told, write-told, job-told}
+use Rattle.rules.proofs.Offered.{ℕ, _≤_, _≡_, refl, _∙_, _≢_, _↔_, none, List, length, at, card, job-read, read-fault, write-fault, summary}
+use Rattle.rules.proofs.Offered.{summary-fault, counted-summary, why-fault, why, Told, told-or, told-when, summary-told, write-told, job-told}
 use Rattle.rules.specs.declared.Vehicle.{Vehicle}
 use Rattle.rules.specs.declared.Refusal.the-variants.{RoomLength, BadPart, BadFactor}
-use Rattle.reading.specs.declared.Reading.{Reading}
 use Rattle.reading.specs.Reader.{reading, ReadAs}
 use Rattle.reading.proofs.Demands as reading-says
 use Rattle.reading.proofs.Contracts.{read-beyond}
@@ -11,14 +12,12 @@ use Rattle.writing.specs.Writing.{WriteAs}
 use Rattle.writing.proofs.Demands as writing-says
 use Rattle.writing.proofs.Contracts.{write-beyond}
 use Rattle.summaries.proofs.Demands.{CountedOf, nine-whole}
-use Rattle.cycles.specs.Cycle.{cycle}
 use Rattle.cycles.specs.Parts.{fill-fault, fill-room}
 use Rattle.cycles.proofs.Demands as cycles-says
 use Rattle.cycles.proofs.Demands.{Filled}
-use Rattle.downscale.specs.Steps.{scaled, down-fault, down-room}
+use Rattle.downscale.specs.Steps.{down-fault, down-room}
 use Rattle.downscale.proofs.Demands as downscale-says
 use Rattle.downscale.proofs.Demands.{Scaled}
-use Rattle.exports.specs.declared.Export.{Export}
 use Rattle.exports.specs.Export.{export-read, ExportAs}
 use Rattle.exports.proofs.Told.{export-told}
 use Rattle.exports.proofs.Accepted.{TwoRecords}
@@ -38,7 +37,8 @@ use Rattle.capi.proofs.Demands.{number-0, some-refusal}
 -- ---- the reader
 
 module _ {job speeds holds : List ℕ} {r : JobAnswer} {speeds′ holds′ : List ℕ} (R : JobRead job speeds holds r speeds′ holds′) where
-  pub as-read : ReadAs job speeds holds (record { answer = job-told job (length speeds) (length holds) .answer; version = r .version; vehicle = r .vehicle; count = r .count }) speeds′ holds′
+  pub as-read : ReadAs job speeds holds
+      (record { answer = job-told job (length speeds) (length holds) .answer; version = r .version; vehicle = r .vehicle; count = r .count }) speeds′ holds′
   unfolding reading
   as-read = record {
     answered = job-told job (length speeds) (length holds) .says;

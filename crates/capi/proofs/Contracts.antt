@@ -1,7 +1,9 @@
 -- What the contracts of the C functions say, as the check reads them: of the working and of the edits what Demands has the demands of, of the others what
 -- Answers has.
-use Rattle.rules.proofs.Offered.{_≡_, sym, now, Lasts, atExit, Lfts, Dens, endedOf, resT, showing, hold-no-speed, release-no-speed, mend-no-hold}
+use Rattle.rules.proofs.Offered.{_≡_, sym, now, showing, hold-no-speed, release-no-speed, mend-no-hold}
+use Rattle.rules.specs.Determined.{AsksNothing, Promises}
 use Rattle.rules.specs.declared.Edit.the-variants.{Hold, Release, Mend}
+use Rattle.edits.specs.Asks.{screen}
 use Rattle.capi.specs.Verdicts.{JobRead, JobWritten, ExportRead}
 use Rattle.capi.proofs.Demands.{CWorked, CEdited}
 use Rattle.capi.proofs.Answers.{CCounted, CFilled, CScaled, CWhy}
@@ -32,53 +34,51 @@ use Rattle.capi.proofs.gearcard_export.Reads as export-reads
 
 -- ---- demand 1: every input gets an answer, for none of them asks anything of its caller
 
-pub read-asks-nothing : (κs : Lfts 3) (a : Dens κs read-kinds.ps) → read-reads.Asked κs a
+pub read-asks-nothing : AsksNothing read-kinds.ps read-reads.Asked
 read-asks-nothing κs a = tt
 
-pub write-asks-nothing : (κs : Lfts 2) (a : Dens κs write-kinds.ps) → write-reads.Asked κs a
+pub write-asks-nothing : AsksNothing write-kinds.ps write-reads.Asked
 write-asks-nothing κs a = tt
 
-pub work-asks-nothing : (κs : Lfts 2) (a : Dens κs work-kinds.ps) → work-reads.Asked κs a
+pub work-asks-nothing : AsksNothing work-kinds.ps work-reads.Asked
 work-asks-nothing κs a = tt
 
-pub summary-of-asks-nothing : (κs : Lfts 1) (a : Dens κs summary-of-kinds.ps) → summary-of-reads.Asked κs a
+pub summary-of-asks-nothing : AsksNothing summary-of-kinds.ps summary-of-reads.Asked
 summary-of-asks-nothing κs a = tt
 
-pub hold-asks-nothing : (κs : Lfts 3) (a : Dens κs hold-kinds.ps) → hold-reads.Asked κs a
+pub hold-asks-nothing : AsksNothing hold-kinds.ps hold-reads.Asked
 hold-asks-nothing κs a = tt
 
-pub release-asks-nothing : (κs : Lfts 3) (a : Dens κs release-kinds.ps) → release-reads.Asked κs a
+pub release-asks-nothing : AsksNothing release-kinds.ps release-reads.Asked
 release-asks-nothing κs a = tt
 
-pub mend-asks-nothing : (κs : Lfts 3) (a : Dens κs mend-kinds.ps) → mend-reads.Asked κs a
+pub mend-asks-nothing : AsksNothing mend-kinds.ps mend-reads.Asked
 mend-asks-nothing κs a = tt
 
-pub why-asks-nothing : (κs : Lfts 1) (a : Dens κs why-kinds.ps) → why-reads.Asked κs a
+pub why-asks-nothing : AsksNothing why-kinds.ps why-reads.Asked
 why-asks-nothing κs a = tt
 
-pub cycle-asks-nothing : (κs : Lfts 1) (a : Dens κs cycle-kinds.ps) → cycle-reads.Asked κs a
+pub cycle-asks-nothing : AsksNothing cycle-kinds.ps cycle-reads.Asked
 cycle-asks-nothing κs a = tt
 
-pub cycle-part-asks-nothing : (κs : Lfts 0) (a : Dens κs cycle-part-kinds.ps) → cycle-part-reads.Asked κs a
+pub cycle-part-asks-nothing : AsksNothing cycle-part-kinds.ps cycle-part-reads.Asked
 cycle-part-asks-nothing κs a = tt
 
-pub downscale-asks-nothing : (κs : Lfts 1) (a : Dens κs downscale-kinds.ps) → downscale-reads.Asked κs a
+pub downscale-asks-nothing : AsksNothing downscale-kinds.ps downscale-reads.Asked
 downscale-asks-nothing κs a = tt
 
-pub export-asks-nothing : (κs : Lfts 1) (a : Dens κs export-kinds.ps) → export-reads.Asked κs a
+pub export-asks-nothing : AsksNothing export-kinds.ps export-reads.Asked
 export-asks-nothing κs a = tt
 
 -- ---- what the working and each edit say
 
-pub work-says : (κs : Lfts 2) (a : Dens κs work-kinds.ps) → work-reads.Asked κs a → (z : resT work-kinds.r κs .Denot) (ws : Lasts (endedOf 2 work-kinds.ps work-kinds.r) κs a)
-    → work-reads.Learnt κs a z (atExit (endedOf 2 work-kinds.ps work-kinds.r) κs a ws)
-    → CWorked (a .0) (now (a .1 .0)) (now (a .1 .1 .0)) (now (a .1 .1 .1 .0)) z (ws .1 .1 .1 .0)
+pub work-says : Promises work-kinds.ps work-kinds.r work-reads.Asked work-reads.Learnt
+    (λ κs a z ws. CWorked (a .0) (now (a .1 .0)) (now (a .1 .1 .0)) (now (a .1 .1 .1 .0)) z (ws .1 .1 .1 .0))
 work-says κs a asked z ws p = record { answer = p .0; card-left = p .1 }
 
-pub hold-says : (κs : Lfts 3) (a : Dens κs hold-kinds.ps) → hold-reads.Asked κs a → (z : resT hold-kinds.r κs .Denot) (ws : Lasts (endedOf 3 hold-kinds.ps hold-kinds.r) κs a)
-    → hold-reads.Learnt κs a z (atExit (endedOf 3 hold-kinds.ps hold-kinds.r) κs a ws)
-    → CEdited (a .0) (Hold (a .1 .1 .1 .1 .0) (a .1 .1 .1 .1 .1 .0)) (showing (now (a .1 .0)) (now (a .1 .1 .0)) (now (a .1 .1 .1 .0)) (a .1 .1 .1 .1 .1 .1 .0)) (z .verdict)
-    (showing (now (a .1 .0)) (ws .1 .1 .0) (ws .1 .1 .1 .0) (z .summary))
+pub hold-says : Promises hold-kinds.ps hold-kinds.r hold-reads.Asked hold-reads.Learnt
+    (λ κs a z ws. CEdited (a .0) (Hold (a .1 .1 .1 .1 .0) (a .1 .1 .1 .1 .1 .0)) (screen (a .1 .0) (a .1 .1 .0) (a .1 .1 .1 .0) (a .1 .1 .1 .1 .1 .1 .0))
+    (z .verdict) (showing (now (a .1 .0)) (ws .1 .1 .0) (ws .1 .1 .1 .0) (z .summary)))
 hold-says κs a asked z ws p = record {
   answer = p .0;
   speeds-left = sym (hold-no-speed _ _ _ _);
@@ -87,10 +87,9 @@ hold-says κs a asked z ws p = record {
   summary-left = p .1 .0;
 }
 
-pub release-says : (κs : Lfts 3) (a : Dens κs release-kinds.ps) → release-reads.Asked κs a → (z : resT release-kinds.r κs .Denot) (ws : Lasts (endedOf 3 release-kinds.ps release-kinds.r) κs a)
-    → release-reads.Learnt κs a z (atExit (endedOf 3 release-kinds.ps release-kinds.r) κs a ws)
-    → CEdited (a .0) (Release (a .1 .1 .1 .1 .0)) (showing (now (a .1 .0)) (now (a .1 .1 .0)) (now (a .1 .1 .1 .0)) (a .1 .1 .1 .1 .1 .0)) (z .verdict)
-    (showing (now (a .1 .0)) (ws .1 .1 .0) (ws .1 .1 .1 .0) (z .summary))
+pub release-says : Promises release-kinds.ps release-kinds.r release-reads.Asked release-reads.Learnt
+    (λ κs a z ws. CEdited (a .0) (Release (a .1 .1 .1 .1 .0)) (screen (a .1 .0) (a .1 .1 .0) (a .1 .1 .1 .0) (a .1 .1 .1 .1 .1 .0)) (z .verdict)
+    (showing (now (a .1 .0)) (ws .1 .1 .0) (ws .1 .1 .1 .0) (z .summary)))
 release-says κs a asked z ws p = record {
   answer = p .0;
   speeds-left = sym (release-no-speed _ _ _);
@@ -99,10 +98,9 @@ release-says κs a asked z ws p = record {
   summary-left = p .1 .0;
 }
 
-pub mend-says : (κs : Lfts 3) (a : Dens κs mend-kinds.ps) → mend-reads.Asked κs a → (z : resT mend-kinds.r κs .Denot) (ws : Lasts (endedOf 3 mend-kinds.ps mend-kinds.r) κs a)
-    → mend-reads.Learnt κs a z (atExit (endedOf 3 mend-kinds.ps mend-kinds.r) κs a ws)
-    → CEdited (a .0) (Mend (a .1 .1 .1 .1 .0) (a .1 .1 .1 .1 .1 .0)) (showing (now (a .1 .0)) (now (a .1 .1 .0)) (now (a .1 .1 .1 .0)) (a .1 .1 .1 .1 .1 .1 .0)) (z .verdict)
-    (showing (ws .1 .0) (now (a .1 .1 .0)) (ws .1 .1 .1 .0) (z .summary))
+pub mend-says : Promises mend-kinds.ps mend-kinds.r mend-reads.Asked mend-reads.Learnt
+    (λ κs a z ws. CEdited (a .0) (Mend (a .1 .1 .1 .1 .0) (a .1 .1 .1 .1 .1 .0)) (screen (a .1 .0) (a .1 .1 .0) (a .1 .1 .1 .0) (a .1 .1 .1 .1 .1 .1 .0))
+    (z .verdict) (showing (ws .1 .0) (now (a .1 .1 .0)) (ws .1 .1 .1 .0) (z .summary)))
 mend-says κs a asked z ws p = record {
   answer = p .0;
   speeds-left = p .1 .1 .0;
@@ -113,37 +111,30 @@ mend-says κs a asked z ws p = record {
 
 -- ---- what the others say
 
-pub read-says : (κs : Lfts 3) (a : Dens κs read-kinds.ps) → read-reads.Asked κs a → (z : resT read-kinds.r κs .Denot) (ws : Lasts (endedOf 3 read-kinds.ps read-kinds.r) κs a)
-    → read-reads.Learnt κs a z (atExit (endedOf 3 read-kinds.ps read-kinds.r) κs a ws)
-    → JobRead (now (a .0)) (now (a .1 .0)) (now (a .1 .1 .0)) z (ws .1 .0) (ws .1 .1 .0)
+pub read-says : Promises read-kinds.ps read-kinds.r read-reads.Asked read-reads.Learnt
+    (λ κs a z ws. JobRead (now (a .0)) (now (a .1 .0)) (now (a .1 .1 .0)) z (ws .1 .0) (ws .1 .1 .0))
 read-says κs a asked z ws p = p
 
-pub write-says : (κs : Lfts 2) (a : Dens κs write-kinds.ps) → write-reads.Asked κs a → (z : resT write-kinds.r κs .Denot) (ws : Lasts (endedOf 2 write-kinds.ps write-kinds.r) κs a)
-    → write-reads.Learnt κs a z (atExit (endedOf 2 write-kinds.ps write-kinds.r) κs a ws)
-    → JobWritten (a .0) (a .1 .0) (now (a .1 .1 .0)) (now (a .1 .1 .1 .0)) (now (a .1 .1 .1 .1 .0)) z (ws .1 .1 .1 .1 .0)
+pub write-says : Promises write-kinds.ps write-kinds.r write-reads.Asked write-reads.Learnt
+    (λ κs a z ws. JobWritten (a .0) (a .1 .0) (now (a .1 .1 .0)) (now (a .1 .1 .1 .0)) (now (a .1 .1 .1 .1 .0)) z (ws .1 .1 .1 .1 .0))
 write-says κs a asked z ws p = p
 
-pub summary-of-says : (κs : Lfts 1) (a : Dens κs summary-of-kinds.ps) → summary-of-reads.Asked κs a → (z : resT summary-of-kinds.r κs .Denot) (ws : Lasts (endedOf 1 summary-of-kinds.ps summary-of-kinds.r) κs a)
-    → summary-of-reads.Learnt κs a z (atExit (endedOf 1 summary-of-kinds.ps summary-of-kinds.r) κs a ws)
-    → CCounted (now (a .0)) (now (a .1 .0)) z
+pub summary-of-says : Promises summary-of-kinds.ps summary-of-kinds.r summary-of-reads.Asked summary-of-reads.Learnt
+    (λ κs a z ws. CCounted (now (a .0)) (now (a .1 .0)) z)
 summary-of-says κs a asked z ws p = record { answer = p .0; summary-told = p .1 }
 
-pub why-says : (κs : Lfts 1) (a : Dens κs why-kinds.ps) → why-reads.Asked κs a → (z : resT why-kinds.r κs .Denot) (ws : Lasts (endedOf 1 why-kinds.ps why-kinds.r) κs a)
-    → why-reads.Learnt κs a z (atExit (endedOf 1 why-kinds.ps why-kinds.r) κs a ws)
-    → CWhy (a .0) (now (a .1 .0)) (now (a .1 .1 .0)) (a .1 .1 .1 .0) z
+pub why-says : Promises why-kinds.ps why-kinds.r why-reads.Asked why-reads.Learnt
+    (λ κs a z ws. CWhy (a .0) (now (a .1 .0)) (now (a .1 .1 .0)) (a .1 .1 .1 .0) z)
 why-says κs a asked z ws p = record { answer = p .0; reasons-told = p .1 }
 
-pub cycle-says : (κs : Lfts 1) (a : Dens κs cycle-kinds.ps) → cycle-reads.Asked κs a → (z : resT cycle-kinds.r κs .Denot) (ws : Lasts (endedOf 1 cycle-kinds.ps cycle-kinds.r) κs a)
-    → cycle-reads.Learnt κs a z (atExit (endedOf 1 cycle-kinds.ps cycle-kinds.r) κs a ws)
-    → CFilled (a .0) (now (a .1 .0)) z (ws .1 .0)
+pub cycle-says : Promises cycle-kinds.ps cycle-kinds.r cycle-reads.Asked cycle-reads.Learnt
+    (λ κs a z ws. CFilled (a .0) (now (a .1 .0)) z (ws .1 .0))
 cycle-says κs a asked z ws p = record { answer = p .0; room-left = p .1 }
 
-pub downscale-says : (κs : Lfts 1) (a : Dens κs downscale-kinds.ps) → downscale-reads.Asked κs a → (z : resT downscale-kinds.r κs .Denot) (ws : Lasts (endedOf 1 downscale-kinds.ps downscale-kinds.r) κs a)
-    → downscale-reads.Learnt κs a z (atExit (endedOf 1 downscale-kinds.ps downscale-kinds.r) κs a ws)
-    → CScaled (a .0) (now (a .1 .0)) z (ws .1 .0)
+pub downscale-says : Promises downscale-kinds.ps downscale-kinds.r downscale-reads.Asked downscale-reads.Learnt
+    (λ κs a z ws. CScaled (a .0) (now (a .1 .0)) z (ws .1 .0))
 downscale-says κs a asked z ws p = record { answer = p .0; room-left = p .1 }
 
-pub export-says : (κs : Lfts 1) (a : Dens κs export-kinds.ps) → export-reads.Asked κs a → (z : resT export-kinds.r κs .Denot) (ws : Lasts (endedOf 1 export-kinds.ps export-kinds.r) κs a)
-    → export-reads.Learnt κs a z (atExit (endedOf 1 export-kinds.ps export-kinds.r) κs a ws)
-    → ExportRead (now (a .0)) z
+pub export-says : Promises export-kinds.ps export-kinds.r export-reads.Asked export-reads.Learnt
+    (λ κs a z ws. ExportRead (now (a .0)) z)
 export-says κs a asked z ws p = p

@@ -1,6 +1,8 @@
 -- The demands on the C functions, over their contracts as the check reads them. A C caller sees a number and a place: number 0 exactly where nothing is
 -- refused. What the working and the edits promise stands in the Demands of `cards` and of `rules`, and is cited.
-use Rattle.rules.proofs.Offered.{ℕ, _<_, _≤_, arith, _≡_, refl, sym, ap, _∙_, _≢_, _↔_, false, Option, none, some, List, [], length, at, card, card-at, shown, Fault, said, work-fault, work-card, Screen, showing, second, asked-speeds, asked-holds, span, edit-fault, edited, Wanting, PassesOthers, Right, Spares, Out, none-held, Told, told-from-1, work-told, edit-told, summary}
+use Rattle.rules.proofs.Offered.{ℕ, _<_, _≤_, arith, _≡_, refl, sym, ap, _∙_, _≢_, _↔_, false, Option, none, some, List, [], length, at, card, card-at, shown}
+use Rattle.rules.proofs.Offered.{Fault, said, work-fault, work-card, Screen, showing, second, asked-speeds, asked-holds, span, edit-fault, edited, Wanting}
+use Rattle.rules.proofs.Offered.{PassesOthers, Right, Spares, Out, none-held, Told, told-from-1, work-told, edit-told, summary}
 use Rattle.rules.proofs.Demands.{Worked, EditedBy, EditedWith}
 use Rattle.rules.proofs.Theorems.Cards.{want-of-a-gear}
 use Rattle.rules.proofs.Theorems.Edits.{edit-as-whole, zero-held-by-7}
@@ -31,7 +33,8 @@ some-refusal (some f) n = (f, refl)
 by-ten : (q : Option Fault) (i : ℕ) → as-verdict q ≡ record { number = 10; place = i } → q ≡ some (record { no = 10; spot = i })
 unfolding as-verdict
 by-ten none i e = let n : _≡_ {A = ℕ} 0 10 = ap (λ (v : Verdict). v .number) e in absurd (omega arith)
-by-ten (some f) i e = let n : f .no ≡ 10 = ap (λ (v : Verdict). v .number) e in let p : f .spot ≡ i = ap (λ (v : Verdict). v .place) e in λ k. some (record { no = n k; spot = p k })
+by-ten (some f) i e = let n : f .no ≡ 10 = ap (λ (v : Verdict). v .number) e in let p : f .spot ≡ i = ap (λ (v : Verdict). v .place) e in
+    λ k. some (record { no = n k; spot = p k })
 
 as-ten : {q : Option Fault} {i : ℕ} → q ≡ some (record { no = 10; spot = i }) → as-verdict q ≡ record { number = 10; place = i }
 unfolding as-verdict
@@ -143,7 +146,8 @@ module _ {car : Vehicle} {e : Edit} {x : Screen} {z : Verdict} {y : Screen} (E :
   twelve-edit n = rules-says.twelve-edit (as-edited .lists) (edit-accepted n)
 
 -- a held second shows the held gear; gear 0 is refused by 7
-pub demand-3-shows : {car : Vehicle} {s g : ℕ} {x : Screen} {z : Verdict} {y : Screen} → CEdited car (Hold s g) x z y → z .number ≡ 0 → shown (at (y .card) s) ≡ g
+pub demand-3-shows : {car : Vehicle} {s g : ℕ} {x : Screen} {z : Verdict} {y : Screen} → CEdited car (Hold s g) x z y → z .number ≡ 0
+    → shown (at (y .card) s) ≡ g
 demand-3-shows E n = rules-says.demand-3-shows (as-edited E .lists) (edit-accepted E n)
 
 pub demand-3-none-held : {car : Vehicle} {s : ℕ} {x : Screen} {z : Verdict} {y : Screen} → CEdited car (Hold s 0) x z y → Right car x → s < length (x .speeds)

@@ -1,12 +1,12 @@
 -- What the C functions answer: the refusal's number and place, number 0 where there is none.
-use Rattle.rules.specs.Words.{ℕ, _≡_, refl, sym, ap, _∙_, Option, none, some, List, length, pos}
+use Rattle.rules.specs.Words.{ℕ, _≡_, ap, _∙_, Option, none, some, List, length, pos}
 use Rattle.rules.specs.declared.Answer.{Answer}
 use Rattle.rules.specs.declared.Answer.the-variants.{Done, Refused}
 use Rattle.rules.specs.Refusals.{Fault, said, told, left}
 use Rattle.rules.specs.declared.Vehicle.{Vehicle}
 use Rattle.rules.specs.Job.{job-read, read-fault, job-of, filled}
 use Rattle.rules.specs.Write.{job-bytes, write-fault, write-room}
-use Rattle.exports.specs.Export.{export-read, numbers-of}
+use Rattle.exports.specs.Export.{export-read, figures-of}
 use Rattle.capi.specs.declared.Verdict.{Verdict}
 use Rattle.capi.specs.declared.JobAnswer.{JobAnswer}
 use Rattle.capi.specs.declared.WriteAnswer.{WriteAnswer}
@@ -45,7 +45,7 @@ pub record JobWritten (v : ℕ) (car : Vehicle) (vs hs room : List ℕ) (r : Wri
 -- the answer r is what is read of the export; all 0 where it is refused
 pub record ExportRead (bytes : List ℕ) (r : ExportAnswer) : Type 0 where
   pub answered : r .verdict ≡ as-verdict (read-fault (export-read bytes 0))
-  pub the-f0 : pos (r .f0) ≡ numbers-of (export-read bytes 0) .f0
-  pub the-f1 : r .f1 ≡ numbers-of (export-read bytes 0) .f1
-  pub the-f2 : pos (r .f2) ≡ numbers-of (export-read bytes 0) .f2
-  pub the-tm : pos (r .tm) ≡ numbers-of (export-read bytes 0) .tm
+  pub the-f0 : pos (r .f0) ≡ figures-of (export-read bytes 0) .f0
+  pub the-f1 : r .f1 ≡ figures-of (export-read bytes 0) .f1
+  pub the-f2 : pos (r .f2) ≡ figures-of (export-read bytes 0) .f2
+  pub the-tm : pos (r .tm) ≡ figures-of (export-read bytes 0) .tm

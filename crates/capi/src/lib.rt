@@ -4,8 +4,9 @@ ghost use Rattle.rules.specs.Words.{_≡_, length};
 ghost use Rattle.rules.specs.Refusals.{work-fault, work-card};
 ghost use Rattle.rules.specs.declared.Edit.the-variants.{Hold, Release, Mend};
 ghost use Rattle.rules.specs.Summary.{summary-fault, counted-summary};
-ghost use Rattle.rules.specs.Edit.{showing, edit-fault, edited};
+ghost use Rattle.rules.specs.Edit.{edit-fault, edited};
 ghost use Rattle.rules.specs.Why.{why-fault, why};
+ghost use Rattle.edits.specs.Asks.{screen};
 ghost use Rattle.cycles.specs.Parts.{fill-fault, fill-room, stretch};
 ghost use Rattle.downscale.specs.Steps.{down-fault, down-room};
 ghost use Rattle.capi.specs.Verdicts.{says, as-verdict, JobRead, JobWritten, ExportRead};
@@ -154,10 +155,10 @@ pub extern "C" fn gearcard_hold(
     gear: u8,
     summary: Summary,
 ) -> SummaryAnswer
-    ensures answer { λ r. ⌜ r .verdict ≡ as-verdict (edit-fault vehicle (Hold second gear) (showing (now (speeds .entry)) (now (holds .entry)) (now (card .entry)) summary)) ⌝ }
-    ensures summary { λ r. ⌜ r .summary ≡ edited vehicle (Hold second gear) (showing (now (speeds .entry)) (now (holds .entry)) (now (card .entry)) summary) .summary ⌝ }
-    ensures holds { λ r. ⌜ now (holds .exit) ≡ edited vehicle (Hold second gear) (showing (now (speeds .entry)) (now (holds .entry)) (now (card .entry)) summary) .holds ⌝ }
-    ensures card { λ r. ⌜ now (card .exit) ≡ edited vehicle (Hold second gear) (showing (now (speeds .entry)) (now (holds .entry)) (now (card .entry)) summary) .card ⌝ }
+    ensures answer { λ r. ⌜ r .verdict ≡ as-verdict (edit-fault vehicle (Hold second gear) (screen (speeds .entry) (holds .entry) (card .entry) summary)) ⌝ }
+    ensures summary { λ r. ⌜ r .summary ≡ edited vehicle (Hold second gear) (screen (speeds .entry) (holds .entry) (card .entry) summary) .summary ⌝ }
+    ensures holds { λ r. ⌜ now (holds .exit) ≡ edited vehicle (Hold second gear) (screen (speeds .entry) (holds .entry) (card .entry) summary) .holds ⌝ }
+    ensures card { λ r. ⌜ now (card .exit) ≡ edited vehicle (Hold second gear) (screen (speeds .entry) (holds .entry) (card .entry) summary) .card ⌝ }
 {
     let counted = edits::hold(vehicle, speeds, holds, card, second, gear, summary);
     counted_of(counted)
@@ -173,10 +174,10 @@ pub extern "C" fn gearcard_release(
     second: usize,
     summary: Summary,
 ) -> SummaryAnswer
-    ensures answer { λ r. ⌜ r .verdict ≡ as-verdict (edit-fault vehicle (Release second) (showing (now (speeds .entry)) (now (holds .entry)) (now (card .entry)) summary)) ⌝ }
-    ensures summary { λ r. ⌜ r .summary ≡ edited vehicle (Release second) (showing (now (speeds .entry)) (now (holds .entry)) (now (card .entry)) summary) .summary ⌝ }
-    ensures holds { λ r. ⌜ now (holds .exit) ≡ edited vehicle (Release second) (showing (now (speeds .entry)) (now (holds .entry)) (now (card .entry)) summary) .holds ⌝ }
-    ensures card { λ r. ⌜ now (card .exit) ≡ edited vehicle (Release second) (showing (now (speeds .entry)) (now (holds .entry)) (now (card .entry)) summary) .card ⌝ }
+    ensures answer { λ r. ⌜ r .verdict ≡ as-verdict (edit-fault vehicle (Release second) (screen (speeds .entry) (holds .entry) (card .entry) summary)) ⌝ }
+    ensures summary { λ r. ⌜ r .summary ≡ edited vehicle (Release second) (screen (speeds .entry) (holds .entry) (card .entry) summary) .summary ⌝ }
+    ensures holds { λ r. ⌜ now (holds .exit) ≡ edited vehicle (Release second) (screen (speeds .entry) (holds .entry) (card .entry) summary) .holds ⌝ }
+    ensures card { λ r. ⌜ now (card .exit) ≡ edited vehicle (Release second) (screen (speeds .entry) (holds .entry) (card .entry) summary) .card ⌝ }
 {
     let counted = edits::release(vehicle, speeds, holds, card, second, summary);
     counted_of(counted)
@@ -193,10 +194,10 @@ pub extern "C" fn gearcard_mend(
     speed: u16,
     summary: Summary,
 ) -> SummaryAnswer
-    ensures answer { λ r. ⌜ r .verdict ≡ as-verdict (edit-fault vehicle (Mend second speed) (showing (now (speeds .entry)) (now (holds .entry)) (now (card .entry)) summary)) ⌝ }
-    ensures summary { λ r. ⌜ r .summary ≡ edited vehicle (Mend second speed) (showing (now (speeds .entry)) (now (holds .entry)) (now (card .entry)) summary) .summary ⌝ }
-    ensures speeds { λ r. ⌜ now (speeds .exit) ≡ edited vehicle (Mend second speed) (showing (now (speeds .entry)) (now (holds .entry)) (now (card .entry)) summary) .speeds ⌝ }
-    ensures card { λ r. ⌜ now (card .exit) ≡ edited vehicle (Mend second speed) (showing (now (speeds .entry)) (now (holds .entry)) (now (card .entry)) summary) .card ⌝ }
+    ensures answer { λ r. ⌜ r .verdict ≡ as-verdict (edit-fault vehicle (Mend second speed) (screen (speeds .entry) (holds .entry) (card .entry) summary)) ⌝ }
+    ensures summary { λ r. ⌜ r .summary ≡ edited vehicle (Mend second speed) (screen (speeds .entry) (holds .entry) (card .entry) summary) .summary ⌝ }
+    ensures speeds { λ r. ⌜ now (speeds .exit) ≡ edited vehicle (Mend second speed) (screen (speeds .entry) (holds .entry) (card .entry) summary) .speeds ⌝ }
+    ensures card { λ r. ⌜ now (card .exit) ≡ edited vehicle (Mend second speed) (screen (speeds .entry) (holds .entry) (card .entry) summary) .card ⌝ }
 {
     let counted = edits::mend(vehicle, speeds, holds, card, second, speed, summary);
     counted_of(counted)

@@ -1,5 +1,9 @@
 -- Lists of which a stretch has been worked.
-use Rattle.rules.proofs.Offered.{ℕ, zero, suc, _+_, _-_, _≤_, _<_, _%_, zero-add, arith, _≡_, refl, sym, ap, _∙_, _≢_, _⊎_, inl, inr, Bool, true, false, List, [], _∷_, _++_, leb, ltb, length, set, take, drop, length-set, length-drop, List·getD-eq-default, ext-getD, take-all, getD-set-same, getD-set-other, lt-leb, le-leb, lt-ltb, le-ltb, if_then_else_, _and_, at, part, table, patch, moving, rise, start, stop, gears, trip-speeds, trip-holds, gear-at, clutch, byte, card-at, card, IsTrip, by-order, at-part, length-part, at-table, length-table, table-ext, table-add, table-at, patch-in, patch-out, trip-start, trip-stop, of₃}
+use Rattle.rules.proofs.Offered.{ℕ, zero, suc, _+_, _-_, _≤_, _<_, _%_, zero-add, arith, _≡_, refl, sym, ap, _∙_, _≢_, _⊎_, inl, inr, Bool, true, false, List}
+use Rattle.rules.proofs.Offered.{[], _∷_, _++_, leb, ltb, length, set, take, drop, length-set, length-drop, List·getD-eq-default, ext-getD, take-all}
+use Rattle.rules.proofs.Offered.{getD-set-same, getD-set-other, lt-leb, le-leb, lt-ltb, le-ltb, if_then_else_, _and_, at, part, table, patch, moving, rise}
+use Rattle.rules.proofs.Offered.{start, stop, gears, trip-speeds, trip-holds, gear-at, clutch, byte, card-at, card, IsTrip, by-order, at-part, length-part}
+use Rattle.rules.proofs.Offered.{at-table, length-table, table-ext, table-add, table-at, patch-in, patch-out, trip-start, trip-stop, of₃}
 use Rattle.rules.specs.declared.Vehicle.{Vehicle}
 
 -- ---- a list of which a stretch has been worked

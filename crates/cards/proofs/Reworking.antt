@@ -1,5 +1,10 @@
 -- The card worked in place, stretch by stretch.
-use Rattle.rules.proofs.Offered.{ℕ, zero, suc, _+_, _-_, _≤_, _<_, _%_, min, add-zero, add-one, arith, _≡_, refl, sym, ap, _∙_, _⊎_, inl, inr, Bool, true, false, none, List, _++_, ltb, eqb, natAbs, length, set, take, drop, lt-ltb, ltb-false, eq-eqb, ne-eqb, if_then_else_, _and_, _or_, at, part, table, patch, steepest, moving, rise, start, stop, gear-at, card-at, card, Check, speed, step, ends, over-ng, bad, span-fault, IsTrip, patch-in, clash, by-test, by-order, both, or-left, or-right, at-part, length-part, natAbs-gap, trip-of, stop-le, stop-to, stop-after, stop-in, stop-standing, standing-past, passed, driven, floor-low, low-from, fit-of, gear-in-range, byte-gear, InBounds}
+use Rattle.rules.proofs.Offered.{ℕ, zero, suc, _+_, _-_, _≤_, _<_, _%_, min, add-zero, add-one, arith, _≡_, refl, sym, ap, _∙_, _⊎_, inl, inr, Bool, true}
+use Rattle.rules.proofs.Offered.{false, none, List, _++_, ltb, eqb, natAbs, length, set, take, drop, lt-ltb, ltb-false, eq-eqb, ne-eqb, if_then_else_, _and_}
+use Rattle.rules.proofs.Offered.{_or_, at, part, table, patch, steepest, moving, rise, start, stop, gear-at, card-at, card, Check, speed, step, ends, over-ng}
+use Rattle.rules.proofs.Offered.{bad, span-fault, IsTrip, patch-in, clash, by-test, by-order, both, or-left, or-right, at-part, length-part, natAbs-gap}
+use Rattle.rules.proofs.Offered.{trip-of, stop-le, stop-to, stop-after, stop-in, stop-standing, standing-past, passed, driven, floor-low, low-from, fit-of}
+use Rattle.rules.proofs.Offered.{gear-in-range, byte-gear, InBounds}
 use Rattle.rules.specs.declared.Vehicle.{Vehicle}
 use Rattle.gears.specs.declared.Numbers.{Numbers}
 use Rattle.gears.specs.Parts.{Counts}
@@ -9,10 +14,11 @@ use Rattle.checks.proofs.Dry.{step-small, end-second}
 use Rattle.trips.proofs.Bytes.{gear-part, trip-is}
 use Rattle.cards.proofs.Patches.{length-patch, patch-none, patch-join, patch-join-back, patch-one, patch-part}
 use Rattle.cards.specs.Rework.{Between, Fitting, Range, Passes, At}
-use Rattle.trips.specs.Ready.{Ready}
+use Rattle.trips.specs.Ready.{ReadyTrip}
 
 -- a standing second before a trip, and one before another standing second
-standing-card : (car : Vehicle) (vs hs : List ℕ) (i : ℕ) → moving (at vs i) ≡ false → moving (at vs (suc i)) ≡ true → card-at car vs hs i ≡ 16 + gear-at car vs hs (suc i)
+standing-card : (car : Vehicle) (vs hs : List ℕ) (i : ℕ) → moving (at vs i) ≡ false → moving (at vs (suc i)) ≡ true
+    → card-at car vs hs i ≡ 16 + gear-at car vs hs (suc i)
 unfolding card-at
 standing-card car vs hs i r m = rw (r, m)
 
@@ -55,7 +61,7 @@ module _ {vs hs old : List ℕ} {a b : ℕ} (B : Between vs hs old a b) where
       )
 
   -- what the work on the trip asks
-  pub ready : {car : Vehicle} {k : Numbers} → Counts car k → Fitting car vs hs a b → Ready k (part vs a (b + 1)) (part hs a b) (part old a b)
+  pub ready : {car : Vehicle} {k : Numbers} → Counts car k → Fitting car vs hs a b → ReadyTrip k (part vs a (b + 1)) (part hs a b) (part old a b)
   unfolding bad
   ready {car = car} K F =
       let x = B .trip .some-second in
@@ -83,7 +89,8 @@ module _ {vs hs old : List ℕ} {a b : ℕ} (B : Between vs hs old a b) where
           let i : a + j < b = omega (arith, length-part hs a b (omega (arith, B .holds))) in
           let m : moving (at vs (a + j)) ≡ true = B .trip .inside (a + j) (omega arith) i in
           let r = gear-in-range car vs hs (B .holds) (a + j) m C (F (a + j) (omega arith) i) in
-          rw (gear-part car vs hs (B .trip) (B .holds) l j i) (record { from = omega (arith, floor-low car C (at vs (a + j)), low-from car, r .0); to = omega (arith, r .1, C .ng-to) });
+          rw (gear-part car vs hs (B .trip) (B .holds) l j i)
+          (record { from = omega (arith, floor-low car C (at vs (a + j)), low-from car, r .0); to = omega (arith, r .1, C .ng-to) });
     })
 
     -- the standing second before shows the gear of the trip's first second
@@ -105,14 +112,16 @@ module _ {vs hs old : List ℕ} {a b : ℕ} (B : Between vs hs old a b) where
         let o = B .before in
         let e : suc (a - 1) ≡ a = omega arith in
         let p : take a old ++ (z ++ drop b old) ≡ patch old a b f =
-        ap (λ (y : List ℕ). take a old ++ (y ++ drop b old)) (rw add-one at q ∙ trip-is car vs hs (B .trip) (B .holds) l) ∙ patch-part f old a b (omega arith) (omega arith) in
+        ap (λ (y : List ℕ). take a old ++ (y ++ drop b old)) (rw add-one at q ∙ trip-is car vs hs (B .trip) (B .holds) l)
+        ∙ patch-part f old a b (omega arith) (omega arith) in
         rw (p, patch-in old a b f a (omega arith) x (omega arith), shows-first)
         (patch-one f (patch old a b f) (a - 1) ∙ rw e (patch-join-back f old (a - 1) a b (omega arith) (omega arith)))
 
 -- ---- a standing second with the trip that follows it
 
 -- where a span passes, the trace's first or last second stands
-pub ends-stand : (car : Vehicle) (vs hs : List ℕ) (lo hi : ℕ) → span-fault car vs hs lo hi ≡ none → (i : ℕ) → lo ≤ i → i < hi → (i ≡ 0) ⊎ (suc i ≡ length vs) → moving (at vs i) ≡ false
+pub ends-stand : (car : Vehicle) (vs hs : List ℕ) (lo hi : ℕ) → span-fault car vs hs lo hi ≡ none → (i : ℕ) → lo ≤ i → i < hi → (i ≡ 0) ⊎ (suc i ≡ length vs)
+    → moving (at vs i) ≡ false
 unfolding bad
 ends-stand car vs hs lo hi e i a b o =
     by-test (moving (at vs i)) (λ m. clash (both m (end-second i (length vs) o)) (passed car vs hs lo hi e ends i a b)) (λ m. m)
@@ -161,7 +170,8 @@ module _ {vs hs old : List ℕ} {i : ℕ} (A : At vs hs old i) where
       follows =
           let r = in-range in
           let t = in-time in
-          rw add-one (between car vs hs (A .lo) (min (suc (A .hi)) (length vs)) (suc i) (stop vs (suc i)) P (omega (arith, A .since)) (omega arith) old (A .range .holds) (A .range .room) its-trip (omega arith) t)
+          rw add-one (between car vs hs (A .lo) (min (suc (A .hi)) (length vs)) (suc i) (stop vs (suc i)) P (omega (arith, A .since)) (omega arith) old
+          (A .range .holds) (A .range .room) its-trip (omega arith) t)
 
       pub follows-fit : Fitting car vs hs (i + 1) (stop vs (i + 1))
       follows-fit =
@@ -195,14 +205,17 @@ module _ {car : Vehicle} {vs hs old : List ℕ} {lo hi : ℕ} (P : Range vs hs o
       in-trace = omega (arith, P .inside);
     }
 
-    pub swept-more : {j : ℕ} {next : List ℕ} → i < hi → j ≡ stop vs (i + 1) → next ≡ patch new i (stop vs (i + 1)) (card-at car vs hs) → Swept car vs hs old next lo hi j
+    pub swept-more : {j : ℕ} {next : List ℕ} → i < hi → j ≡ stop vs (i + 1) → next ≡ patch new i (stop vs (i + 1)) (card-at car vs hs)
+        → Swept car vs hs old next lo hi j
     swept-more {j} {next} h x y =
         let l = stop-le vs (i + 1) in
         rw x (record {
           since = omega (arith, S .since);
           until = rw add-one (stops-by vs i hi h (P .ends));
           standing = stop-after vs (i + 1);
-          so-far = y ∙ ap (λ (c : List ℕ). patch c i (stop vs (i + 1)) (card-at car vs hs)) (S .so-far) ∙ patch-join (card-at car vs hs) old lo i (stop vs (i + 1)) (S .since) (omega arith);
+          so-far =
+              y ∙ ap (λ (c : List ℕ). patch c i (stop vs (i + 1)) (card-at car vs hs)) (S .so-far)
+              ∙ patch-join (card-at car vs hs) old lo i (stop vs (i + 1)) (S .since) (omega arith);
           same-room = ap length y ∙ length-patch (card-at car vs hs) new i (stop vs (i + 1)) ∙ S .same-room;
         })
 

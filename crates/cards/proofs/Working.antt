@@ -1,10 +1,12 @@
 -- Each way out of the whole working.
-use Rattle.rules.proofs.Offered.{ℕ, suc, min, arith, _≡_, refl, sym, ap, _∙_, inl, Option, List, length, set, length-set, set-out, set-getD, at, patch, card-at, card, Fault, said, span-fault, work-fault, work-card, by-order, standing-past, trace-in}
+use Rattle.rules.proofs.Offered.{ℕ, suc, min, arith, _≡_, refl, sym, ap, _∙_, inl, Option, List, length, set, length-set, set-out, set-getD, at, patch, card-at}
+use Rattle.rules.proofs.Offered.{card, Fault, said, span-fault, work-fault, work-card, by-order, standing-past, trace-in}
 use Rattle.rules.specs.declared.Vehicle.{Vehicle}
 use Rattle.rules.specs.declared.Refusal.{Refusal}
 use Rattle.rules.specs.declared.Answer.{Answer}
 use Rattle.rules.specs.declared.Answer.the-variants.{Done, Refused}
 use Rattle.checks.specs.Want.{Resting}
+use Rattle.checks.proofs.Through.{unasked}
 use Rattle.checks.proofs.Rows.{opening, Opened, after-opening, opening-first, said-none, left-old, left-new}
 use Rattle.cards.specs.Rework.{Range, Passes}
 use Rattle.cards.proofs.Patches.{patch-all}
@@ -13,7 +15,8 @@ use Rattle.cards.proofs.Reworking.{ends-stand}
 -- ---- the whole working
 
 module _ (car : Vehicle) (vs hs old : List ℕ) where
-  pub work-opening : {x : Answer} {q : Refusal} → said x ≡ opening car vs hs old → x ≡ Refused q → (said x ≡ work-fault car vs hs old) × (old ≡ work-card car vs hs old)
+  pub work-opening : {x : Answer} {q : Refusal} → said x ≡ opening car vs hs old → x ≡ Refused q → (said x ≡ work-fault car vs hs old)
+      × (old ≡ work-card car vs hs old)
   unfolding work-fault work-card
   work-opening e h = let f = opening-first car vs hs old (span-fault car vs hs 0 (length vs)) e h in (f, left-old old (card car vs hs) f h)
 
@@ -23,16 +26,16 @@ module _ {car : Vehicle} {vs hs old : List ℕ} (O : Opened car vs hs old) where
   pub whole-resting : (v : ℕ) → Resting (set vs (length vs) v) 0 (length vs)
   whole-resting v = record { some = trace-in vs (O .trace) .0; begins = λ z. absurd (z refl); ends = λ z. absurd (z (sym (length-set vs (length vs) v))) }
 
-  pub no-edit : (one : Vehicle) (v g : ℕ) (f : Option Fault) → f ≡ span-fault one (set vs (length vs) v) (set hs (length vs) g) 0 (length vs) → f ≡ span-fault one vs hs 0 (length vs)
-  no-edit one v g f e =
-      e ∙ ap (λ (us : List ℕ). span-fault one us (set hs (length vs) g) 0 (length vs)) (set-out vs (length vs) v (omega arith))
-      ∙ ap (λ (ks : List ℕ). span-fault one vs ks 0 (length vs)) (set-out hs (length vs) g (omega (arith, O .holds-long)))
+  pub no-edit : (one : Vehicle) (v g : ℕ) (f : Option Fault) → f ≡ span-fault one (set vs (length vs) v) (set hs (length vs) g) 0 (length vs)
+      → f ≡ span-fault one vs hs 0 (length vs)
+  no-edit one v g f e = e ∙ unasked (λ us ks. span-fault one us ks 0 (length vs)) vs hs (O .holds-long) v g
 
   work-is : work-fault car vs hs old ≡ span-fault car vs hs 0 (length vs)
   unfolding work-fault
   work-is = after-opening (span-fault car vs hs 0 (length vs)) O
 
-  pub work-span : {x : Answer} {q : Refusal} → said x ≡ span-fault car vs hs 0 (length vs) → x ≡ Refused q → (said x ≡ work-fault car vs hs old) × (old ≡ work-card car vs hs old)
+  pub work-span : {x : Answer} {q : Refusal} → said x ≡ span-fault car vs hs 0 (length vs) → x ≡ Refused q → (said x ≡ work-fault car vs hs old)
+      × (old ≡ work-card car vs hs old)
   unfolding work-card
   work-span e h = let f = e ∙ sym work-is in (f, left-old old (card car vs hs) f h)
 

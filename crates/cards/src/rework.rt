@@ -1,9 +1,8 @@
 // The card, worked in place.
 ghost use Rattle.rules.specs.Words.{_≡_, _+_, _-_, patch};
-ghost use Rattle.rules.specs.declared.Vehicle.{Vehicle};
 ghost use Rattle.rules.specs.Units.{stop};
 ghost use Rattle.rules.specs.Corrections.{card-at};
-ghost use Rattle.gears.specs.Parts.{Lent, Parts};
+ghost use Rattle.gears.specs.Parts.{Parts, OfLent};
 ghost use Rattle.cards.specs.Rework.{Between, Fitting, Range, Passes, At};
 use checks::Span;
 use checks::trip_stop;
@@ -21,8 +20,10 @@ pub fn rework<'a>(
     card: &mut [u8],
     trip: Span,
 )
-    requires { ⌜ Parts k (now ratio) (now n) (now p) × Between (now speeds) (now holds) (now card) (trip .lo) (trip .hi) × ((car : Vehicle) → Lent car k (now ratio) (now n) (now p) → Fitting car (now speeds) (now holds) (trip .lo) (trip .hi)) ⌝ }
-    ensures { λ r. ⌜ ((car : Vehicle) → Lent car k (now (ratio .entry)) (now (n .entry)) (now (p .entry)) → now (card .exit) ≡ patch (now (card .entry)) (trip .lo - 1) (trip .hi) (card-at car (now (speeds .entry)) (now (holds .entry)))) ⌝ }
+    requires { ⌜ Parts k (now ratio) (now n) (now p) × Between (now speeds) (now holds) (now card) (trip .lo) (trip .hi)
+        × OfLent k (now ratio) (now n) (now p) (λ car. Fitting car (now speeds) (now holds) (trip .lo) (trip .hi)) ⌝ }
+    ensures { λ r. ⌜ OfLent k (now (ratio .entry)) (now (n .entry)) (now (p .entry))
+        (λ car. now (card .exit) ≡ patch (now (card .entry)) (trip .lo - 1) (trip .hi) (card-at car (now (speeds .entry)) (now (holds .entry)))) ⌝ }
 {
     let a = trip.lo;
     let b = trip.hi;
@@ -51,9 +52,13 @@ fn stretch<'a>(
     card: &mut [u8],
     i: usize,
 ) -> usize
-    requires { ⌜ Parts k (now ratio) (now n) (now p) × ((here : At (now speeds) (now holds) (now card) i) × ((car : Vehicle) → Lent car k (now ratio) (now n) (now p) → Passes car (now speeds) (now holds) (here .lo) (here .hi))) ⌝ }
+    requires { ⌜ Parts k (now ratio) (now n) (now p)
+        × ((here : At (now speeds) (now holds) (now card) i)
+        × OfLent k (now ratio) (now n) (now p) (λ car. Passes car (now speeds) (now holds) (here .lo) (here .hi))) ⌝ }
     ensures next { λ r. ⌜ r ≡ stop (now (speeds .entry)) (i + 1) ⌝ }
-    ensures worked { λ r. ⌜ ((car : Vehicle) → Lent car k (now (ratio .entry)) (now (n .entry)) (now (p .entry)) → now (card .exit) ≡ patch (now (card .entry)) i (stop (now (speeds .entry)) (i + 1)) (card-at car (now (speeds .entry)) (now (holds .entry)))) ⌝ }
+    ensures worked { λ r. ⌜ OfLent k (now (ratio .entry)) (now (n .entry)) (now (p .entry))
+        (λ car. now (card .exit) ≡ patch (now (card .entry)) i (stop (now (speeds .entry)) (i + 1))
+        (card-at car (now (speeds .entry)) (now (holds .entry)))) ⌝ }
 {
     let a = i + 1;
     let b = trip_stop(speeds, a);
@@ -76,8 +81,10 @@ pub fn sweep<'a>(
     card: &mut [u8],
     range: Span,
 )
-    requires { ⌜ Parts k (now ratio) (now n) (now p) × Range (now speeds) (now holds) (now card) (range .lo) (range .hi) × ((car : Vehicle) → Lent car k (now ratio) (now n) (now p) → Passes car (now speeds) (now holds) (range .lo) (range .hi)) ⌝ }
-    ensures { λ r. ⌜ ((car : Vehicle) → Lent car k (now (ratio .entry)) (now (n .entry)) (now (p .entry)) → now (card .exit) ≡ patch (now (card .entry)) (range .lo) (range .hi) (card-at car (now (speeds .entry)) (now (holds .entry)))) ⌝ }
+    requires { ⌜ Parts k (now ratio) (now n) (now p) × Range (now speeds) (now holds) (now card) (range .lo) (range .hi)
+        × OfLent k (now ratio) (now n) (now p) (λ car. Passes car (now speeds) (now holds) (range .lo) (range .hi)) ⌝ }
+    ensures { λ r. ⌜ OfLent k (now (ratio .entry)) (now (n .entry)) (now (p .entry))
+        (λ car. now (card .exit) ≡ patch (now (card .entry)) (range .lo) (range .hi) (card-at car (now (speeds .entry)) (now (holds .entry)))) ⌝ }
 {
     let mut i = range.lo;
     while i < range.hi {

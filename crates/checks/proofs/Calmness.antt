@@ -1,11 +1,12 @@
 -- What the cheap test of a span finds is enough: no second of it fails one of the checks 4 to 9.
-use Rattle.rules.proofs.Offered.{ℕ, zero, suc, _+_, _-_, _≤_, _<_, add-zero, le-trans, arith, _≡_, refl, sym, true, false, List, none, eqb, length, eqb-true, eqb-false, at, fastest, moving, step, ends, checks, bad, seconds-fault, clash, by-test, by-eq}
+use Rattle.rules.proofs.Offered.{ℕ, zero, suc, _+_, _-_, _≤_, _<_, max, add-zero, arith, _≡_, refl, sym, true, false, List, none, eqb, length, eqb-true}
+use Rattle.rules.proofs.Offered.{eqb-false, at, fastest, moving, step, ends, checks, bad, seconds-fault, clash, by-test, by-eq}
 use Rattle.rules.specs.declared.Vehicle.{Vehicle}
 use Rattle.gears.specs.declared.Numbers.{Numbers}
 use Rattle.gears.specs.Parts.{Has}
 use Rattle.gears.proofs.Parts.{built, built-has}
 use Rattle.checks.specs.Checks.{fault-no, kept, hold-checks}
-use Rattle.checks.specs.Calm.{Each, AtMost, Stands, HoldsPass}
+use Rattle.checks.specs.Calm.{Each, AtMost, most-of, Stands, HoldsPass}
 use Rattle.checks.proofs.OnePass.{Kept, begin, no-lower, done, table-rises}
 use Rattle.checks.proofs.Tests.{ends-standing, ends-between, free-good, onward}
 
@@ -17,9 +18,32 @@ each-none P lo i a b = absurd (omega arith)
 pub each-more : (P : ℕ → Type 0) (lo j : ℕ) → Each P lo j → P j → Each P lo (j + 1)
 each-more P lo j s h i a b = by-eq {P = P i} {i = i} {j = j} (omega arith) (λ e. rw e h) (λ l. s i a l)
 
--- the larger of the highest so far and of what stands at the next place is the highest
-pub most-more : (f : ℕ → ℕ) (lo j : ℕ) {m r : ℕ} → AtMost f lo j m → m ≤ r → f j ≤ r → AtMost f lo (j + 1) r
-most-more f lo j {m} {r} s a b = each-more (λ i. f i ≤ r) lo j (λ i x y. le-trans (s i x y) a) b
+-- ---- the highest of the places
+
+module _ (f : ℕ → ℕ) (lo : ℕ) where
+  -- of none
+  pub most-none : (j : ℕ) → j ≤ lo → 0 ≡ most-of f lo (j - lo)
+  unfolding most-of
+  most-none j h = let e : j - lo ≡ 0 = omega arith in rw e
+
+  -- and of one more: the larger of the highest so far and of what stands there
+  pub most-more : (j : ℕ) → lo ≤ j → {m r : ℕ} → m ≡ most-of f lo (j - lo) → r ≡ max m (f j) → r ≡ most-of f lo (j + 1 - lo)
+  unfolding most-of
+  most-more j h e g =
+      let x : j + 1 - lo ≡ suc (j - lo) = omega arith in
+      let y : lo + (j - lo) ≡ j = omega arith in
+      rw (x, y, ← e) g
+
+  -- nothing is above it
+  most-tops : (k : ℕ) → AtMost f lo (lo + k) (most-of f lo k)
+  unfolding most-of
+  most-tops zero i a b = absurd (omega arith)
+  most-tops (suc k) i a b =
+      by-eq {P = f i ≤ max (most-of f lo k) (f (lo + k))} {i = i} {j = lo + k} (omega arith) (λ e. rw e (omega arith))
+      (λ l. let z = most-tops k i a l in omega arith)
+
+  pub at-most : (hi : ℕ) {m : ℕ} → m ≡ most-of f lo (hi - lo) → AtMost f lo hi m
+  at-most hi e i a b = rw e (most-tops (hi - lo) i a (omega arith))
 
 -- ---- nothing is wrong
 
@@ -56,7 +80,8 @@ module _ (k : Numbers) (ratio vs hs : List ℕ) (lo hi : ℕ) where
     so-far zero h = rw add-zero (begin _ _ (omega arith))
     so-far (suc j) h =
         let e : lo + suc j ≡ lo + j + 1 = omega arith in
-        rw e (no-lower _ _ table-rises (so-far j (omega arith)) (built k ratio) (built-has k ratio) {no = 10} (λ car H. good (lo + j) (omega arith) (omega arith) car H) (omega arith) refl refl (omega arith))
+        rw e (no-lower _ _ table-rises (so-far j (omega arith)) (built k ratio) (built-has k ratio) {no = 10}
+        (λ car H. good (lo + j) (omega arith) (omega arith) car H) (omega arith) refl refl (omega arith))
 
     pub nothing-wrong : (car : Vehicle) → Has car k ratio → none ≡ seconds-fault car vs hs lo hi
     unfolding kept seconds-fault

@@ -14,6 +14,8 @@ use Rattle.checks.proofs.seconds.check_seconds.Kinds as check-seconds-k
 use Rattle.checks.proofs.seconds.check_seconds.Reads as check-seconds-reads
 use Rattle.checks.proofs.row.check_span.Kinds as check-span-kinds
 use Rattle.checks.proofs.row.check_span.Reads as check-span-reads
+use Rattle.checks.proofs.want.check_gears.Kinds as check-gears-kinds
+use Rattle.checks.proofs.want.check_gears.Reads as check-gears-reads
 
 -- some list of a length
 of : (n : ℕ) → length {A = ℕ} (replicate n 0) ≡ n
@@ -43,3 +45,6 @@ check-seconds κs a asked z z′ ws ws′ p q = let H = built-has (a .0) (now (a
 
 pub check-span : Determined check-span-kinds.ps check-span-kinds.r check-span-reads.Asked check-span-reads.Learnt
 check-span κs a asked z z′ ws ws′ p q = let car = asked .0 .car in let L = asked .0 .lent in (said-once z z′ (p car L ∙ sym (q car L)), refl)
+
+pub check-gears : Determined check-gears-kinds.ps check-gears-kinds.r check-gears-reads.Asked check-gears-reads.Learnt
+check-gears κs a asked z z′ ws ws′ p q = let car = asked .0 .car in let L = asked .0 .lent in (said-once z z′ (p car L ∙ sym (q car L)), refl)

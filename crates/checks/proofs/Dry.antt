@@ -1,5 +1,9 @@
 -- The dry run of first choices: a span that it can go through, a trip part by part, and the trips of the span one after the other.
-use Rattle.rules.proofs.Offered.{ℕ, zero, suc, _+_, _-_, _≤_, _<_, add-one, arith, _≡_, refl, sym, ap, _∙_, _≢_, _⊎_, inl, inr, Bool, true, false, Option, none, some, List, eqb, lit<, natAbs, length, ltb-false, lt-ltb, eq-eqb, eqb-true, eqb-false, _and_, _or_, at, part, first, fastest, steepest, moving, rise, start, stop, first-at, speed, step, ends, no-gear, checks, bad, seconds-fault, clash, by-test, by-order, by-eq, both, and-no, or-left, or-right, at-part, length-part, natAbs-gap, Left, again, trip-of, start-le, stop-le, stop-after, stop-standing, listed, step-passed}
+use Rattle.rules.proofs.Offered.{ℕ, zero, suc, _+_, _-_, _≤_, _<_, add-one, arith, _≡_, refl, sym, ap, _∙_, _≢_, _⊎_, inl, inr, Bool, true, false, Option, none}
+use Rattle.rules.proofs.Offered.{some, List, eqb, lit<, natAbs, length, ltb-false, lt-ltb, eq-eqb, eqb-true, eqb-false, _and_, _or_, at, part, first, fastest}
+use Rattle.rules.proofs.Offered.{steepest, moving, rise, start, stop, first-at, speed, step, ends, no-gear, checks, bad, seconds-fault, clash, by-test}
+use Rattle.rules.proofs.Offered.{by-order, by-eq, both, and-no, or-left, or-right, at-part, length-part, natAbs-gap, Left, again, trip-of, start-le, stop-le}
+use Rattle.rules.proofs.Offered.{stop-after, stop-standing, listed, step-passed}
 use Rattle.rules.specs.declared.Vehicle.{Vehicle}
 use Rattle.trips.specs.Trip.{AllMoving}
 use Rattle.trips.proofs.Closing.{Closing, run-start}
@@ -9,7 +13,8 @@ use Rattle.checks.specs.Want.{Resting, Level, Ahead, Through, LowestAt}
 -- ---- a span that passes 4 to 9
 
 -- a step that passes is at most 150
-pub step-small : (car : Vehicle) (vs hs : List ℕ) (lo i : ℕ) → lo ≤ i → suc i < length vs → bad step car vs hs lo (suc i) ≡ false → natAbs (rise vs i) ≤ steepest
+pub step-small : (car : Vehicle) (vs hs : List ℕ) (lo i : ℕ) → lo ≤ i → suc i < length vs → bad step car vs hs lo (suc i) ≡ false
+    → natAbs (rise vs i) ≤ steepest
 unfolding bad rise _and_
 step-small car vs hs lo i a b e =
     let x : suc i - 1 ≡ i = omega arith in
@@ -92,7 +97,8 @@ module _ {car : Vehicle} {vs hs : List ℕ} {a i before : ℕ} (inv : Dry car vs
   unfolding bad
   dry-stops p q h m lo = record { from = omega (arith, T .until .from); to = omega arith; fails = good-so-far lo; holds = λ l. both m (T .until .holds h) }
 
-pub dry-ends : {car : Vehicle} {vs hs : List ℕ} {a b i before : ℕ} → Dry car vs hs a i before → a ≤ b → i ≡ b → (lo : ℕ) → LowestAt (bad no-gear car vs hs lo) a b b
+pub dry-ends : {car : Vehicle} {vs hs : List ℕ} {a b i before : ℕ} → Dry car vs hs a i before → a ≤ b → i ≡ b → (lo : ℕ)
+    → LowestAt (bad no-gear car vs hs lo) a b b
 dry-ends inv h e lo = record { from = h; to = omega arith; fails = λ j x y. inv .good lo j x (omega arith); holds = λ l. absurd (omega arith) }
 
 -- ---- the trips of a span
@@ -102,7 +108,8 @@ pub passes-over : {p : ℕ → Bool} {i hi : ℕ} {r : Option ℕ} → Left p i 
 passes-over inv zero a b f = by-eq a (λ e. rw (← e) inv) (λ l. absurd (omega arith))
 passes-over inv (suc j) a b f =
     by-eq a (λ e. rw (← e) inv)
-    (λ l. rw (← add-one j) (again (passes-over inv j (omega arith) (omega arith) (λ m x y. f m x (omega arith))) (omega arith) (f j (omega arith) (omega arith))))
+    (λ l. rw (← add-one j) (again (passes-over inv j (omega arith) (omega arith) (λ m x y. f m x (omega arith))) (omega arith)
+    (f j (omega arith) (omega arith))))
 
 module _ {vs hs : List ℕ} {lo hi a : ℕ} (Y : Level vs hs lo hi) (x : lo < a) (y : a < hi) (s : moving (at vs (a - 1)) ≡ false) where
   -- a trip ends by the span's last second, which stands

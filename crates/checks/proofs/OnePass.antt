@@ -1,5 +1,7 @@
 -- The checks of a span in one pass from left to right, where the table has one search a number: what a pass has to keep, and that it is enough.
-use Rattle.rules.proofs.Offered.{ℕ, zero, suc, _+_, _-_, _≤_, _<_, suc-add, add-suc, add-zero, sub-self, add-one, arith, _≡_, refl, sym, _∙_, Bool, true, false, Option, none, some, List, [], _∷_, ltb, ltb-true, ltb-false, lt-ltb, le-ltb, if_then_else_, _and_, first, Fault, refuse-at, _orelse_, when, Check, check-number, checks, bad, fault-of, by-test, if-ind, and-left, and-right}
+use Rattle.rules.proofs.Offered.{ℕ, zero, suc, _+_, _-_, _≤_, _<_, suc-add, add-suc, add-zero, sub-self, add-one, arith, _≡_, refl, sym, _∙_, Bool, true, false}
+use Rattle.rules.proofs.Offered.{Option, none, some, List, [], _∷_, ltb, ltb-true, ltb-false, lt-ltb, le-ltb, if_then_else_, _and_, first, Fault, refuse-at}
+use Rattle.rules.proofs.Offered.{_orelse_, when, Check, check-number, checks, bad, fault-of, by-test, if-ind, and-left, and-right}
 use Rattle.rules.specs.declared.Vehicle.{Vehicle}
 use Rattle.checks.specs.Checks.{fault-no, kept}
 
@@ -80,7 +82,8 @@ module _ (car : Vehicle) (vs hs : List ℕ) (lo i : ℕ) where
   fault-above n (c ∷ cs) r =
       let l : n < check-number c = ltb-true _ _ (and-left _ _ r) in
       let rest : Above (check-number c) (fault-of (λ c. bad c car vs hs lo) lo i cs) = fault-above (check-number c) cs (and-right _ _ r) in
-      above-row n (check-number c) _ (fault-of (λ c. bad c car vs hs lo) lo i cs) l (above-less n (check-number c) (fault-of (λ c. bad c car vs hs lo) lo i cs) l rest)
+      above-row n (check-number c) _ (fault-of (λ c. bad c car vs hs lo) lo i cs) l
+      (above-less n (check-number c) (fault-of (λ c. bad c car vs hs lo) lo i cs) l rest)
 
   -- the key: over checks whose numbers rise, second i adds its first check that fails, and only where that number is the lowest yet
   fault-more : (n : ℕ) (cs : List Check) → rises n cs ≡ true → lo ≤ i
@@ -163,5 +166,6 @@ module _ (P : Vehicle → Type 0) (cs : List Check) {vs hs : List ℕ} {lo hi : 
       }
 
   -- past the last second, what is kept is the span's refusal
-  pub done : {i best place : ℕ} → Kept P cs vs hs lo hi i best place → hi ≤ i → (car : Vehicle) → P car → kept best place ≡ fault-of (λ c. bad c car vs hs lo) lo hi cs
+  pub done : {i best place : ℕ} → Kept P cs vs hs lo hi i best place → hi ≤ i → (car : Vehicle) → P car
+      → kept best place ≡ fault-of (λ c. bad c car vs hs lo) lo hi cs
   done {i} inv h car H = let e : i ≡ hi = omega (arith, inv .until) in rw e at (sym (inv .same car H))

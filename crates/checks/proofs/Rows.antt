@@ -1,5 +1,7 @@
 -- The checks in a row, and the opening, 1 to 3: each way out of them.
-use Rattle.rules.proofs.Offered.{ℕ, _≤_, _<_, arith, _≡_, refl, sym, ap, _∙_, Option, none, List, length, le-leb, lt-leb, eq-eqb, ne-eqb, _and_, within, longest, Fault, said, refuse-at, _orelse_, when, trace-fault, room-fault, vehicle-fault, left, InBounds, orelse-none, none-orelse, orelse-assoc, rooms-in, vehicle-in}
+use Rattle.rules.proofs.Offered.{ℕ, _≤_, _<_, arith, _≡_, refl, sym, ap, _∙_, Option, none, List, length, le-leb, lt-leb, eq-eqb, ne-eqb, _and_, within}
+use Rattle.rules.proofs.Offered.{longest, Fault, said, refuse-at, _orelse_, when, trace-fault, room-fault, vehicle-fault, left, InBounds, orelse-none}
+use Rattle.rules.proofs.Offered.{none-orelse, orelse-assoc, rooms-in, vehicle-in}
 use Rattle.rules.specs.declared.Vehicle.{Vehicle}
 use Rattle.rules.specs.declared.Refusal.{Refusal}
 use Rattle.rules.specs.declared.Refusal.the-variants.{TraceLength, RoomLength}
@@ -68,10 +70,12 @@ module _ (vs hs old : List ℕ) where
     unfolding said room-fault when refuse-at _and_
     lengths-good e f = sym (none-orelse _ _ no-trace-fault ∙ rw (eq-eqb (length hs) (length vs) e, eq-eqb (length old) (length vs) f))
 
-  pub opening-lengths : (car : Vehicle) {x : Answer} {r : Refusal} → said x ≡ (trace-fault vs orelse room-fault vs hs old) → x ≡ Refused r → said x ≡ opening car vs hs old
+  pub opening-lengths : (car : Vehicle) {x : Answer} {r : Refusal} → said x ≡ (trace-fault vs orelse room-fault vs hs old) → x ≡ Refused r
+      → said x ≡ opening car vs hs old
   opening-lengths car e h = said-first (vehicle-fault car) e h ∙ orelse-assoc _ _ _
 
-  pub opening-vehicle : (car : Vehicle) {x : Answer} (y : Answer) → said x ≡ (trace-fault vs orelse room-fault vs hs old) → x ≡ Done → said y ≡ vehicle-fault car → said y ≡ opening car vs hs old
+  pub opening-vehicle : (car : Vehicle) {x : Answer} (y : Answer) → said x ≡ (trace-fault vs orelse room-fault vs hs old) → x ≡ Done
+      → said y ≡ vehicle-fault car → said y ≡ opening car vs hs old
   opening-vehicle car y e h f = f ∙ sym (sym (orelse-assoc _ _ _) ∙ none-orelse _ _ (said-none e h))
 
 -- the opening of a vehicle that came in its parts
@@ -97,7 +101,8 @@ opened {car} {vs} {hs} {old} e h =
     record { trace = a .0; room = b .0; vehicle = b .1; holds-long = l .0; card-long = l .1; bounds = vehicle-in car (b .1) }
 
 -- what the checks of a span ask of the vehicle
-pub spanned : {k : Numbers} {car : Vehicle} {vs hs old : List ℕ} {lo hi : ℕ} → Counts car k → Opened car vs hs old → lo ≤ hi → hi ≤ length vs → Spanned k vs hs lo hi
+pub spanned : {k : Numbers} {car : Vehicle} {vs hs old : List ℕ} {lo hi : ℕ} → Counts car k → Opened car vs hs old → lo ≤ hi → hi ≤ length vs
+    → Spanned k vs hs lo hi
 spanned K O a b = record {
   ng-to = omega (arith, O .bounds .ng-to, ng-of K);
   rated-from = omega (arith, O .bounds .rated-from, idle-of K, rated-of K);
@@ -107,7 +112,8 @@ spanned K O a b = record {
 }
 
 -- a row that begins with the opening
-pub after-opening : {car : Vehicle} {vs hs old : List ℕ} (r : Option Fault) → Opened car vs hs old → (trace-fault vs orelse room-fault vs hs old orelse vehicle-fault car orelse r) ≡ r
+pub after-opening : {car : Vehicle} {vs hs old : List ℕ} (r : Option Fault) → Opened car vs hs old
+    → (trace-fault vs orelse room-fault vs hs old orelse vehicle-fault car orelse r) ≡ r
 after-opening r O = none-orelse _ _ (O .trace) ∙ none-orelse _ _ (O .room) ∙ none-orelse _ _ (O .vehicle)
 
 module _ (car : Vehicle) (vs hs old : List ℕ) where

@@ -1,5 +1,6 @@
 -- The two scans of a trip, as a loop meets them: here, one second further, and at the end of the trace.
-use Rattle.rules.proofs.Offered.{ℕ, zero, suc, _+_, _-_, _≤_, _<_, add-zero, add-suc, suc-add, add-one, arith, _≡_, sym, ap, _∙_, Bool, true, false, not, List, length, drop, drop-of-length-le, drop-cons, not-true, not-false, at, moving, start, run, stop}
+use Rattle.rules.proofs.Offered.{ℕ, zero, suc, _+_, _-_, _≤_, _<_, add-zero, add-suc, suc-add, add-one, arith, _≡_, sym, ap, _∙_, Bool, true, false, not, List}
+use Rattle.rules.proofs.Offered.{length, drop, drop-of-length-le, drop-cons, not-true, not-false, at, moving, start, run, stop}
 
 -- what the code found not to be so is not, and what it did not find not to be so is
 pub not-so : {r t : Bool} → r ≡ t → not r ≡ true → t ≡ false

@@ -1,5 +1,8 @@
 -- Each check of a second as the code compares it, and the number of the first that fails.
-use Rattle.rules.proofs.Offered.{ℕ, suc, _+_, _-_, _*_, _≤_, _<_, arith, _≡_, refl, sym, ap, _∙_, Bool, true, false, not, List, eqb, length, lt-ltb, le-ltb, le-leb, lt-leb, eq-eqb, ne-eqb, if_then_else_, _and_, _or_, at, highest, fastest, steepest, moving, engine, under-nmax, fits, role-at, not-driven, speed, step, ends, over-ng, at-rest, over-rev, no-gear, check-number, checks, bad, by-order, and-no, first-at-is, choice-none-fits}
+use Rattle.rules.proofs.Offered.{ℕ, suc, _+_, _-_, _*_, _≤_, _<_, arith, _≡_, refl, sym, ap, _∙_, Bool, true, false, not, List, eqb, length, lt-ltb, le-ltb}
+use Rattle.rules.proofs.Offered.{le-leb, lt-leb, eq-eqb, ne-eqb, if_then_else_, _and_, _or_, at, highest, fastest, steepest, moving, engine, under-nmax, fits}
+use Rattle.rules.proofs.Offered.{role-at, not-driven, speed, step, ends, over-ng, at-rest, over-rev, no-gear, check-number, checks, bad, by-order, and-no}
+use Rattle.rules.proofs.Offered.{first-at-is, choice-none-fits}
 use Rattle.rules.specs.declared.Vehicle.{Vehicle}
 use Rattle.gears.specs.declared.Numbers.{Numbers}
 use Rattle.gears.specs.Parts.{Has}

@@ -1,5 +1,5 @@
--- What is asked for changes its own second and no other, and no length.
-use Rattle.rules.proofs.Offered.{ℕ, _<_, _≡_, _≢_, List, length, length-set, getD-set-same, getD-set-other, at}
+-- What is asked for changes its own second and no other, and no length. A second past the trace asks for nothing.
+use Rattle.rules.proofs.Offered.{ℕ, _≤_, _<_, arith, _≡_, ap, _∙_, _≢_, List, length, set, set-out, length-set, getD-set-same, getD-set-other, at}
 use Rattle.checks.specs.declared.Asked.{Asked}
 use Rattle.checks.specs.Asked.{speeds-with, holds-with}
 
@@ -21,3 +21,8 @@ module _ (e : Asked) where
 
   pub hold-else : (hs : List ℕ) (i : ℕ) → i ≢ e .second → at (holds-with e hs) i ≡ at hs i
   hold-else hs i n = getD-set-other hs (e .second) i (e .gear) 0 n
+
+pub unasked : {A : Type 0} (f : List ℕ → List ℕ → A) (vs hs : List ℕ) → length hs ≡ length vs → (v g : ℕ)
+    → f (set vs (length vs) v) (set hs (length vs) g) ≡ f vs hs
+unasked f vs hs n v g =
+    ap (λ (us : List ℕ). f us (set hs (length vs) g)) (set-out vs (length vs) v (omega arith)) ∙ ap (f vs) (set-out hs (length vs) g (omega (arith, n)))

@@ -1,5 +1,10 @@
 -- No gap between two gears' speeds is enough: no second of a span that passes the checks before wants a gear.
-use Rattle.rules.proofs.Offered.{ℕ, zero, suc, _+_, _-_, _*_, _≤_, _<_, mul-comm, mul-assoc, mul-le-mul-left, mul-le-mul-right, le-of-mul-le-mul-right, le-trans, le-of-eq, le-of-lt, zero-mul, arith, _≡_, refl, sym, ap, _∙_, Bool, true, false, not, List, Option, none, some, eqb, length, drop, le-leb, leb-false, eqb-true, eqb-false, ne-eqb, not-true, eq-eqb, if_then_else_, _and_, _or_, at, first, highest, low, fastest, steepest, moving, start, is-first, minimum, engine, under-nmax, over-minimum, allowed, fits, closing, role-of, first-at, Fault, refuse-at, _orelse_, step, no-gear, bad, seconds-fault, clash, by-test, by-order, by-eq, first-none, one-holds, start-le, step-passed, role-at, gear-fault}
+use Rattle.rules.proofs.Offered.{ℕ, zero, suc, _+_, _-_, _*_, _≤_, _<_, mul-comm, mul-assoc, mul-le-mul-left, mul-le-mul-right, le-of-mul-le-mul-right}
+use Rattle.rules.proofs.Offered.{le-trans, le-of-eq, le-of-lt, zero-mul, arith, _≡_, refl, sym, ap, _∙_, Bool, true, false, not, List, Option, none, some, eqb}
+use Rattle.rules.proofs.Offered.{length, drop, le-leb, leb-false, eqb-true, eqb-false, ne-eqb, not-true, eq-eqb, if_then_else_, _and_, _or_, at, first, highest}
+use Rattle.rules.proofs.Offered.{low, fastest, steepest, moving, start, is-first, minimum, engine, under-nmax, over-minimum, allowed, fits, closing, role-of}
+use Rattle.rules.proofs.Offered.{first-at, Fault, refuse-at, _orelse_, step, no-gear, bad, seconds-fault, clash, by-test, by-order, by-eq, first-none}
+use Rattle.rules.proofs.Offered.{one-holds, start-le, step-passed, role-at, gear-fault}
 use Rattle.rules.proofs.Theorems.Choosing.{fits-at-any}
 use Rattle.rules.specs.declared.Vehicle.{Vehicle}
 use Rattle.rules.specs.declared.Role.{Role}
@@ -7,7 +12,7 @@ use Rattle.rules.specs.declared.Role.the-variants.{AfterLow}
 use Rattle.gears.specs.declared.Numbers.{Numbers}
 use Rattle.gears.specs.Parts.{Has, low-in}
 use Rattle.gears.proofs.Parts.{low-of, ng-of, nmax-of, engine-of}
-use Rattle.checks.specs.Calm.{Each, AtMost, gap-at, Stands, Follows, NoGap}
+use Rattle.checks.specs.Calm.{first-fastest, Each, AtMost, gap-at, Stands, Follows, NoGap}
 use Rattle.checks.proofs.Tests.{step-large, gear-standing, gear-held, gear-free}
 use Rattle.checks.proofs.Scans.{start-more}
 
@@ -42,7 +47,8 @@ module _ {car : Vehicle} {k : Numbers} {ratio : List ℕ} (H : Has car k ratio) 
       rw (low-of (H .counts), le-leb (low-in k) (low-in k) (omega arith), eq-eqb (low-in k) (low-in k) refl, le-leb _ _ l)
 
   -- a gear above it, after the lowest gear, where its minimum is highest
-  high-fits : (g : ℕ) → low-in k ≤ g → 1000 * minimum car AfterLow (g + 1) ≤ at ratio g * v → at ratio g * v ≤ 1000 * k .nmax → fits car AfterLow v (g + 1) ≡ true
+  high-fits : (g : ℕ) → low-in k ≤ g → 1000 * minimum car AfterLow (g + 1) ≤ at ratio g * v → at ratio g * v ≤ 1000 * k .nmax
+      → fits car AfterLow v (g + 1) ≡ true
   unfolding fits allowed over-minimum under-nmax is-first _and_ _or_
   high-fits g a l h =
       let e : g + 1 - 1 ≡ g = omega arith in
@@ -67,13 +73,14 @@ module _ {car : Vehicle} {k : Numbers} {ratio : List ℕ} (H : Has car k ratio) 
         (fits-at-any car here v (suc j + 1) later (high-fits (suc j) (omega arith) (reached (at ratio j) (at ratio (suc j)) v m (k .nmax) over o) h)))
         (λ under. floor-fits j (omega arith) (omega arith) under))
 
-  -- so that some gear fits at every speed up to `most`, and at the first second of a trip at every speed up to 159
-  some-gear : {most : ℕ} → NoGap k ratio most → v ≤ most → (here : Role) → (is-first here ≡ true → v ≤ 159)
+  -- so that some gear fits at every speed up to `most`, and at the first second of a trip at every one that it can have
+  some-gear : {most : ℕ} → NoGap k ratio most → v ≤ most → (here : Role) → (is-first here ≡ true → v ≤ first-fastest)
       → true ≡ not (eqb (highest (fits car here v) (k .ng)) 0)
   some-gear d a here b =
       by-test (is-first here)
       (λ t. one-holds _ (k .ng) (low-in k) (omega arith) (d .some) (low-fits here (le-trans (mul-le-mul-left (at ratio (low-in k - 1)) (b t)) (d .at-first))))
-      (λ t. floor-fits (d .covered) here t (k .ng - 1) (omega (arith, d .some)) (omega (arith, d .some)) (le-trans (mul-le-mul-left (at ratio (k .ng - 1)) a) (d .at-most)))
+      (λ t. floor-fits (d .covered) here t (k .ng - 1) (omega (arith, d .some)) (omega (arith, d .some))
+      (le-trans (mul-le-mul-left (at ratio (k .ng - 1)) a) (d .at-most)))
 
 -- ---- so no second wants one
 
@@ -92,7 +99,7 @@ module _ {car : Vehicle} {k : Numbers} {ratio : List ℕ} (H : Has car k ratio) 
         (λ h. clash (sym (step-large car vs hs lo i l h)) (step-passed car vs hs lo hi (sym before) i since until)) (λ h. h)
 
     -- a trip's first second is one step above a standing one
-    first-slow : moving (at vs i) ≡ true → eqb i (start vs i) ≡ true → at vs i ≤ 159
+    first-slow : moving (at vs i) ≡ true → eqb i (start vs i) ≡ true → at vs i ≤ first-fastest
     unfolding moving
     first-slow m t =
         let l : lo < i = inner m in
@@ -115,7 +122,9 @@ module _ {car : Vehicle} {k : Numbers} {ratio : List ℕ} (H : Has car k ratio) 
         let here = role-at car vs hs i in
         gear-free car vs hs lo i rooms m free
         ∙ ap (λ (g : ℕ). eqb (highest (fits car here (at vs i)) g) 0) (ng-of (H .counts))
-        ∙ not-true _ (sym (some-gear H (at vs i) gears (speeds i since until) here (λ f. first-slow m (sym (first-place car (eqb i (start vs i)) (closing (drop i vs)) (first-at car vs hs (i - 1))) ∙ f)))))
+        ∙ not-true _
+        (sym (some-gear H (at vs i) gears (speeds i since until) here
+        (λ f. first-slow m (sym (first-place car (eqb i (start vs i)) (closing (drop i vs)) (first-at car vs hs (i - 1))) ∙ f)))))
         (λ t. sym (gear-held car vs hs lo i rooms m (eqb-false _ _ t))))
         (λ m. sym (gear-standing car vs hs lo i m))
 
@@ -126,7 +135,8 @@ module _ {car : Vehicle} {k : Numbers} {ratio : List ℕ} (H : Has car k ratio) 
 -- ---- the exact pass
 
 -- the second found, or none
-pub wanted : (car : Vehicle) (vs hs : List ℕ) (lo hi i : ℕ) → some i ≡ first (bad no-gear car vs hs lo) lo (hi - lo) → some (record { no = 10; spot = i }) ≡ gear-fault car vs hs lo hi
+pub wanted : (car : Vehicle) (vs hs : List ℕ) (lo hi i : ℕ) → some i ≡ first (bad no-gear car vs hs lo) lo (hi - lo)
+    → some (record { no = 10; spot = i }) ≡ gear-fault car vs hs lo hi
 unfolding gear-fault refuse-at _orelse_
 wanted car vs hs lo hi i e = rw (← e)
 

@@ -1,5 +1,7 @@
 -- A part of a trip on the way through it: going through its seconds with the speed that follows gives their first choices.
-use Rattle.rules.proofs.Offered.{ℕ, zero, suc, _+_, _-_, _≤_, _<_, arith, _≡_, refl, sym, ap, _∙_, Bool, true, false, List, [], _∷_, leb, eqb, length, take, drop, length-take-le, le-leb, lt-leb, eq-eqb, ne-eqb, _and_, at, part, pass, rise, start, closing, role-of, first-at, IsTrip, role-at, by-order, and-no, at-part, length-part, pass-at, pass-done, trip-start, closing-part, first-at-is, of₃}
+use Rattle.rules.proofs.Offered.{ℕ, zero, suc, _+_, _-_, _≤_, _<_, arith, _≡_, refl, sym, ap, _∙_, Bool, true, false, List, [], _∷_, leb, eqb, length, take}
+use Rattle.rules.proofs.Offered.{drop, length-take-le, le-leb, lt-leb, eq-eqb, ne-eqb, _and_, at, part, pass, rise, start, closing, role-of, first-at, IsTrip}
+use Rattle.rules.proofs.Offered.{role-at, by-order, and-no, at-part, length-part, pass-at, pass-done, trip-start, closing-part, first-at-is, of₃}
 use Rattle.rules.specs.declared.Vehicle.{Vehicle}
 use Rattle.gears.specs.Choosing.{first-of}
 use Rattle.trips.specs.Ready.{Aligned, Paced}
@@ -52,7 +54,8 @@ module _ {vs hs : List ℕ} {a b run i : ℕ} (W : OnWay vs hs a b run i) where
       sym (closing-part vs its-trip (omega (arith, W .trip .inside)) i (W .since) (W .until)) ∙ W .closes .run (i - a) (omega (arith, W .since, W .until, n))
 
   -- what it is in its trip
-  place-here : (car : Vehicle) (ks : List ℕ) {before : ℕ} → ((i ≡ a → ⊥) → before ≡ first-at car vs ks (i - 1)) → role-of car (eqb i a) (leb run (i - a)) before ≡ role-at car vs ks i
+  place-here : (car : Vehicle) (ks : List ℕ) {before : ℕ} → ((i ≡ a → ⊥) → before ≡ first-at car vs ks (i - 1))
+      → role-of car (eqb i a) (leb run (i - a)) before ≡ role-at car vs ks i
   unfolding role-at role-of
   place-here car ks last =
       let s : start vs i ≡ a = trip-start vs its-trip i (W .since) (W .until) in
@@ -90,7 +93,8 @@ module _ {vs ns : List ℕ} {a b run i : ℕ} (W : OnWay vs ns a b run i) {ks us
   each-rise : (j : ℕ) → j < length hs → rise us j ≡ rise vs (i + j)
   each-rise j l =
       let x : i + (j + 1) ≡ i + j + 1 = omega arith in
-      rise-here us j (omega (arith, P .sizes)) ∙ rw (P .speed j (omega arith), P .speed (j + 1) (omega arith), x) (sym (rise-here vs (i + j) (omega (arith, W .trip .inside))))
+      rise-here us j (omega (arith, P .sizes))
+      ∙ rw (P .speed j (omega arith), P .speed (j + 1) (omega arith), x) (sym (rise-here vs (i + j) (omega (arith, W .trip .inside))))
 
   -- so that they can be chosen for
   pub piece-paced : Paced us hs
@@ -105,16 +109,25 @@ module _ {vs ns : List ℕ} {a b run i : ℕ} (W : OnWay vs ns a b run i) {ks us
         → first-of car (role-of car (eqb i a and eqb j 0) (leb (run - (i - a)) j) last) (at us j) (rise us j) (at hs j) ≡ first-at car vs ks (i + j)
     unfolding first-of
     each-choice j l last =
-        rw (begins-here a i j (W .since), left-here a i j run (W .since), each-rise j l, P .speed j (omega arith), P .hold j l, place-here (each-way j l) car ks last)
+        rw (
+          begins-here a i j (W .since),
+          left-here a i j run (W .since),
+          each-rise j l,
+          P .speed j (omega arith),
+          P .hold j l,
+          place-here (each-way j l) car ks last,
+        )
         (sym (first-at-is car vs ks same (i + j) (W .trip .moves (i + j) (omega (arith, W .since)) (omega arith))))
 
     module _ {before : ℕ} (last : (i ≡ a → ⊥) → before ≡ first-at car vs ks (i - 1)) (gs₀ : List ℕ) {gs : List ℕ} (n : length gs₀ ≡ length hs) where
       -- so each is the first choice there
-      each-first : gs ≡ pass (on-way car us hs (eqb i a) (run - (i - a)) before) (length hs) gs₀ → (j : ℕ) → j < length hs → at gs j ≡ first-at car vs ks (i + j)
+      each-first : gs ≡ pass (on-way car us hs (eqb i a) (run - (i - a)) before) (length hs) gs₀ → (j : ℕ) → j < length hs
+          → at gs j ≡ first-at car vs ks (i + j)
       unfolding on-way
       each-first e zero l =
           let x : i + 0 ≡ i = omega arith in
-          rw e (pass-at (on-way car us hs (eqb i a) (run - (i - a)) before) gs₀ (length hs) 0 l (omega arith) ∙ each-choice 0 l (λ z. rw x (last (λ y. z (omega arith)))))
+          rw e (pass-at (on-way car us hs (eqb i a) (run - (i - a)) before) gs₀ (length hs) 0 l (omega arith)
+          ∙ each-choice 0 l (λ z. rw x (last (λ y. z (omega arith)))))
       each-first e (suc j) l =
           let f = on-way car us hs (eqb i a) (run - (i - a)) before in
           let x : i + suc j - 1 ≡ i + j = omega arith in
@@ -131,13 +144,16 @@ module _ {vs ns : List ℕ} {a b run i : ℕ} (W : OnWay vs ns a b run i) {ks us
 -- ---- a part gone through
 
 -- the first place without a gear is the first second without one
-pub went-through : {car : Vehicle} {vs hs : List ℕ} (gs : List ℕ) {i m none : ℕ} → length gs ≡ m → 1 ≤ m → Firsts car vs hs i m gs → LowestAt (λ j. eqb (at gs j) 0) 0 (length gs) none
+pub went-through : {car : Vehicle} {vs hs : List ℕ} (gs : List ℕ) {i m none : ℕ} → length gs ≡ m → 1 ≤ m → Firsts car vs hs i m gs
+    → LowestAt (λ j. eqb (at gs j) 0) 0 (length gs) none
     → Through car vs hs i (i + m) (i + none) (at gs (length gs - 1))
 went-through {car} {vs} {hs} gs {i} {m} {none} size some firsts N = record {
   until = record {
     from = omega arith;
     to = omega (arith, N .to);
-    fails = λ j a b. let x : i + (j - i) ≡ j = omega arith in rw (firsts (j - i) (omega arith) (omega (arith, N .to)), x) at (N .fails (j - i) (omega arith) (omega arith));
+    fails =
+        λ j a b. let x : i + (j - i) ≡ j = omega arith in
+        rw (firsts (j - i) (omega arith) (omega (arith, N .to)), x) at (N .fails (j - i) (omega arith) (omega arith));
     holds = λ l. rw (firsts none (omega arith) (omega arith)) at (N .holds (omega arith));
   };
   last-is = let x : i + (length gs - 1) ≡ i + m - 1 = omega arith in rw x at (firsts (length gs - 1) (omega arith) (omega arith));
@@ -152,5 +168,6 @@ module _ {asked i b to : ℕ} (T : PartEnd asked i b to) (room : List ℕ) (size
   pub room-lent : PartEnd asked i b (i + length (take (to - i) room))
   room-lent = rw room-end T
 
-  pub room-through : {car : Vehicle} {vs hs : List ℕ} {r last : ℕ} → Through car vs hs i (i + length (take (to - i) room)) r last → Through car vs hs i to r last
+  pub room-through : {car : Vehicle} {vs hs : List ℕ} {r last : ℕ} → Through car vs hs i (i + length (take (to - i) room)) r last
+      → Through car vs hs i to r last
   room-through h = rw room-end at h

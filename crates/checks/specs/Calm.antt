@@ -1,5 +1,5 @@
 -- What the cheap tests of a span ask and find.
-use Rattle.rules.specs.Words.{ℕ, _+_, _-_, _*_, _≤_, _<_, _≡_, _≢_, false, List, length, at}
+use Rattle.rules.specs.Words.{ℕ, zero, suc, _+_, _-_, _*_, _≤_, _<_, max, _≡_, _≢_, false, List, length, at}
 use Rattle.rules.specs.declared.Vehicle.{Vehicle}
 use Rattle.rules.specs.declared.Role.the-variants.{AfterLow}
 use Rattle.rules.specs.Units.{fastest, steepest, moving}
@@ -32,10 +32,15 @@ AtMost f lo hi r = Each (λ i. f i ≤ r) lo hi
 abbrev pub gap-at : List ℕ → ℕ → ℕ
 gap-at vs i = (at vs (i - 1) - at vs i) + (at vs i - at vs (i - 1))
 
--- no speed from lo up to hi is above `most`, and no step between two of them above `step`
+-- the highest of k places from lo on; 0 where there are none
+unfoldable pub most-of : (ℕ → ℕ) → ℕ → ℕ → ℕ
+most-of f lo zero = 0
+most-of f lo (suc k) = max (most-of f lo k) (f (lo + k))
+
+-- the highest of the speeds from lo up to hi, and the largest step between two of them
 pub record Seen (vs : List ℕ) (lo hi most step : ℕ) : Type 0 where
-  pub speeds : AtMost (at vs) lo hi most
-  pub steps : AtMost (gap-at vs) (lo + 1) hi step
+  pub speeds : most ≡ most-of (at vs) lo (hi - lo)
+  pub steps : step ≡ most-of (gap-at vs) (lo + 1) (hi - (lo + 1))
 
 -- the span has seconds, and the first and the last stand
 pub record Stands (vs : List ℕ) (lo hi : ℕ) : Type 0 where
@@ -47,16 +52,21 @@ pub record Stands (vs : List ℕ) (lo hi : ℕ) : Type 0 where
 abbrev pub Follows : Numbers → List ℕ → ℕ → Type 0
 Follows k ratio j = (car : Vehicle) → Counts car k → minimum car AfterLow (j + 1) * at ratio (j - 1) ≤ k .nmax * at ratio j
 
--- up to the speed `most` some gear fits; at the first second of a trip, up to 159, the lowest does
+-- the highest speed of a trip's first second, one step above a standing one
+abbrev pub first-fastest : ℕ
+first-fastest = 9 + steepest
+
+-- up to the speed `most` some gear fits; at the first second of a trip the lowest does
 pub record NoGap (k : Numbers) (ratio : List ℕ) (most : ℕ) : Type 0 where
   pub some : low-in k ≤ k .ng
-  pub at-first : at ratio (low-in k - 1) * 159 ≤ 1000 * k .nmax
+  pub at-first : at ratio (low-in k - 1) * first-fastest ≤ 1000 * k .nmax
   pub at-most : at ratio (k .ng - 1) * most ≤ 1000 * k .nmax
   pub covered : Each (Follows k ratio) (low-in k) (k .ng)
 
 -- a second of this speed passes the checks that look at a hold, if it is held in this gear
 abbrev pub HoldPasses : Numbers → List ℕ → ℕ → ℕ → Type 0
-HoldPasses k ratio v g = g ≢ 0 → (car : Vehicle) → Has car k ratio → (vs hs : List ℕ) (lo i : ℕ) → at vs i ≡ v → at hs i ≡ g → 10 ≡ fault-no car vs hs lo i hold-checks
+HoldPasses k ratio v g =
+    g ≢ 0 → (car : Vehicle) → Has car k ratio → (vs hs : List ℕ) (lo i : ℕ) → at vs i ≡ v → at hs i ≡ g → 10 ≡ fault-no car vs hs lo i hold-checks
 
 -- so second i
 abbrev pub HoldsPass : Numbers → List ℕ → List ℕ → List ℕ → ℕ → Type 0

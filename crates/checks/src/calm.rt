@@ -1,12 +1,12 @@
 // A cheap test of a span: what it lets through passes checks 4 to 9, and what it does not is judged second by second. It is of the seconds as they are
 // written, but for the one that is asked for, which is judged. Its loops neither branch nor leave early, so that several seconds are looked at at once.
-ghost use Rattle.rules.specs.Words.{_≡_, true, none, _≤_, at};
+ghost use Rattle.rules.specs.Words.{_≡_, true, none, _-_, _≤_, max, at};
 ghost use Rattle.rules.specs.declared.Vehicle.{Vehicle};
 ghost use Rattle.rules.specs.Refusals.{seconds-fault};
 ghost use Rattle.gears.specs.Parts.{Has};
 ghost use Rattle.checks.specs.Asked.{speeds-with, holds-with};
 ghost use Rattle.checks.specs.Checks.{TraceSecond, Spanned};
-ghost use Rattle.checks.specs.Calm.{Seconds, Seen, Around, Each, AtMost, Stands, HoldsPass, OwnPasses};
+ghost use Rattle.checks.specs.Calm.{Seconds, Seen, Around, Each, most-of, Stands, HoldsPass, OwnPasses};
 use crate::Asked;
 use crate::Span;
 use crate::seconds::fault_at;
@@ -27,8 +27,7 @@ pub struct Sight {
 
 // The larger of two.
 fn larger(a: u16, b: u16) -> u16
-    ensures first { λ r. ⌜ a ≤ r ⌝ }
-    ensures second { λ r. ⌜ b ≤ r ⌝ }
+    ensures { λ r. ⌜ r ≡ max a b ⌝ }
 {
     if a < b {
         return b;
@@ -38,8 +37,7 @@ fn larger(a: u16, b: u16) -> u16
 
 // The same of two holds.
 fn higher(a: u8, b: u8) -> u8
-    ensures first { λ r. ⌜ a ≤ r ⌝ }
-    ensures second { λ r. ⌜ b ≤ r ⌝ }
+    ensures { λ r. ⌜ r ≡ max a b ⌝ }
 {
     if a < b {
         return b;
@@ -76,7 +74,7 @@ pub fn look(speeds: &[u16], span: Span) -> Sight
 // The highest hold of a span: 0 where no second is held.
 fn most_held(holds: &[u8], span: Span) -> u8
     requires { ⌜ Seconds (now holds) (span .lo) (span .hi) ⌝ }
-    ensures { λ r. ⌜ AtMost (at (now (holds .entry))) (span .lo) (span .hi) r ⌝ }
+    ensures { λ r. ⌜ r ≡ most-of (at (now (holds .entry))) (span .lo) (span .hi - span .lo) ⌝ }
 {
     let mut most: u8 = 0;
     let mut i = span.lo;
@@ -137,7 +135,8 @@ fn own_passes<'a>(
     span: Span,
 ) -> bool
     requires { ⌜ TraceSecond k (now speeds) (asked .second) × Around (now speeds) (span .lo) (span .hi) (asked .second) ⌝ }
-    ensures { λ r. ⌜ (r ≡ true → OwnPasses k (now (ratio .entry)) (speeds-with asked (now (speeds .entry))) (asked .gear) (span .lo) (span .hi) (asked .second)) ⌝ }
+    ensures { λ r.
+        ⌜ (r ≡ true → OwnPasses k (now (ratio .entry)) (speeds-with asked (now (speeds .entry))) (asked .gear) (span .lo) (span .hi) (asked .second)) ⌝ }
 {
     let s = asked.second;
     if fault_at(k, ratio, speeds, asked, asked.gear, span.lo, s) != 10 {
@@ -178,8 +177,10 @@ pub fn calm<'a>(
     span: Span,
     seen: Sight,
 ) -> bool
-    requires { ⌜ Spanned k (now speeds) (now holds) (span .lo) (span .hi) × (span .lo ≤ asked .second) × Seen (now speeds) (span .lo) (span .hi) (seen .fastest) (seen .steepest) ⌝ }
-    ensures { λ r. ⌜ (r ≡ true → (car : Vehicle) → Has car k (now (ratio .entry)) → none ≡ seconds-fault car (speeds-with asked (now (speeds .entry))) (holds-with asked (now (holds .entry))) (span .lo) (span .hi)) ⌝ }
+    requires { ⌜ Spanned k (now speeds) (now holds) (span .lo) (span .hi) × (span .lo ≤ asked .second)
+        × Seen (now speeds) (span .lo) (span .hi) (seen .fastest) (seen .steepest) ⌝ }
+    ensures { λ r. ⌜ (r ≡ true → (car : Vehicle) → Has car k (now (ratio .entry))
+        → none ≡ seconds-fault car (speeds-with asked (now (speeds .entry))) (holds-with asked (now (holds .entry))) (span .lo) (span .hi)) ⌝ }
 {
     if STEEPEST < seen.steepest {
         return false;
@@ -209,7 +210,7 @@ pub fn calm<'a>(
 
 // The highest speed of the span, or a higher one where what is asked for takes that away.
 pub fn fastest_asked(asked: Asked, seen: Sight) -> u16
-    ensures { λ r. ⌜ (seen .fastest ≤ r) × (asked .speed ≤ r) ⌝ }
+    ensures { λ r. ⌜ r ≡ max (seen .fastest) (asked .speed) ⌝ }
 {
     larger(seen.fastest, asked.speed)
 }

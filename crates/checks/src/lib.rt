@@ -14,6 +14,7 @@ pub use row::check_span;
 pub use seconds::check_seconds;
 pub use trips_in::trip_start;
 pub use trips_in::trip_stop;
+pub use want::check_gears;
 
 // What is asked for at one second and not yet written: its speed and its hold, 0 for none. A hold or a release asks for the speed that is there, a mended
 // sample for the hold that is there. A second past the trace asks for nothing.

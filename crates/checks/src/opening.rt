@@ -11,7 +11,8 @@ use rules::Refusal;
 
 // 1 and 2, by the lengths alone.
 pub fn check_lengths(speeds: usize, holds: usize, card: usize) -> Answer
-    ensures { λ r. ⌜ ((vs hs old : List ℕ) → length vs ≡ speeds → length hs ≡ holds → length old ≡ card → said r ≡ (trace-fault vs orelse room-fault vs hs old)) ⌝ }
+    ensures { λ r.
+        ⌜ ((vs hs old : List ℕ) → length vs ≡ speeds → length hs ≡ holds → length old ≡ card → said r ≡ (trace-fault vs orelse room-fault vs hs old)) ⌝ }
 {
     if speeds == 0 {
         return Answer::Refused(Refusal::TraceLength);
@@ -40,7 +41,9 @@ pub fn check_opening<'a>(
     holds: usize,
     card: usize,
 ) -> Answer
-    ensures { λ r. ⌜ ((vs hs old : List ℕ) → length vs ≡ speeds → length hs ≡ holds → length old ≡ card → said r ≡ (trace-fault vs orelse room-fault vs hs old orelse vehicle-fault (whole k (now (ratio .entry)) (now (n .entry)) (now (p .entry)) (now (m .entry)) margin))) ⌝ }
+    ensures { λ r. ⌜ ((vs hs old : List ℕ) → length vs ≡ speeds → length hs ≡ holds → length old ≡ card
+        → said r ≡ (trace-fault vs orelse room-fault vs hs old orelse vehicle-fault
+        (whole k (now (ratio .entry)) (now (n .entry)) (now (p .entry)) (now (m .entry)) margin))) ⌝ }
 {
     let lengths = check_lengths(speeds, holds, card);
     let Answer::Done = lengths else {

@@ -1,8 +1,7 @@
 // Checks 4 to 10 on the seconds of a span.
 ghost use Rattle.rules.specs.Words.{_≡_, _≤_};
-ghost use Rattle.rules.specs.declared.Vehicle.{Vehicle};
 ghost use Rattle.rules.specs.Refusals.{said, span-fault};
-ghost use Rattle.gears.specs.Parts.{Lent, Parts};
+ghost use Rattle.gears.specs.Parts.{Parts, OfLent};
 ghost use Rattle.checks.specs.Asked.{speeds-with, holds-with};
 ghost use Rattle.checks.specs.Checks.{Spanned};
 ghost use Rattle.checks.specs.Want.{Resting};
@@ -26,8 +25,10 @@ pub fn check_span<'a>(
     asked: Asked,
     span: Span,
 ) -> Answer
-    requires { ⌜ Parts k (now ratio) (now n) (now p) × Spanned k (now speeds) (now holds) (span .lo) (span .hi) × (span .lo ≤ asked .second) × Resting (speeds-with asked (now speeds)) (span .lo) (span .hi) ⌝ }
-    ensures { λ r. ⌜ ((car : Vehicle) → Lent car k (now (ratio .entry)) (now (n .entry)) (now (p .entry)) → said r ≡ span-fault car (speeds-with asked (now (speeds .entry))) (holds-with asked (now (holds .entry))) (span .lo) (span .hi)) ⌝ }
+    requires { ⌜ Parts k (now ratio) (now n) (now p) × Spanned k (now speeds) (now holds) (span .lo) (span .hi) × (span .lo ≤ asked .second)
+        × Resting (speeds-with asked (now speeds)) (span .lo) (span .hi) ⌝ }
+    ensures { λ r. ⌜ OfLent k (now (ratio .entry)) (now (n .entry)) (now (p .entry))
+        (λ car. said r ≡ span-fault car (speeds-with asked (now (speeds .entry))) (holds-with asked (now (holds .entry))) (span .lo) (span .hi)) ⌝ }
 {
     let seen = look(speeds, span);
     let seconds = check_seen(k, ratio, speeds, holds, asked, span, seen);

@@ -90,7 +90,8 @@ fn end_moving(speeds: &[u16], asked: Asked, i: usize) -> bool
 // Checks 7, 8 and 9 of a held second. A gear above ng has no ratio, so 7 is asked before a ratio is read.
 pub fn held_fault(k: Numbers, ratio: &[u16; 10], v: u16, held: u8) -> u32
     requires { ⌜ HeldGear k held ⌝ }
-    ensures { λ r. ⌜ ((car : Vehicle) → Has car k (now (ratio .entry)) → (vs hs : List ℕ) (lo i : ℕ) → at vs i ≡ v → at hs i ≡ held → r ≡ fault-no car vs hs lo i hold-checks) ⌝ }
+    ensures { λ r. ⌜ ((car : Vehicle) → Has car k (now (ratio .entry)) → (vs hs : List ℕ) (lo i : ℕ) → at vs i ≡ v → at hs i ≡ held
+        → r ≡ fault-no car vs hs lo i hold-checks) ⌝ }
 {
     if not_driven(k, held) {
         return 7;
@@ -115,7 +116,8 @@ pub fn fault_at<'a>(
     i: usize,
 ) -> u32
     requires { ⌜ TraceSecond k (now speeds) i ⌝ }
-    ensures { λ r. ⌜ ((car : Vehicle) → Has car k (now (ratio .entry)) → (hs : List ℕ) → at hs i ≡ held → r ≡ fault-no car (speeds-with asked (now (speeds .entry))) hs lo i checks) ⌝ }
+    ensures { λ r. ⌜ ((car : Vehicle) → Has car k (now (ratio .entry)) → (hs : List ℕ) → at hs i ≡ held
+        → r ≡ fault-no car (speeds-with asked (now (speeds .entry))) hs lo i checks) ⌝ }
 {
     let v = speed_at(speeds, asked, i);
     if FASTEST < v {
@@ -159,7 +161,8 @@ pub fn judge_seconds<'a>(
     span: Span,
 ) -> Answer
     requires { ⌜ Spanned k (now speeds) (now holds) (span .lo) (span .hi) ⌝ }
-    ensures { λ r. ⌜ ((car : Vehicle) → Has car k (now (ratio .entry)) → said r ≡ seconds-fault car (speeds-with asked (now (speeds .entry))) (holds-with asked (now (holds .entry))) (span .lo) (span .hi)) ⌝ }
+    ensures { λ r. ⌜ ((car : Vehicle) → Has car k (now (ratio .entry))
+        → said r ≡ seconds-fault car (speeds-with asked (now (speeds .entry))) (holds-with asked (now (holds .entry))) (span .lo) (span .hi)) ⌝ }
 {
     let mut best: u32 = 10;
     let mut place: usize = 0;
@@ -186,8 +189,10 @@ pub fn check_seen<'a>(
     span: Span,
     seen: Sight,
 ) -> Answer
-    requires { ⌜ Spanned k (now speeds) (now holds) (span .lo) (span .hi) × (span .lo ≤ asked .second) × Seen (now speeds) (span .lo) (span .hi) (seen .fastest) (seen .steepest) ⌝ }
-    ensures { λ r. ⌜ ((car : Vehicle) → Has car k (now (ratio .entry)) → said r ≡ seconds-fault car (speeds-with asked (now (speeds .entry))) (holds-with asked (now (holds .entry))) (span .lo) (span .hi)) ⌝ }
+    requires { ⌜ Spanned k (now speeds) (now holds) (span .lo) (span .hi) × (span .lo ≤ asked .second)
+        × Seen (now speeds) (span .lo) (span .hi) (seen .fastest) (seen .steepest) ⌝ }
+    ensures { λ r. ⌜ ((car : Vehicle) → Has car k (now (ratio .entry))
+        → said r ≡ seconds-fault car (speeds-with asked (now (speeds .entry))) (holds-with asked (now (holds .entry))) (span .lo) (span .hi)) ⌝ }
 {
     if calm(k, ratio, speeds, holds, asked, span, seen) {
         return Answer::Done;
@@ -205,7 +210,8 @@ pub fn check_seconds<'a>(
     span: Span,
 ) -> Answer
     requires { ⌜ Spanned k (now speeds) (now holds) (span .lo) (span .hi) × (span .lo ≤ asked .second) ⌝ }
-    ensures { λ r. ⌜ ((car : Vehicle) → Has car k (now (ratio .entry)) → said r ≡ seconds-fault car (speeds-with asked (now (speeds .entry))) (holds-with asked (now (holds .entry))) (span .lo) (span .hi)) ⌝ }
+    ensures { λ r. ⌜ ((car : Vehicle) → Has car k (now (ratio .entry))
+        → said r ≡ seconds-fault car (speeds-with asked (now (speeds .entry))) (holds-with asked (now (holds .entry))) (span .lo) (span .hi)) ⌝ }
 {
     let seen = look(speeds, span);
     check_seen(k, ratio, speeds, holds, asked, span, seen)

@@ -5,8 +5,8 @@ ghost use Rattle.rules.specs.declared.Vehicle.{Vehicle};
 ghost use Rattle.rules.specs.Corrections.{first-at};
 ghost use Rattle.rules.specs.Refusals.{no-gear, bad, said, seconds-fault};
 ghost use Rattle.rules.specs.Inside.{gear-fault};
-ghost use Rattle.gears.specs.Parts.{low-in, Has, Lent, Parts};
-ghost use Rattle.gears.specs.Second.{Geared};
+ghost use Rattle.gears.specs.Parts.{low-in, Has, Parts, OfLent};
+ghost use Rattle.gears.specs.Second.{HasMinima};
 ghost use Rattle.checks.specs.Asked.{speeds-with, holds-with};
 ghost use Rattle.checks.specs.Checks.{Spanned};
 ghost use Rattle.checks.specs.Calm.{Each, AtMost, Follows, NoGap};
@@ -43,7 +43,7 @@ fn hands_on(nmax: u16, least: u64, below: u16, this: u16) -> bool
 // Whether every gear above the lowest has so reached the highest of its minima, the one after the lowest gear: then no speed lies between two gears. From two
 // above the lowest on the gears share theirs.
 fn covered(k: Numbers, ratio: &[u16; 10]) -> bool
-    requires { ⌜ Geared k ⌝ }
+    requires { ⌜ HasMinima k ⌝ }
     ensures { λ r. ⌜ (r ≡ true → Each (Follows k (now (ratio .entry))) (low-in k) (k .ng)) ⌝ }
 {
     let ng = k.ng as usize;
@@ -63,7 +63,7 @@ fn covered(k: Numbers, ratio: &[u16; 10]) -> bool
 
 // Whether some gear fits at every moving second up to the speed `most`, whatever is chosen before it.
 pub fn no_gap(k: Numbers, ratio: &[u16; 10], most: u16) -> bool
-    requires { ⌜ Geared k ⌝ }
+    requires { ⌜ HasMinima k ⌝ }
     ensures { λ r. ⌜ (r ≡ true → NoGap k (now (ratio .entry)) most) ⌝ }
 {
     let ng = k.ng as usize;
@@ -143,8 +143,11 @@ fn choices_in<'a>(
     i: usize,
     gs: &mut [u8],
 )
-    requires { ⌜ Parts k (now ratio) (now n) (now p) × OnWay (speeds-with asked (now speeds)) (now holds) (trip .lo) (trip .hi) run i × PartEnd (asked .second) i (trip .hi) (i + length (now gs)) ⌝ }
-    ensures { λ r. ⌜ ((car : Vehicle) → Lent car k (now (ratio .entry)) (now (n .entry)) (now (p .entry)) → ((i ≡ trip .lo → ⊥) → before ≡ first-at car (speeds-with asked (now (speeds .entry))) (holds-with asked (now (holds .entry))) (i - 1)) → Firsts car (speeds-with asked (now (speeds .entry))) (holds-with asked (now (holds .entry))) i (length (now (gs .entry))) (now (gs .exit))) ⌝ }
+    requires { ⌜ Parts k (now ratio) (now n) (now p) × OnWay (speeds-with asked (now speeds)) (now holds) (trip .lo) (trip .hi) run i
+        × PartEnd (asked .second) i (trip .hi) (i + length (now gs)) ⌝ }
+    ensures { λ r. ⌜ OfLent k (now (ratio .entry)) (now (n .entry)) (now (p .entry))
+        (λ car. ((i ≡ trip .lo → ⊥) → before ≡ first-at car (speeds-with asked (now (speeds .entry))) (holds-with asked (now (holds .entry))) (i - 1))
+        → Firsts car (speeds-with asked (now (speeds .entry))) (holds-with asked (now (holds .entry))) i (length (now (gs .entry))) (now (gs .exit))) ⌝ }
 {
     let a = trip.lo;
     let begins = i == a;
@@ -203,8 +206,12 @@ fn go_through<'a>(
     i: usize,
     gs: &mut [u8],
 ) -> Gone
-    requires { ⌜ Parts k (now ratio) (now n) (now p) × OnWay (speeds-with asked (now speeds)) (now holds) (trip .lo) (trip .hi) run i × PartEnd (asked .second) i (trip .hi) (i + length (now gs)) ⌝ }
-    ensures { λ r. ⌜ ((car : Vehicle) → Lent car k (now (ratio .entry)) (now (n .entry)) (now (p .entry)) → ((i ≡ trip .lo → ⊥) → before ≡ first-at car (speeds-with asked (now (speeds .entry))) (holds-with asked (now (holds .entry))) (i - 1)) → Through car (speeds-with asked (now (speeds .entry))) (holds-with asked (now (holds .entry))) i (i + length (now (gs .entry))) (r .until) (r .last)) ⌝ }
+    requires { ⌜ Parts k (now ratio) (now n) (now p) × OnWay (speeds-with asked (now speeds)) (now holds) (trip .lo) (trip .hi) run i
+        × PartEnd (asked .second) i (trip .hi) (i + length (now gs)) ⌝ }
+    ensures { λ r. ⌜ OfLent k (now (ratio .entry)) (now (n .entry)) (now (p .entry))
+        (λ car. ((i ≡ trip .lo → ⊥) → before ≡ first-at car (speeds-with asked (now (speeds .entry))) (holds-with asked (now (holds .entry))) (i - 1))
+        → Through car (speeds-with asked (now (speeds .entry))) (holds-with asked (now (holds .entry)))
+        i (i + length (now (gs .entry))) (r .until) (r .last)) ⌝ }
 {
     choices_in(
         k,
@@ -242,8 +249,12 @@ fn part_through<'a>(
     before: u8,
     part: Span,
 ) -> Gone
-    requires { ⌜ Parts k (now ratio) (now n) (now p) × OnWay (speeds-with asked (now speeds)) (now holds) (trip .lo) (trip .hi) run (part .lo) × PartEnd (asked .second) (part .lo) (trip .hi) (part .hi) ⌝ }
-    ensures { λ r. ⌜ ((car : Vehicle) → Lent car k (now (ratio .entry)) (now (n .entry)) (now (p .entry)) → ((part .lo ≡ trip .lo → ⊥) → before ≡ first-at car (speeds-with asked (now (speeds .entry))) (holds-with asked (now (holds .entry))) (part .lo - 1)) → Through car (speeds-with asked (now (speeds .entry))) (holds-with asked (now (holds .entry))) (part .lo) (part .hi) (r .until) (r .last)) ⌝ }
+    requires { ⌜ Parts k (now ratio) (now n) (now p) × OnWay (speeds-with asked (now speeds)) (now holds) (trip .lo) (trip .hi) run (part .lo)
+        × PartEnd (asked .second) (part .lo) (trip .hi) (part .hi) ⌝ }
+    ensures { λ r. ⌜ OfLent k (now (ratio .entry)) (now (n .entry)) (now (p .entry))
+        (λ car. ((part .lo ≡ trip .lo → ⊥)
+        → before ≡ first-at car (speeds-with asked (now (speeds .entry))) (holds-with asked (now (holds .entry))) (part .lo - 1))
+        → Through car (speeds-with asked (now (speeds .entry))) (holds-with asked (now (holds .entry))) (part .lo) (part .hi) (r .until) (r .last)) ⌝ }
 {
     let i = part.lo;
     let m = part.hi - i;
@@ -275,8 +286,10 @@ fn wanting<'a>(
     asked: Asked,
     trip: Span,
 ) -> usize
-    requires { ⌜ Parts k (now ratio) (now n) (now p) × Ahead (speeds-with asked (now speeds)) (trip .lo) (trip .hi) × (length (now holds) ≡ length (now speeds)) ⌝ }
-    ensures { λ r. ⌜ ((car : Vehicle) → Lent car k (now (ratio .entry)) (now (n .entry)) (now (p .entry)) → (lo : ℕ) → LowestAt (bad no-gear car (speeds-with asked (now (speeds .entry))) (holds-with asked (now (holds .entry))) lo) (trip .lo) (trip .hi) r) ⌝ }
+    requires { ⌜ Parts k (now ratio) (now n) (now p) × Ahead (speeds-with asked (now speeds)) (trip .lo) (trip .hi)
+        × (length (now holds) ≡ length (now speeds)) ⌝ }
+    ensures { λ r. ⌜ OfLent k (now (ratio .entry)) (now (n .entry)) (now (p .entry)) (λ car. (lo : ℕ)
+        → LowestAt (bad no-gear car (speeds-with asked (now (speeds .entry))) (holds-with asked (now (holds .entry))) lo) (trip .lo) (trip .hi) r) ⌝ }
 {
     let b = trip.hi;
     let run = closing_asked(speeds, asked, trip);
@@ -319,7 +332,8 @@ pub fn judge_gears<'a>(
     span: Span,
 ) -> Answer
     requires { ⌜ Parts k (now ratio) (now n) (now p) × Level (speeds-with asked (now speeds)) (now holds) (span .lo) (span .hi) ⌝ }
-    ensures { λ r. ⌜ ((car : Vehicle) → Lent car k (now (ratio .entry)) (now (n .entry)) (now (p .entry)) → said r ≡ gear-fault car (speeds-with asked (now (speeds .entry))) (holds-with asked (now (holds .entry))) (span .lo) (span .hi)) ⌝ }
+    ensures { λ r. ⌜ OfLent k (now (ratio .entry)) (now (n .entry)) (now (p .entry))
+        (λ car. said r ≡ gear-fault car (speeds-with asked (now (speeds .entry))) (holds-with asked (now (holds .entry))) (span .lo) (span .hi)) ⌝ }
 {
     let mut a = span.lo + 1;
     while a < span.hi {
@@ -346,8 +360,12 @@ pub fn check_gears<'a>(
     span: Span,
     most: u16,
 ) -> Answer
-    requires { ⌜ Parts k (now ratio) (now n) (now p) × Spanned k (now speeds) (now holds) (span .lo) (span .hi) × AtMost (at (speeds-with asked (now speeds))) (span .lo) (span .hi) most × Resting (speeds-with asked (now speeds)) (span .lo) (span .hi) × ((car : Vehicle) → Has car k (now ratio) → none ≡ seconds-fault car (speeds-with asked (now speeds)) (holds-with asked (now holds)) (span .lo) (span .hi)) ⌝ }
-    ensures { λ r. ⌜ ((car : Vehicle) → Lent car k (now (ratio .entry)) (now (n .entry)) (now (p .entry)) → said r ≡ gear-fault car (speeds-with asked (now (speeds .entry))) (holds-with asked (now (holds .entry))) (span .lo) (span .hi)) ⌝ }
+    requires { ⌜ Parts k (now ratio) (now n) (now p) × Spanned k (now speeds) (now holds) (span .lo) (span .hi)
+        × AtMost (at (speeds-with asked (now speeds))) (span .lo) (span .hi) most × Resting (speeds-with asked (now speeds)) (span .lo) (span .hi)
+        × ((car : Vehicle) → Has car k (now ratio)
+        → none ≡ seconds-fault car (speeds-with asked (now speeds)) (holds-with asked (now holds)) (span .lo) (span .hi)) ⌝ }
+    ensures { λ r. ⌜ OfLent k (now (ratio .entry)) (now (n .entry)) (now (p .entry))
+        (λ car. said r ≡ gear-fault car (speeds-with asked (now (speeds .entry))) (holds-with asked (now (holds .entry))) (span .lo) (span .hi)) ⌝ }
 {
     if no_gap(k, ratio, most) {
         return Answer::Done;

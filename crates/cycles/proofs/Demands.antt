@@ -1,5 +1,7 @@
 -- The demands on the functions of the built-in cycle, over their contracts as the check reads them.
-use Rattle.rules.proofs.Offered.{ℕ, _≡_, sym, _∙_, none, some, List, length, now, Lasts, atExit, Lfts, Dens, endedOf, resT, Fault, said, filled, left-none, left-some}
+use Rattle.rules.proofs.Offered.{ℕ, _≡_, sym, _∙_, none, some, List, length, now, Fault, said, filled, left-none}
+use Rattle.rules.proofs.Offered.{left-some}
+use Rattle.rules.specs.Determined.{AsksNothing, Promises}
 use Rattle.rules.specs.declared.Answer.{Answer}
 use Rattle.cycles.specs.Cycle.{cycle}
 use Rattle.cycles.specs.Parts.{fill-fault, fill-room}
@@ -12,13 +14,13 @@ use Rattle.cycles.proofs.parts.part_of.Reads as part-reads
 
 -- ---- demand 1: every part number and every room get an answer, for none of them asks anything of its caller
 
-pub fill-asks-nothing : (κs : Lfts 1) (a : Dens κs fill-kinds.ps) → fill-reads.Asked κs a
+pub fill-asks-nothing : AsksNothing fill-kinds.ps fill-reads.Asked
 fill-asks-nothing κs a = tt
 
-pub stretch-asks-nothing : (κs : Lfts 0) (a : Dens κs stretch-kinds.ps) → stretch-reads.Asked κs a
+pub stretch-asks-nothing : AsksNothing stretch-kinds.ps stretch-reads.Asked
 stretch-asks-nothing κs a = tt
 
-pub part-asks-nothing : (κs : Lfts 1) (a : Dens κs part-kinds.ps) → part-reads.Asked κs a
+pub part-asks-nothing : AsksNothing part-kinds.ps part-reads.Asked
 part-asks-nothing κs a = tt
 
 -- ---- refused exactly where request Three says, and a refusal writes nothing
@@ -28,8 +30,8 @@ pub record Filled (part : ℕ) (room : List ℕ) (z : Answer) (room′ : List �
   pub answer : said z ≡ fill-fault part (length room)
   pub room-left : room′ ≡ fill-room part room
 
-pub fill-says : (κs : Lfts 1) (a : Dens κs fill-kinds.ps) → fill-reads.Asked κs a → (z : resT fill-kinds.r κs .Denot) (ws : Lasts (endedOf 1 fill-kinds.ps fill-kinds.r) κs a)
-    → fill-reads.Learnt κs a z (atExit (endedOf 1 fill-kinds.ps fill-kinds.r) κs a ws) → Filled (a .0) (now (a .1 .0)) z (ws .1 .0)
+pub fill-says : Promises fill-kinds.ps fill-kinds.r fill-reads.Asked fill-reads.Learnt
+    (λ κs a z ws. Filled (a .0) (now (a .1 .0)) z (ws .1 .0))
 fill-says κs a asked z ws p = record { answer = p .0; room-left = p .1 }
 
 module _ {part : ℕ} {room : List ℕ} {z : Answer} {room′ : List ℕ} (F : Filled part room z room′) where

@@ -1,6 +1,8 @@
 -- A trace that is no longer than the longest, never too fast or too steep, and at rest at both ends, passes the checks that look at the trace alone; so
 -- does a part of it that begins and ends at rest.
-use Rattle.rules.proofs.Offered.{ℕ, zero, suc, _+_, _-_, _≤_, _<_, add-zero, add-suc, arith, _≡_, refl, ap, _∙_, true, false, not, none, List, eqb, length, lt-ltb, le-ltb, le-leb, eqb-true, _and_, _or_, within, at, part, first, longest, moving, refuse-at, trace-fault, Check, speed, step, ends, check-number, bad, fault-of, by-test, and-no, length-part, at-part, first-none, none-orelse, none-when}
+use Rattle.rules.proofs.Offered.{ℕ, zero, suc, _+_, _-_, _≤_, _<_, add-zero, add-suc, arith, _≡_, refl, ap, _∙_, true, false, not, none, List, eqb, length}
+use Rattle.rules.proofs.Offered.{lt-ltb, le-ltb, le-leb, eqb-true, _and_, _or_, within, at, part, first, longest, moving, refuse-at, trace-fault, Check, speed}
+use Rattle.rules.proofs.Offered.{step, ends, check-number, bad, fault-of, by-test, and-no, length-part, at-part, first-none, none-orelse, none-when}
 use Rattle.rules.specs.declared.Vehicle.{Vehicle}
 use Rattle.cycles.specs.Parts.{trace-checks}
 use Rattle.cycles.proofs.Table.{Near}
@@ -40,7 +42,8 @@ module _ {vs : List ℕ} (d : Driven vs) (car : Vehicle) (hs : List ℕ) where
       (λ b. let e : i ≡ length vs - 1 = omega (arith, eqb-true (suc i) (length vs) b) in rw (e, d .comes-to-rest))
       (λ b. rw (a, b) (and-no (moving (at vs i)) false refl)))
 
-  none-bad : (c : Check) → ((i : ℕ) → i < length vs → bad c car vs hs 0 i ≡ false) → refuse-at (check-number c) (first (bad c car vs hs 0) 0 (length vs - 0)) ≡ none
+  none-bad : (c : Check) → ((i : ℕ) → i < length vs → bad c car vs hs 0 i ≡ false) → refuse-at (check-number c) (first (bad c car vs hs 0) 0 (length vs - 0))
+      ≡ none
   unfolding refuse-at
   none-bad c h = ap (refuse-at (check-number c)) (first-none (bad c car vs hs 0) (length vs - 0) 0 (λ i l m. h i (omega arith)))
 
@@ -50,10 +53,12 @@ module _ {vs : List ℕ} (d : Driven vs) (car : Vehicle) (hs : List ℕ) where
 
   pub passes : trace-checks car vs hs ≡ none
   unfolding trace-checks fault-of
-  passes = none-orelse _ _ no-trace ∙ none-orelse _ _ (none-bad speed no-speed) ∙ none-orelse _ _ (none-bad step no-step) ∙ none-orelse _ _ (none-bad ends no-end)
+  passes = none-orelse _ _ no-trace ∙ none-orelse _ _ (none-bad speed no-speed) ∙ none-orelse _ _ (none-bad step no-step)
+      ∙ none-orelse _ _ (none-bad ends no-end)
 
 -- a part that begins at rest, at a, and ends at rest, at b
-pub driven-part : {vs : List ℕ} → Driven vs → (a b : ℕ) → a ≤ b → b < length vs → moving (at vs a) ≡ false → moving (at vs b) ≡ false → Driven (part vs a (b + 1))
+pub driven-part : {vs : List ℕ} → Driven vs → (a b : ℕ) → a ≤ b → b < length vs → moving (at vs a) ≡ false → moving (at vs b) ≡ false
+    → Driven (part vs a (b + 1))
 driven-part {vs} d a b le h first-rests last-rests =
     let n : length (part vs a (b + 1)) ≡ b + 1 - a = length-part vs a (b + 1) (omega arith) in
     record {
@@ -62,5 +67,6 @@ driven-part {vs} d a b le h first-rests last-rests =
       slow-at = λ i l. rw (at-part vs a (b + 1) i (omega arith)) (d .slow-at (a + i) (omega arith));
       near-at = λ i l. rw (at-part vs a (b + 1) i (omega arith), at-part vs a (b + 1) (suc i) (omega arith), add-suc a i) (d .near-at (a + i) (omega arith));
       begins = rw (at-part vs a (b + 1) 0 (omega arith), add-zero a) first-rests;
-      comes-to-rest = let e : a + (length (part vs a (b + 1)) - 1) ≡ b = omega arith in rw (at-part vs a (b + 1) (length (part vs a (b + 1)) - 1) (omega arith), e) last-rests;
+      comes-to-rest = let e : a + (length (part vs a (b + 1)) - 1) ≡ b = omega arith in
+          rw (at-part vs a (b + 1) (length (part vs a (b + 1)) - 1) (omega arith), e) last-rests;
     }

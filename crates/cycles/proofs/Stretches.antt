@@ -1,5 +1,6 @@
 -- What the refusals and the parts of the cycle come to.
-use Rattle.rules.proofs.Offered.{ℕ, zero, suc, _+_, _-_, _≤_, _<_, arith, _≡_, refl, _≢_, Option, none, some, List, [], length, ltb, lit≤, lt-ltb, le-ltb, ltb-false, part, Fault, refuse-at, _orelse_, when, left, orelse-none, when-none}
+use Rattle.rules.proofs.Offered.{ℕ, zero, suc, _+_, _-_, _≤_, _<_, arith, _≡_, refl, _≢_, Option, none, some, List, [], length, ltb, lit≤, lt-ltb, le-ltb}
+use Rattle.rules.proofs.Offered.{ltb-false, part, Fault, refuse-at, _orelse_, when, left, orelse-none, when-none}
 use Rattle.cycles.specs.Parts.{cycle-seconds, first-second, last-second, fill-fault, places, stretch, part-seconds}
 
 -- ---- the refusals
@@ -51,7 +52,8 @@ ordered p =
 pub at-ends : (P : ℕ → Type 0) → P 0 → P 589 → P 1022 → P 1477 → P 1800 → (p : ℕ) → p ≤ 4 → P (first-second p) × P (last-second p)
 unfolding first-second last-second
 at-ends P a b c d e p h =
-    by-part (λ q. q ≤ 4 → P (first-second q) × P (last-second q)) (λ l. (a, e)) (λ l. (a, b)) (λ l. (b, c)) (λ l. (c, d)) (λ l. (d, e)) (λ q l. absurd (omega arith)) p h
+    by-part (λ q. q ≤ 4 → P (first-second q) × P (last-second q)) (λ l. (a, e)) (λ l. (a, b)) (λ l. (b, c)) (λ l. (c, d)) (λ l. (d, e))
+    (λ q l. absurd (omega arith)) p h
 
 -- a number of no part has no seconds
 pub no-second : (p : ℕ) → p ≢ 0 → p ≢ 1 → p ≢ 2 → p ≢ 3 → p ≢ 4 → (first-second p ≡ 0) × (last-second p ≡ 0)
@@ -82,6 +84,8 @@ pub part-there : (p : ℕ) (room : List ℕ)
     → part room (stretch p (length room) .first) (stretch p (length room) .first + stretch p (length room) .count) ≡ part-seconds p room
 unfolding part-seconds left
 part-there p room =
-    by-fault (λ f. fill-fault p (length room) ≡ f → part room (stretch p (length room) .first) (stretch p (length room) .first + stretch p (length room) .count) ≡ left f [] (part room (first-second p) (last-second p + 1))) (fill-fault p (length room))
-    (λ e. let h : first-second p + (last-second p + 1 - first-second p) ≡ last-second p + 1 = omega (arith, ordered p .0) in rw (stretch-part p (length room) e, h))
+    by-fault (λ f. fill-fault p (length room) ≡ f → part room (stretch p (length room) .first) (stretch p (length room) .first + stretch p (length room) .count)
+    ≡ left f [] (part room (first-second p) (last-second p + 1))) (fill-fault p (length room))
+    (λ e. let h : first-second p + (last-second p + 1 - first-second p) ≡ last-second p + 1 = omega (arith, ordered p .0) in
+    rw (stretch-part p (length room) e, h))
     (λ f e. rw (no-stretch p (length room) e)) refl

@@ -1,13 +1,11 @@
 -- The cycle's rules at each second, by one test that is computed over the whole table, one second after the other.
-use Rattle.rules.proofs.Offered.{ℕ, zero, suc, _+_, _≤_, _<_, add-zero, zero-add, add-suc, suc-add, le-of-suc-le-suc, not-suc-le-zero, _≡_, refl, sym, _∙_, subst, Bool, true, false, not, List, [], _∷_, leb, eqb, length, leb-true, not-true, if_then_else_, _and_, _or_, at, moving, and-left, and-right}
-use Rattle.cycles.specs.Cycle.{cycle, low, medium, high, extra-high}
+use Rattle.rules.proofs.Offered.{ℕ, zero, suc, _+_, _≤_, _<_, add-zero, zero-add, add-suc, suc-add, le-of-suc-le-suc, not-suc-le-zero, _≡_, refl, sym, _∙_}
+use Rattle.rules.proofs.Offered.{subst, Bool, true, false, not, List, [], _∷_, leb, eqb, length, leb-true, not-true, if_then_else_, _and_, _or_, at, moving}
+use Rattle.rules.proofs.Offered.{and-left, and-right}
+use Rattle.cycles.specs.Cycle.{cycle, low-phase, medium-phase, high-phase, extra-high-phase}
+unfoldable pub use Rattle.cycles.proofs.Sound.{walk, boundary, close, sound}
 
 -- ---- a test of a list, from left to right
-
--- f of each place, counted from i, with the entry before it, u before the first, and the entry itself
-unfoldable walk : (ℕ → ℕ → ℕ → Bool) → ℕ → ℕ → List ℕ → Bool
-walk f i u [] = true
-walk f i u (v ∷ vs) = f i u v and walk f (suc i) v vs
 
 walk-from : (f : ℕ → ℕ → ℕ → Bool) (vs : List ℕ) (i u : ℕ) → walk f i u vs ≡ true → (k : ℕ) → k < length vs → f (i + k) (at (u ∷ vs) k) (at vs k) ≡ true
 unfolding walk
@@ -20,27 +18,15 @@ walk-from f (v ∷ vs) i u t (suc k) h =
 walk-at : (f : ℕ → ℕ → ℕ → Bool) (u : ℕ) (vs : List ℕ) → walk f 0 u vs ≡ true → (k : ℕ) → k < length vs → f k (at (u ∷ vs) k) (at vs k) ≡ true
 walk-at f u vs t k h = subst (λ (m : ℕ). f m (at (u ∷ vs) k) (at vs k) ≡ true) (zero-add k) (walk-from f vs 0 u t k h)
 
--- ---- the test of a second
-
--- a part begins or ends there
-unfoldable pub boundary : ℕ → Bool
-boundary i = eqb i 0 or eqb i 589 or eqb i 1022 or eqb i 1477 or eqb i 1800
-
--- of two speeds neither is over the other by more than 150
-unfoldable close : ℕ → ℕ → Bool
-close u v = leb v (u + 150) and leb u (v + 150)
-
--- in bounds, near the speed before, at rest where a part begins or ends
-unfoldable sound : ℕ → ℕ → ℕ → Bool
-sound i u v = leb v 2000 and close u v and (if boundary i then not (moving v) else true)
+-- ---- the table
 
 pub length-cycle : length cycle ≡ 1801
-unfolding cycle low medium high extra-high
+unfolding cycle low-phase medium-phase high-phase extra-high-phase
 length-cycle = refl
 
 -- the one test
 sound-cycle : walk sound 0 0 cycle ≡ true
-unfolding cycle low medium high extra-high walk sound boundary close moving _and_ _or_
+unfolding cycle low-phase medium-phase high-phase extra-high-phase walk sound boundary close moving _and_ _or_
 sound-cycle = refl
 
 sound-at : (i : ℕ) → i < length cycle → sound i (at (0 ∷ cycle) i) (at cycle i) ≡ true

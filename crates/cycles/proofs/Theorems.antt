@@ -1,22 +1,24 @@
 -- What a reader of request Three may conclude of the cycle and of the two calls, each by name.
-use Rattle.rules.proofs.Offered.{ℕ, suc, _+_, _-_, _≤_, _<_, arith, _≡_, refl, sym, ap, _∙_, false, none, some, List, [], _++_, lit<, lit≤, length, drop, length-append, length-drop, take-append-le, drop-append-le, drop-append-seam, now, Lasts, atExit, Lfts, Dens, endedOf, resT, _or_, at, part, longest, moving, filled, Fault, said, left}
+use Rattle.rules.proofs.Offered.{ℕ, suc, _+_, _-_, _≤_, _<_, arith, _≡_, refl, sym, ap, _∙_, false, none, some, List, [], _++_, lit<, lit≤, length, drop}
+use Rattle.rules.proofs.Offered.{length-append, length-drop, take-append-le, drop-append-le, drop-append-seam, now}
+use Rattle.rules.proofs.Offered.{_or_, at, part, longest, moving, filled, Fault, said, left}
+use Rattle.rules.specs.Determined.{Promises}
 use Rattle.rules.specs.declared.Vehicle.{Vehicle}
 use Rattle.rules.specs.declared.Answer.{Answer}
-use Rattle.cycles.specs.Cycle.{cycle, low, medium, high, extra-high, speed-sum}
+use Rattle.cycles.specs.Cycle.{cycle, low-phase, medium-phase, high-phase, extra-high-phase, speed-sum}
 use Rattle.cycles.specs.Parts.{trace-checks, first-second, last-second, fill-fault, fill-room, part-seconds}
 use Rattle.cycles.proofs.Stretches.{by-fault, ordered, at-ends, accepted, accepted-part, accepted-room}
 use Rattle.cycles.proofs.Table.{boundary, length-cycle, slow, Near, near, rests}
+use Rattle.cycles.proofs.Demands.{Filled}
 use Rattle.cycles.proofs.Drives.{Driven, passes, driven-part}
-use Rattle.cycles.proofs.filling.fill.Kinds as fill-kinds
-use Rattle.cycles.proofs.filling.fill.Reads as fill-reads
 use Rattle.cycles.proofs.parts.part_of.Kinds as part-kinds
 use Rattle.cycles.proofs.parts.part_of.Reads as part-reads
 
 -- ---- the table
 
 -- the sums of Table A1/13, in tenths: 11140.3, 17121.2, 25782.2 and 29714.9
-pub sums : (speed-sum low ≡ 111403) × (speed-sum medium ≡ 171212) × (speed-sum high ≡ 257822) × (speed-sum extra-high ≡ 297149)
-unfolding speed-sum low medium high extra-high
+pub sums : (speed-sum low-phase ≡ 111403) × (speed-sum medium-phase ≡ 171212) × (speed-sum high-phase ≡ 257822) × (speed-sum extra-high-phase ≡ 297149)
+unfolding speed-sum low-phase medium-phase high-phase extra-high-phase
 sums = (refl, refl, refl, refl)
 
 -- 1,801 seconds, every speed at most 2,000, every step at most 150
@@ -41,7 +43,8 @@ parts-rest p h =
     (rests 1800 (rw length-cycle (lit< tt)) refl) p h
 
 -- the four parts take 589, 433, 455 and 323 seconds
-pub parts-take : (last-second 1 - first-second 1 ≡ 589) × (last-second 2 - first-second 2 ≡ 433) × (last-second 3 - first-second 3 ≡ 455) × (last-second 4 - first-second 4 ≡ 323)
+pub parts-take : (last-second 1 - first-second 1 ≡ 589) × (last-second 2 - first-second 2 ≡ 433) × (last-second 3 - first-second 3 ≡ 455)
+    × (last-second 4 - first-second 4 ≡ 323)
 unfolding first-second last-second
 parts-take = (refl, refl, refl, refl)
 
@@ -63,27 +66,17 @@ cycle-passes car hs = passes cycle-driven car hs
 -- ---- a part of the table
 
 pub part-driven : (p : ℕ) → p ≤ 4 → Driven (part cycle (first-second p) (last-second p + 1))
-part-driven p h = driven-part cycle-driven (first-second p) (last-second p) (ordered p .0) (omega (arith, ordered p .1, length-cycle)) (parts-rest p h .0) (parts-rest p h .1)
+part-driven p h = driven-part cycle-driven (first-second p) (last-second p) (ordered p .0) (omega (arith, ordered p .1, length-cycle)) (parts-rest p h .0)
+    (parts-rest p h .1)
 
 -- ---- the two calls
-
--- what the contract of `fill` says: an answer, and the room that is left
-pub record Filled (p : ℕ) (room : List ℕ) (z : Answer) (new : List ℕ) : Type 0 where
-  pub answer : said z ≡ fill-fault p (length room)
-  pub room-left : new ≡ fill-room p room
-
-pub fill-says : (κs : Lfts 1) (a : Dens κs fill-kinds.ps) → fill-reads.Asked κs a → (z : resT fill-kinds.r κs .Denot) (ws : Lasts (endedOf 1 fill-kinds.ps fill-kinds.r) κs a)
-    → fill-reads.Learnt κs a z (atExit (endedOf 1 fill-kinds.ps fill-kinds.r) κs a ws)
-    → Filled (a .0) (now (a .1 .0)) z (ws .1 .0)
-fill-says κs a asked z ws p = record { answer = p .0; room-left = p .1 }
 
 -- what the contract of `part_of` says: the part that is handed back
 pub record HandedBack (p : ℕ) (room r : List ℕ) : Type 0 where
   pub part-back : r ≡ part-seconds p room
 
-pub part-says : (κs : Lfts 1) (a : Dens κs part-kinds.ps) → part-reads.Asked κs a → (z : resT part-kinds.r κs .Denot) (ws : Lasts (endedOf 1 part-kinds.ps part-kinds.r) κs a)
-    → part-reads.Learnt κs a z (atExit (endedOf 1 part-kinds.ps part-kinds.r) κs a ws)
-    → HandedBack (a .1 .0) (now (a .0)) (now z)
+pub part-says : Promises part-kinds.ps part-kinds.r part-reads.Asked part-reads.Learnt
+    (λ κs a z ws. HandedBack (a .1 .0) (now (a .0)) (now z))
 part-says κs a asked z ws p = record { part-back = p }
 
 -- a part that lies in the first of two lists

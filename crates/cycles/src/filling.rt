@@ -4,7 +4,7 @@ ghost use Rattle.rules.specs.Job.{filled};
 ghost use Rattle.rules.specs.Refusals.{said};
 ghost use Rattle.cycles.specs.Parts.{fill-fault, fill-room};
 use crate::class_3::CLASS_3;
-use crate::parts::check;
+use crate::parts::check_part;
 use rules::Answer;
 
 // The table is lent as a slice, so that it is read where it stands and not built again at each access.
@@ -24,7 +24,7 @@ pub fn fill(part: u32, room: &mut [u16]) -> Answer
     ensures answer { λ r. ⌜ said r ≡ fill-fault part (length (now (room .entry))) ⌝ }
     ensures room { λ r. ⌜ now (room .exit) ≡ fill-room part (now (room .entry)) ⌝ }
 {
-    let checked = check(part, room.len());
+    let checked = check_part(part, room.len());
     let Answer::Done = checked else {
         return checked;
     };

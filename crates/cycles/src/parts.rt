@@ -13,7 +13,7 @@ pub struct Stretch {
 }
 
 // 18, then 2, by the part number and the room's length alone.
-pub fn check(part: u32, length: usize) -> Answer
+pub fn check_part(part: u32, length: usize) -> Answer
     ensures { λ r. ⌜ said r ≡ fill-fault part length ⌝ }
 {
     if 4 < part {
@@ -55,7 +55,7 @@ fn last_second(part: u32) -> usize
 pub fn stretch_of(part: u32, length: usize) -> Stretch
     ensures { λ r. ⌜ r ≡ stretch part length ⌝ }
 {
-    let Answer::Done = check(part, length) else {
+    let Answer::Done = check_part(part, length) else {
         return Stretch { first: 0, count: 0 };
     };
     let first = first_second(part);

@@ -1,21 +1,22 @@
 -- Annex 1's steps in closed form, as fractions: one law for both stretches.
-use Rattle.rules.proofs.Offered.{ℕ, zero, suc, _+_, _-_, _*_, _≤_, add-zero, add-comm, add-mul, arith, _≡_, refl, sym, ap, _∙_, ℤ, pos, negℤ, _+ℤ_, _-ℤ_, _*ℤ_, +ℤ-assoc, at, *ℤ-+ℤ, *ℤ-neg, add-back, pos-sub}
-use Rattle.cycles.specs.Cycle.{cycle, low, medium, high, extra-high}
-use Rattle.downscale.specs.Steps.{own, steps, rise, peak, correction, fall}
+use Rattle.rules.proofs.Offered.{ℕ, zero, suc, _+_, _-_, _*_, _≤_, add-zero, add-comm, add-mul, arith, _≡_, refl, sym, ap, _∙_, ℤ, pos, negℤ, _+ℤ_, _-ℤ_, _*ℤ_}
+use Rattle.rules.proofs.Offered.{+ℤ-assoc, at, *ℤ-+ℤ, *ℤ-neg, add-back, pos-sub}
+use Rattle.cycles.specs.Cycle.{cycle, low-phase, medium-phase, high-phase, extra-high-phase}
+use Rattle.downscale.specs.Steps.{own, steps, rise-steps, peak, correction, fall-steps}
 use Rattle.downscale.specs.Closed.{drawn}
 
 -- ---- the cycle where the stretches begin and end
 
 pub begins : at cycle 1533 ≡ 600
-unfolding cycle low medium high extra-high
+unfolding cycle low-phase medium-phase high-phase extra-high-phase
 begins = refl
 
 pub top : at cycle 1724 ≡ 1313
-unfolding cycle low medium high extra-high
+unfolding cycle low-phase medium-phase high-phase extra-high-phase
 top = refl
 
 pub foot : at cycle 1763 ≡ 826
-unfolding cycle low medium high extra-high
+unfolding cycle low-phase medium-phase high-phase extra-high-phase
 foot = refl
 
 -- ---- one step
@@ -51,8 +52,8 @@ drawn-rest w p r h = let e : w - p + p ≡ w = omega arith in sym (add-mul (w - 
 
 module _ (f : ℕ) (h : f ≤ 500) where
   -- as fractions, over 1,000
-  pub rise-closed : (i : ℕ) → rise f i ≡ pos (drawn 1000 f 600 (at cycle (1533 + i)))
-  unfolding rise own
+  pub rise-closed : (i : ℕ) → rise-steps f i ≡ pos (drawn 1000 f 600 (at cycle (1533 + i)))
+  unfolding rise-steps own
   rise-closed = steps-closed 1533 1000 f 600 (rw begins (ap pos (sym (drawn-rest 1000 f 600 (omega arith))))) (pos-sub 1000 f (omega arith))
 
   pub peak-closed : peak f ≡ pos ((1000 - f) * 1313 + f * 600)
@@ -66,8 +67,8 @@ module _ (f : ℕ) (h : f ≤ 500) where
       rw (peak-closed, foot) (pos-sub ((1000 - f) * 1313 + f * 600) 826000 (omega arith) ∙ ap pos e)
 
   -- as fractions, over 1,000 x 487
-  pub fall-closed : (i : ℕ) → fall f i ≡ pos (drawn 487000 (713 * f) 826 (at cycle (1724 + i)))
-  unfolding fall drawn
+  pub fall-closed : (i : ℕ) → fall-steps f i ≡ pos (drawn 487000 (713 * f) 826 (at cycle (1724 + i)))
+  unfolding fall-steps drawn
   fall-closed =
       let e : 487 * ((1000 - f) * 1313 + f * 600) ≡ (487000 - 713 * f) * 1313 + 713 * f * 826 = omega arith in
       steps-closed 1724 487000 (713 * f) 826 (rw (peak-closed, top) (ap pos e)) correction-closed

@@ -7,3 +7,4 @@ pub mod ScaledRoom
 pub mod Theorems
 pub mod Determined
 pub mod Demands
+pub mod Cases

@@ -1,5 +1,7 @@
 -- Rounding: how far it can go, that it does not go apart, and when it is exact.
-use Rattle.rules.proofs.Offered.{ℕ, _+_, _-_, _*_, _/_, _≤_, _<_, sub-zero, add-zero, zero-mul, mul-comm, mul-left-comm, mul-add, add-mul, one-mul, mul-le-mul-left, mul-le-mul-right, le-div-iff-mul-le, div-lt-iff-lt-mul, div-mul-le-self, div-eq-of-lt-le, add-mul-div-right, mul-div-mul-left, le-trans, arith, _≡_, sym, ap, _∙_, nearest}
+use Rattle.rules.proofs.Offered.{ℕ, _+_, _-_, _*_, _/_, _≤_, _<_, sub-zero, add-zero, zero-mul, mul-comm, mul-left-comm, mul-add, add-mul, one-mul}
+use Rattle.rules.proofs.Offered.{mul-le-mul-left, mul-le-mul-right, le-div-iff-mul-le, div-lt-iff-lt-mul, div-mul-le-self, div-eq-of-lt-le, add-mul-div-right}
+use Rattle.rules.proofs.Offered.{mul-div-mul-left, le-trans, arith, _≡_, sym, ap, _∙_, nearest}
 use Rattle.downscale.specs.Closed.{drawn}
 use Rattle.downscale.proofs.Fractions.{drawn-rest}
 
@@ -21,7 +23,8 @@ module _ (w : ℕ) (h : 1 ≤ w) where
   pub nearest-most : (n m : ℕ) → n ≤ w * m → nearest n w ≤ m
   unfolding nearest
   nearest-most n m l =
-      let k : (2 * n + w) / (2 * w) < m + 1 = div-lt-iff-lt-mul {k = 2 * w} {x = 2 * n + w} {y = m + 1} (omega arith) .1 (rw (doubled-next m w) (omega arith)) in
+      let k : (2 * n + w) / (2 * w) < m + 1 = div-lt-iff-lt-mul {k = 2 * w} {x = 2 * n + w} {y = m + 1} (omega arith) .1
+      (rw (doubled-next m w) (omega arith)) in
       omega arith
 
   -- v wholes round to v

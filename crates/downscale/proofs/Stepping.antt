@@ -53,7 +53,8 @@ module _ {first end w k n : ℕ} {room₀ : List ℕ} {i before total : ℕ} {ro
       steps-closed first w (h .p) (h .r) (ap pos (h .began)) (ap pos (h .factor-is)) (j - first) ∙ rw e
 
   pub ends : i ≡ end → pos total ≡ steps first (pos n) (pos k) (end - 1 - first)
-  ends e = let s : i - 1 ≡ end - 1 = omega arith in sym (there (end - 1) (omega (arith, h .from)) ∙ ap pos (sym (h .total-is ∙ ap (drawn w (h .p) (h .r)) (h .before-is ∙ ap (at cycle) s))))
+  ends e = let s : i - 1 ≡ end - 1 = omega arith in
+      sym (there (end - 1) (omega (arith, h .from)) ∙ ap pos (sym (h .total-is ∙ ap (drawn w (h .p) (h .r)) (h .before-is ∙ ap (at cycle) s))))
 
   before-most : before ≤ 65535
   before-most = omega (arith, never-fast (i - 1) (omega (arith, h .from, h .to, h .in-cycle)), h .before-is)
@@ -62,7 +63,8 @@ module _ {first end w k n : ℕ} {room₀ : List ℕ} {i before total : ℕ} {ro
   pub asks : (k ≤ 487000) × (k * before ≤ total) × (total ≤ 487000 * 65535)
   unfolding drawn
   asks =
-      let e : k * before ≡ (w - h .p) * before = ap (λ (m : ℕ). m * before) (h .factor-is) in omega (arith, h .factor-is, h .draws .to, h .total-is, drawn-most w (h .p) (h .r) (h .draws .parts) before 65535 before-most (h .draws .speed))
+      let e : k * before ≡ (w - h .p) * before = ap (λ (m : ℕ). m * before) (h .factor-is) in
+      omega (arith, h .factor-is, h .draws .to, h .total-is, drawn-most w (h .p) (h .r) (h .draws .parts) before 65535 before-most (h .draws .speed))
 
   module _ (l : i < end) {s t : ℕ} (e : s ≡ at room i) (q : t ≡ total + k * s - k * before) where
     speed-is : s ≡ at cycle i
@@ -98,5 +100,6 @@ module _ {first end w k n : ℕ} {room₀ : List ℕ} {i before total : ℕ} {ro
       total-is = sum-is;
       changed =
           more (h .changed) (h .from) (omega (arith, h .long)) v
-          (g ∙ ap (λ (m : ℕ). nearest m w) (sum-is ∙ ap (drawn w (h .p) (h .r)) speed-is) ∙ ap (λ z. nearest (natAbs z) w) (sym (there i (omega (arith, h .from)))));
+          (g ∙ ap (λ (m : ℕ). nearest m w) (sum-is ∙ ap (drawn w (h .p) (h .r)) speed-is)
+          ∙ ap (λ z. nearest (natAbs z) w) (sym (there i (omega (arith, h .from)))));
     }

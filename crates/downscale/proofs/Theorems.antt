@@ -1,5 +1,6 @@
 -- What a reader of request Eleven may conclude of the scaled cycle and of the two ways, each by name.
-use Rattle.rules.proofs.Offered.{ℕ, suc, _+_, _-_, _*_, _≤_, _<_, arith, _≡_, sym, _∙_, none, some, List, lit<, lit≤, length, ext-getD, pos, _-ℤ_, now, Lasts, atExit, Lfts, Dens, endedOf, resT, Fault, said, left, said-once, at, part, longest, by-order, by-eq}
+use Rattle.rules.proofs.Offered.{ℕ, suc, _+_, _-_, _*_, _≤_, _<_, arith, _≡_, sym, _∙_, none, List, lit<, lit≤, ext-getD, pos, _-ℤ_}
+use Rattle.rules.proofs.Offered.{said-once, at, part, longest, by-order, by-eq}
 use Rattle.rules.specs.declared.Vehicle.{Vehicle}
 use Rattle.rules.specs.declared.Answer.{Answer}
 use Rattle.cycles.specs.Cycle.{cycle}
@@ -7,23 +8,21 @@ use Rattle.cycles.specs.Parts.{trace-checks, first-second, last-second}
 use Rattle.cycles.proofs.Table.{Near}
 use Rattle.cycles.proofs.Drives.{Driven, passes, driven-part}
 use Rattle.cycles.proofs.Theorems.{whole, never-fast, never-steep, parts-rest}
-use Rattle.downscale.specs.Steps.{own, rise, fall, scaled-at, scaled, down-fault, down-room}
+use Rattle.downscale.specs.Steps.{own, rise-steps, fall-steps, scaled-at, scaled-cycle}
 use Rattle.downscale.specs.Closed.{drawn, drawn-speed, closed-at}
+use Rattle.downscale.proofs.Demands.{Scaled}
 use Rattle.downscale.proofs.Fractions as fractions
 use Rattle.downscale.proofs.Rounding.{nearest-most, nearest-near, nearest-same, nearest-exact, drawn-most, drawn-near, drawn-none}
 use Rattle.downscale.proofs.ScaledRoom.{in-rise, in-fall, ahead, behind, by-run, scaled-there, length-scaled, rise-speed, fall-speed, stays}
-use Rattle.downscale.proofs.closed.downscale.Kinds as closed-kinds
-use Rattle.downscale.proofs.closed.downscale.Reads as closed-reads
-use Rattle.downscale.proofs.stepwise.downscale_steps.Kinds as steps-kinds
-use Rattle.downscale.proofs.stepwise.downscale_steps.Reads as steps-reads
 
 -- ---- the two ways agree
 
--- as fractions: at each second of the rise and of the fall the numerator of the steps is the closed form's, over the same 1,000 or 487,000; so no numerator is negative
-pub rise-closed : (f : ℕ) → f ≤ 500 → (i : ℕ) → rise f i ≡ pos (drawn 1000 f 600 (at cycle (1533 + i)))
+-- as fractions: at each second of the rise and of the fall the numerator of the steps
+-- is the closed form's, over the same 1,000 or 487,000; so no numerator is negative
+pub rise-closed : (f : ℕ) → f ≤ 500 → (i : ℕ) → rise-steps f i ≡ pos (drawn 1000 f 600 (at cycle (1533 + i)))
 rise-closed = fractions.rise-closed
 
-pub fall-closed : (f : ℕ) → f ≤ 500 → (i : ℕ) → fall f i ≡ pos (drawn 487000 (713 * f) 826 (at cycle (1724 + i)))
+pub fall-closed : (f : ℕ) → f ≤ 500 → (i : ℕ) → fall-steps f i ≡ pos (drawn 487000 (713 * f) 826 (at cycle (1724 + i)))
 fall-closed = fractions.fall-closed
 
 -- the denominator of the correction factor is the cycle's own 131.3 less 82.6
@@ -41,29 +40,9 @@ agree f h i =
     (λ l m. in-fall i _ _ _ l m ∙ sym (in-fall i _ _ _ l m ∙ fall-speed f i h (omega arith)))
     (λ l. behind i _ _ _ l ∙ sym (behind i _ _ _ l))
 
--- what the contract of either way says: an answer, and the room that is left
-pub record Downscaled (f : ℕ) (room : List ℕ) (z : Answer) (new : List ℕ) : Type 0 where
-  pub answer : said z ≡ down-fault f (length room)
-  pub room-left : new ≡ down-room f room
-
-pub closed-says : (κs : Lfts 1) (a : Dens κs closed-kinds.ps) → closed-reads.Asked κs a → (z : resT closed-kinds.r κs .Denot) (ws : Lasts (endedOf 1 closed-kinds.ps closed-kinds.r) κs a)
-    → closed-reads.Learnt κs a z (atExit (endedOf 1 closed-kinds.ps closed-kinds.r) κs a ws)
-    → Downscaled (a .0) (now (a .1 .0)) z (ws .1 .0)
-closed-says κs a asked z ws p = record { answer = p .0; room-left = p .1 }
-
-pub steps-say : (κs : Lfts 1) (a : Dens κs steps-kinds.ps) → steps-reads.Asked κs a → (z : resT steps-kinds.r κs .Denot) (ws : Lasts (endedOf 1 steps-kinds.ps steps-kinds.r) κs a)
-    → steps-reads.Learnt κs a z (atExit (endedOf 1 steps-kinds.ps steps-kinds.r) κs a ws)
-    → Downscaled (a .0) (now (a .1 .0)) z (ws .1 .0)
-steps-say κs a asked z ws p = record { answer = p .0; room-left = p .1 }
-
 -- called with the same factor and the same room, both functions answer the same and leave the same
-pub one-outcome : {f : ℕ} {room : List ℕ} {z z′ : Answer} {new new′ : List ℕ} → Downscaled f room z new → Downscaled f room z′ new′ → (z ≡ z′) × (new ≡ new′)
+pub one-outcome : {f : ℕ} {room : List ℕ} {z z′ : Answer} {new new′ : List ℕ} → Scaled f room z new → Scaled f room z′ new′ → (z ≡ z′) × (new ≡ new′)
 one-outcome {z = z} {z′ = z′} D E = (said-once z z′ (D .answer ∙ sym (E .answer)), D .room-left ∙ sym (E .room-left))
-
--- a refusal writes nothing
-pub untouched : {f : ℕ} {room : List ℕ} {z : Answer} {new : List ℕ} → Downscaled f room z new → (q : Fault) → said z ≡ some q → new ≡ room
-unfolding down-room left
-untouched D q e = D .room-left ∙ rw (sym (D .answer) ∙ e)
 
 -- ---- factor 0
 
@@ -81,8 +60,9 @@ own-at i =
     (λ l. behind i _ _ _ l)
 
 -- factor 0 gives the cycle back
-pub factor-0 : scaled 0 ≡ cycle
-factor-0 = ext-getD 0 (scaled 0) cycle (length-scaled 0 ∙ sym whole) (λ i l. scaled-there 0 i (omega (arith, length-scaled 0)) ∙ agree 0 (lit≤ tt) i ∙ own-at i)
+pub factor-0 : scaled-cycle 0 ≡ cycle
+factor-0 = ext-getD 0 (scaled-cycle 0) cycle (length-scaled 0 ∙ sym whole)
+    (λ i l. scaled-there 0 i (omega (arith, length-scaled 0)) ∙ agree 0 (lit≤ tt) i ∙ own-at i)
 
 -- ---- a scaled cycle is a trace
 
@@ -160,10 +140,10 @@ module _ (f : ℕ) (h : f ≤ 500) where
       (λ q. rw (falling f h i k (omega arith)) (drawn-slow 487000 (713 * f) 826 (lit≤ tt) (omega arith) (lit≤ tt) n))
       (λ q. rw (after-fall f h i q) n)))
 
-  there : (i : ℕ) → i < 1801 → at (scaled f) i ≡ closed-at f i
+  there : (i : ℕ) → i < 1801 → at (scaled-cycle f) i ≡ closed-at f i
   there i l = scaled-there f i l ∙ agree f h i
 
-  scaled-driven : Driven (scaled f)
+  scaled-driven : Driven (scaled-cycle f)
   unfolding longest first-second last-second
   scaled-driven = record {
     some-second = rw (length-scaled f) (lit≤ tt);
@@ -175,11 +155,11 @@ module _ (f : ℕ) (h : f ≤ 500) where
   }
 
   -- a scaled cycle passes checks 1, 4, 5 and 6, for every factor and vehicle and whatever is held
-  pub scaled-passes : (car : Vehicle) (hs : List ℕ) → trace-checks car (scaled f) hs ≡ none
+  pub scaled-passes : (car : Vehicle) (hs : List ℕ) → trace-checks car (scaled-cycle f) hs ≡ none
   scaled-passes car hs = passes scaled-driven car hs
 
   -- and so does its extra high part by itself
-  pub extra-high-passes : (car : Vehicle) (hs : List ℕ) → trace-checks car (part (scaled f) (first-second 4) (last-second 4 + 1)) hs ≡ none
+  pub extra-high-passes : (car : Vehicle) (hs : List ℕ) → trace-checks car (part (scaled-cycle f) (first-second 4) (last-second 4 + 1)) hs ≡ none
   unfolding first-second last-second
   extra-high-passes car hs =
       passes

@@ -6,7 +6,7 @@ use rules::Answer;
 use rules::Refusal;
 
 // 23, then 2, by the factor and the room's length alone.
-pub fn check(factor: u32, length: usize) -> Answer
+pub fn check_factor(factor: u32, length: usize) -> Answer
     ensures { λ r. ⌜ said r ≡ down-fault factor length ⌝ }
 {
     if 500 < factor {

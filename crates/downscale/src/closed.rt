@@ -3,7 +3,7 @@ ghost use Rattle.rules.specs.Words.{_≡_, _≤_, length, at};
 ghost use Rattle.rules.specs.Refusals.{said};
 ghost use Rattle.downscale.specs.Steps.{down-fault, down-room};
 ghost use Rattle.downscale.specs.Closed.{drawn-speed, Drawing, Changed};
-use crate::checks::check;
+use crate::checks::check_factor;
 use crate::checks::nearest;
 use rules::Answer;
 
@@ -32,7 +32,7 @@ pub fn downscale(factor: u32, room: &mut [u16]) -> Answer
     ensures answer { λ r. ⌜ said r ≡ down-fault factor (length (now (room .entry))) ⌝ }
     ensures room { λ r. ⌜ now (room .exit) ≡ down-room factor (now (room .entry)) ⌝ }
 {
-    let checked = check(factor, room.len());
+    let checked = check_factor(factor, room.len());
     let Answer::Done = checked else {
         return checked;
     };

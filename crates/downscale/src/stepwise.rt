@@ -3,7 +3,7 @@ ghost use Rattle.rules.specs.Words.{_≡_, suc, _+_, _-_, _*_, _≤_, length, p
 ghost use Rattle.rules.specs.Refusals.{said};
 ghost use Rattle.downscale.specs.Steps.{steps, down-fault, down-room};
 ghost use Rattle.downscale.specs.Closed.{Changed, Stepping};
-use crate::checks::check;
+use crate::checks::check_factor;
 use crate::checks::nearest;
 use rules::Answer;
 
@@ -28,7 +28,8 @@ fn add_steps(
 ) -> u64
     requires { ⌜ Stepping first end whole factor start sum (now room) ⌝ }
     ensures sum { λ r. ⌜ pos r ≡ steps first (pos sum) (pos factor) (end - 1 - first) ⌝ }
-    ensures room { λ r. ⌜ Changed (λ j. nearest (natAbs (steps first (pos sum) (pos factor) (j - first))) whole) (suc first) end (now (room .entry)) (now (room .exit)) ⌝ }
+    ensures room { λ r. ⌜ Changed (λ j. nearest (natAbs (steps first (pos sum) (pos factor) (j - first))) whole) (suc first) end (now (room .entry))
+        (now (room .exit)) ⌝ }
 {
     let mut i = first + 1;
     let mut before = start;
@@ -49,7 +50,7 @@ pub fn downscale_steps(factor: u32, room: &mut [u16]) -> Answer
     ensures answer { λ r. ⌜ said r ≡ down-fault factor (length (now (room .entry))) ⌝ }
     ensures room { λ r. ⌜ now (room .exit) ≡ down-room factor (now (room .entry)) ⌝ }
 {
-    let checked = check(factor, room.len());
+    let checked = check_factor(factor, room.len());
     let Answer::Done = checked else {
         return checked;
     };

@@ -1,5 +1,7 @@
 -- Where an edit lies in the trace that it asks for: from a standing second, or the trace's first, up to a standing one.
-use Rattle.rules.proofs.Offered.{ℕ, suc, _+_, _-_, _≤_, _<_, min, add-one, arith, _≡_, refl, sym, ap, _∙_, _≢_, false, List, length, at, moving, start, stop, second, asked-speeds, Span, around, hold-span, span, by-test, start-le, start-before, stop-le, stop-after, stop-to, trace-in, length-asked, span-kept}
+use Rattle.rules.proofs.Offered.{ℕ, suc, _+_, _-_, _≤_, _<_, min, add-one, arith, _≡_, _∙_, _≢_, false, List, length, at, moving, start, stop}
+use Rattle.rules.proofs.Offered.{second, asked-speeds, Extent, around, hold-span, span, by-test, start-le, start-before, stop-le, stop-after, stop-to, trace-in}
+use Rattle.rules.proofs.Offered.{length-asked, span-kept}
 use Rattle.rules.specs.declared.Vehicle.{Vehicle}
 use Rattle.rules.specs.declared.Edit.{Edit}
 use Rattle.rules.specs.declared.Edit.the-variants.{Hold, Release, Mend}
@@ -10,7 +12,7 @@ use Rattle.checks.specs.Want.{Resting}
 use Rattle.checks.proofs.Rows.{Opened, spanned, longest-is}
 use Rattle.summaries.specs.Tallies.{Countable}
 
-pub record Lies (ws : List ℕ) (r : Span) (s : ℕ) : Type 0 where
+pub record Lies (ws : List ℕ) (r : Extent) (s : ℕ) : Type 0 where
   pub inside : s < length ws
   pub since : r .lo ≤ s
   pub order : r .lo ≤ r .hi

@@ -16,11 +16,14 @@ pub fn second_of(edit: Edit) -> usize
     }
 }
 
-// A gear as the checks judge it: 0 is no gear, and counts as 255, above every ng.
+// Above every ng.
+const OVER_NG: u8 = 255;
+
+// A gear as the checks judge it: 0 is no gear, and counts as one above every ng.
 fn gear_asked(gear: u8) -> u8
     ensures { λ r. ⌜ r ≡ gear-asked gear ⌝ }
 {
-    if gear == 0 { 255 } else { gear }
+    if gear == 0 { OVER_NG } else { gear }
 }
 
 // A hold or a release keeps the speed that is there, a mended sample the hold.

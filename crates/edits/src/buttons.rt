@@ -2,8 +2,8 @@
 ghost use mathlib.Core.Path.{_≡_};
 ghost use Rattle.rules.specs.declared.Edit.the-variants.{Hold, Release, Mend};
 ghost use Rattle.rules.specs.Refusals.{said};
-ghost use Rattle.rules.specs.Edit.{showing, edit-fault, edited};
-ghost use Rattle.edits.specs.Asks.{Carries, CarriedOut};
+ghost use Rattle.rules.specs.Edit.{edit-fault, edited};
+ghost use Rattle.edits.specs.Asks.{screen, Carries, CarriedOut};
 use crate::Judged;
 use crate::judging::judge;
 use cards::sweep;
@@ -30,7 +30,8 @@ fn carry_out<'a>(
     summary: Summary,
 ) -> Summarized
     requires { ⌜ Carries k (now ratio) (now n) (now powers) (now speeds) (now holds) (now card) judged ⌝ }
-    ensures { λ r. ⌜ CarriedOut k (now (ratio .entry)) (now (n .entry)) (now (powers .entry)) (now (speeds .entry)) (now (holds .entry)) (now (card .entry)) judged summary r (now (card .exit)) ⌝ }
+    ensures { λ r. ⌜ CarriedOut k (now (ratio .entry)) (now (n .entry)) (now (powers .entry)) (now (speeds .entry)) (now (holds .entry))
+        (now (card .entry)) judged summary r (now (card .exit)) ⌝ }
 {
     sweep(k, ratio, n, powers, speeds, holds, card, judged.range);
     let counted = count(speeds, card, judged.range);
@@ -50,10 +51,10 @@ pub fn hold(
     gear: u8,
     summary: Summary,
 ) -> Summarized
-    ensures answer { λ r. ⌜ said (r .answer) ≡ edit-fault vehicle (Hold second gear) (showing (now (speeds .entry)) (now (holds .entry)) (now (card .entry)) summary) ⌝ }
-    ensures summary { λ r. ⌜ r .summary ≡ edited vehicle (Hold second gear) (showing (now (speeds .entry)) (now (holds .entry)) (now (card .entry)) summary) .summary ⌝ }
-    ensures holds { λ r. ⌜ now (holds .exit) ≡ edited vehicle (Hold second gear) (showing (now (speeds .entry)) (now (holds .entry)) (now (card .entry)) summary) .holds ⌝ }
-    ensures card { λ r. ⌜ now (card .exit) ≡ edited vehicle (Hold second gear) (showing (now (speeds .entry)) (now (holds .entry)) (now (card .entry)) summary) .card ⌝ }
+    ensures answer { λ r. ⌜ said (r .answer) ≡ edit-fault vehicle (Hold second gear) (screen (speeds .entry) (holds .entry) (card .entry) summary) ⌝ }
+    ensures summary { λ r. ⌜ r .summary ≡ edited vehicle (Hold second gear) (screen (speeds .entry) (holds .entry) (card .entry) summary) .summary ⌝ }
+    ensures holds { λ r. ⌜ now (holds .exit) ≡ edited vehicle (Hold second gear) (screen (speeds .entry) (holds .entry) (card .entry) summary) .holds ⌝ }
+    ensures card { λ r. ⌜ now (card .exit) ≡ edited vehicle (Hold second gear) (screen (speeds .entry) (holds .entry) (card .entry) summary) .card ⌝ }
 {
     let k = numbers_of(vehicle);
     let mut powers = [0u32; 64];
@@ -97,10 +98,10 @@ pub fn release(
     second: usize,
     summary: Summary,
 ) -> Summarized
-    ensures answer { λ r. ⌜ said (r .answer) ≡ edit-fault vehicle (Release second) (showing (now (speeds .entry)) (now (holds .entry)) (now (card .entry)) summary) ⌝ }
-    ensures summary { λ r. ⌜ r .summary ≡ edited vehicle (Release second) (showing (now (speeds .entry)) (now (holds .entry)) (now (card .entry)) summary) .summary ⌝ }
-    ensures holds { λ r. ⌜ now (holds .exit) ≡ edited vehicle (Release second) (showing (now (speeds .entry)) (now (holds .entry)) (now (card .entry)) summary) .holds ⌝ }
-    ensures card { λ r. ⌜ now (card .exit) ≡ edited vehicle (Release second) (showing (now (speeds .entry)) (now (holds .entry)) (now (card .entry)) summary) .card ⌝ }
+    ensures answer { λ r. ⌜ said (r .answer) ≡ edit-fault vehicle (Release second) (screen (speeds .entry) (holds .entry) (card .entry) summary) ⌝ }
+    ensures summary { λ r. ⌜ r .summary ≡ edited vehicle (Release second) (screen (speeds .entry) (holds .entry) (card .entry) summary) .summary ⌝ }
+    ensures holds { λ r. ⌜ now (holds .exit) ≡ edited vehicle (Release second) (screen (speeds .entry) (holds .entry) (card .entry) summary) .holds ⌝ }
+    ensures card { λ r. ⌜ now (card .exit) ≡ edited vehicle (Release second) (screen (speeds .entry) (holds .entry) (card .entry) summary) .card ⌝ }
 {
     let k = numbers_of(vehicle);
     let mut powers = [0u32; 64];
@@ -145,10 +146,10 @@ pub fn mend(
     speed: u16,
     summary: Summary,
 ) -> Summarized
-    ensures answer { λ r. ⌜ said (r .answer) ≡ edit-fault vehicle (Mend second speed) (showing (now (speeds .entry)) (now (holds .entry)) (now (card .entry)) summary) ⌝ }
-    ensures summary { λ r. ⌜ r .summary ≡ edited vehicle (Mend second speed) (showing (now (speeds .entry)) (now (holds .entry)) (now (card .entry)) summary) .summary ⌝ }
-    ensures speeds { λ r. ⌜ now (speeds .exit) ≡ edited vehicle (Mend second speed) (showing (now (speeds .entry)) (now (holds .entry)) (now (card .entry)) summary) .speeds ⌝ }
-    ensures card { λ r. ⌜ now (card .exit) ≡ edited vehicle (Mend second speed) (showing (now (speeds .entry)) (now (holds .entry)) (now (card .entry)) summary) .card ⌝ }
+    ensures answer { λ r. ⌜ said (r .answer) ≡ edit-fault vehicle (Mend second speed) (screen (speeds .entry) (holds .entry) (card .entry) summary) ⌝ }
+    ensures summary { λ r. ⌜ r .summary ≡ edited vehicle (Mend second speed) (screen (speeds .entry) (holds .entry) (card .entry) summary) .summary ⌝ }
+    ensures speeds { λ r. ⌜ now (speeds .exit) ≡ edited vehicle (Mend second speed) (screen (speeds .entry) (holds .entry) (card .entry) summary) .speeds ⌝ }
+    ensures card { λ r. ⌜ now (card .exit) ≡ edited vehicle (Mend second speed) (screen (speeds .entry) (holds .entry) (card .entry) summary) .card ⌝ }
 {
     let k = numbers_of(vehicle);
     let mut powers = [0u32; 64];

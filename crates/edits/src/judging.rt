@@ -2,15 +2,15 @@
 ghost use Rattle.rules.specs.Words.{_≡_, length};
 ghost use Rattle.rules.specs.declared.Summary.{Summary};
 ghost use Rattle.rules.specs.Refusals.{said};
-ghost use Rattle.rules.specs.Edit.{showing, edit-fault};
+ghost use Rattle.rules.specs.Edit.{edit-fault};
 ghost use Rattle.rules.specs.declared.Answer.the-variants.{Done};
 ghost use Rattle.gears.specs.Parts.{whole};
-ghost use Rattle.edits.specs.Asks.{Ready};
+ghost use Rattle.edits.specs.Asks.{screen, Clear};
 use crate::Judged;
 use crate::asking::asked_of;
 use crate::asking::second_of;
-use crate::spans::looked_at;
 use crate::spans::span_of;
+use crate::spans::widened;
 use checks::Span;
 use checks::check_opening;
 use checks::check_span;
@@ -20,7 +20,7 @@ use rules::Answer;
 use rules::Edit;
 use rules::Refusal;
 use summaries::count;
-use summaries::nothing;
+use summaries::none_counted;
 
 // An edit that is refused: nothing else was found out.
 fn refused(answer: Answer) -> Judged
@@ -29,7 +29,7 @@ fn refused(answer: Answer) -> Judged
     Judged {
         answer,
         range: Span { lo: 0, hi: 0 },
-        counted: nothing(),
+        counted: none_counted(),
     }
 }
 
@@ -49,8 +49,11 @@ pub fn judge<'a>(
     edit: Edit,
 ) -> Judged
     requires { ⌜ length (now powers) ≡ 64 ⌝ }
-    ensures answer { λ r. ⌜ ((kept : Summary) → said (r .answer) ≡ edit-fault (whole k (now (ratio .entry)) (now (n .entry)) (now (p .entry)) (now (m .entry)) margin) edit (showing (now (speeds .entry)) (now (holds .entry)) (now (card .entry)) kept)) ⌝ }
-    ensures ready { λ r. ⌜ (r .answer ≡ Done → Ready (whole k (now (ratio .entry)) (now (n .entry)) (now (p .entry)) (now (m .entry)) margin) edit (now (speeds .entry)) (now (holds .entry)) (now (card .entry)) r (now (powers .exit))) ⌝ }
+    ensures answer { λ r. ⌜ ((kept : Summary) → said (r .answer)
+        ≡ edit-fault (whole k (now (ratio .entry)) (now (n .entry)) (now (p .entry)) (now (m .entry)) margin) edit
+        (screen (speeds .entry) (holds .entry) (card .entry) kept)) ⌝ }
+    ensures ready { λ r. ⌜ (r .answer ≡ Done → Clear (whole k (now (ratio .entry)) (now (n .entry)) (now (p .entry)) (now (m .entry)) margin) edit
+        (now (speeds .entry)) (now (holds .entry)) (now (card .entry)) r (now (powers .exit))) ⌝ }
 {
     let seconds = speeds.len();
     let opening = check_opening(k, ratio, n, p, m, margin, seconds, holds.len(), card.len());
@@ -71,7 +74,7 @@ pub fn judge<'a>(
         speeds,
         holds,
         asked_of(speeds, holds, edit),
-        looked_at(range, seconds),
+        widened(range, seconds),
     );
     let Answer::Done = answer else {
         return refused(answer);

@@ -50,7 +50,7 @@ pub fn span_of(speeds: &[u16], edit: Edit) -> Span
 }
 
 // What is looked at: the standing second after it too, as far as the trace has one.
-pub fn looked_at(range: Span, seconds: usize) -> Span
+pub fn widened(range: Span, seconds: usize) -> Span
     ensures from { λ r. ⌜ r .lo ≡ range .lo ⌝ }
     ensures to { λ r. ⌜ r .hi ≡ min (range .hi + 1) seconds ⌝ }
 {

@@ -1,21 +1,23 @@
 -- Request Five: "Each kind 1 and 2 exactly once, in either order", and "kind 0 ends the export". An export that is accepted is two records of different
 -- kinds, each with its floats, the end, and no byte more.
-use Rattle.rules.proofs.Offered.{ℕ, _+_, arith, _≡_, sym, ap, _∙_, _⊎_, inl, inr, not, List, length, ltb, eqb, Float, eqb-true, _and_, at, early, Read, got, hand-on, demand, by-test, by-order, and-left}
+use Rattle.rules.proofs.Offered.{ℕ, _+_, arith, _≡_, sym, ap, _∙_, _⊎_, inl, inr, not, List, length, ltb, eqb, Float, eqb-true, _and_, at, early, Read, got}
+use Rattle.rules.proofs.Offered.{hand-on, demand, by-test, by-order, and-left}
 use Rattle.exports.specs.declared.Record.{Record}
 use Rattle.exports.specs.declared.Record.the-variants as record-is
 use Rattle.exports.specs.declared.Found.{Found}
 use Rattle.exports.specs.declared.Field.{Field}
 use Rattle.exports.specs.Fields.{F0, F1, F2, TM}
-use Rattle.exports.specs.Export.{none-yet, with-record, float, finite-float, judged, coefficients-read, mass-read, end-read, of-kind, record-read, export-read}
+use Rattle.exports.specs.Export.{none-yet, with-record, float, finite-float, judged, coefficients-read, mass-read, end-read, of-kind, record-read}
+use Rattle.exports.specs.Export.{export-read}
 use Rattle.exports.specs.Answers.{Fresh}
 use Rattle.exports.proofs.RecordAnswers.{no-kind, by-kind}
 use Rattle.exports.proofs.Once.{never, went, passed, two-kinds, both-met, third-is-end, record-fresh}
 
 -- the record r stands in the export from i up to j: its kind is one byte, each of its floats four
-abbrev pub Stands : List ℕ → ℕ → Record → ℕ → Type 0
-Stands bytes i (record-is.Coefficients c) j = (at bytes i ≡ 1) × (j ≡ i + 13)
-Stands bytes i (record-is.Mass m) j = (at bytes i ≡ 2) × (j ≡ i + 5)
-Stands bytes i record-is.End j = (at bytes i ≡ 0) × (j ≡ i + 1)
+abbrev pub RecordStands : List ℕ → ℕ → Record → ℕ → Type 0
+RecordStands bytes i (record-is.Coefficients c) j = (at bytes i ≡ 1) × (j ≡ i + 13)
+RecordStands bytes i (record-is.Mass m) j = (at bytes i ≡ 2) × (j ≡ i + 5)
+RecordStands bytes i record-is.End j = (at bytes i ≡ 0) × (j ≡ i + 1)
 
 -- coefficients and mass, in either order, from the export's first byte on; then the end; and no byte more
 pub record TwoRecords (bytes : List ℕ) : Type 0 where
@@ -43,11 +45,11 @@ module _ (bytes : List ℕ) where
 
   -- a record that is read stands there
   module _ (found : Found) (spot : ℕ) {r : Record} {j : ℕ} where
-    end-stands : at bytes spot ≡ 0 → end-read bytes spot found (spot + 1) ≡ got r j → Stands bytes spot r j
+    end-stands : at bytes spot ≡ 0 → end-read bytes spot found (spot + 1) ≡ got r j → RecordStands bytes spot r j
     unfolding end-read
     end-stands z e = passed _ 22 spot (spot + 1) _ e (λ e. rw (← same-record e) (z, same-place e))
 
-    coefficients-stand : at bytes spot ≡ 1 → coefficients-read bytes spot (spot + 1) ≡ got r j → Stands bytes spot r j
+    coefficients-stand : at bytes spot ≡ 1 → coefficients-read bytes spot (spot + 1) ≡ got r j → RecordStands bytes spot r j
     unfolding coefficients-read
     coefficients-stand z e =
         went (judged bytes spot F0 (spot + 1)) _ e (λ x k a e.
@@ -60,7 +62,7 @@ module _ (bytes : List ℕ) where
         let n : j ≡ spot + 13 = omega arith in
         rw (← same-record e) (z, n))))
 
-    mass-stands : at bytes spot ≡ 2 → mass-read bytes spot (spot + 1) ≡ got r j → Stands bytes spot r j
+    mass-stands : at bytes spot ≡ 2 → mass-read bytes spot (spot + 1) ≡ got r j → RecordStands bytes spot r j
     unfolding mass-read
     mass-stands z e =
         went (judged bytes spot TM (spot + 1)) _ e (λ x k a e.
@@ -69,7 +71,7 @@ module _ (bytes : List ℕ) where
         let n : j ≡ spot + 5 = omega arith in
         rw (← same-record e) (z, n))
 
-    kind-stands : of-kind bytes spot (at bytes spot) found (spot + 1) ≡ got r j → Stands bytes spot r j
+    kind-stands : of-kind bytes spot (at bytes spot) found (spot + 1) ≡ got r j → RecordStands bytes spot r j
     unfolding of-kind
     kind-stands e =
         by-test (eqb (at bytes spot) 0)
@@ -82,7 +84,7 @@ module _ (bytes : List ℕ) where
         (λ b. mass-stands (eqb-true _ _ (and-left _ _ b)) (rw (z, a, b) at e))
         (λ b. never (rw (z, a, b) at e))))
 
-    pub record-stands : record-read bytes found spot ≡ got r j → Stands bytes spot r j
+    pub record-stands : record-read bytes found spot ≡ got r j → RecordStands bytes spot r j
     record-stands e =
         by-order spot (length bytes)
         (λ l. kind-stands (sym (by-kind bytes found spot l) ∙ e))
@@ -90,9 +92,9 @@ module _ (bytes : List ℕ) where
 
   -- two such records from the first byte on, and the end after them
   both-stand : (one two : Record) (i j k : ℕ) → Fresh none-yet one → Fresh (with-record none-yet one) two
-      → Stands bytes 0 one i → Stands bytes i two j → Stands bytes j record-is.End k → k ≡ length bytes → TwoRecords bytes
+      → RecordStands bytes 0 one i → RecordStands bytes i two j → RecordStands bytes j record-is.End k → k ≡ length bytes → TwoRecords bytes
   both-stand one two i j k p q a b c e =
-      two-kinds (λ one two. Stands bytes 0 one i → Stands bytes i two j → TwoRecords bytes)
+      two-kinds (λ one two. RecordStands bytes 0 one i → RecordStands bytes i two j → TwoRecords bytes)
       (λ x m a b.
       let n : i ≡ 13 = a .1 in
       let l : j ≡ 18 = omega arith in
@@ -114,5 +116,6 @@ module _ (bytes : List ℕ) where
       let p = record-fresh bytes none-yet 0 a in
       let q = record-fresh bytes (with-record none-yet one) i b in
       let third = third-is-end (with-record (with-record none-yet one) two) three (both-met one two p q) (record-fresh bytes _ j c) in
-      both-stand one two i j k p q (record-stands none-yet 0 a) (record-stands (with-record none-yet one) i b) (rw third at (record-stands _ j c)) (eqb-true _ _ t))
+      both-stand one two i j k p q (record-stands none-yet 0 a) (record-stands (with-record none-yet one) i b) (rw third at (record-stands _ j c))
+      (eqb-true _ _ t))
       (λ t. never (rw t at e)))))

@@ -1,5 +1,6 @@
 -- The demands on the reader of an export, over the contract of `read_export` as the check reads it.
-use Rattle.rules.proofs.Offered.{ℕ, _≡_, refl, sym, _∙_, none, List, arith, now, Lasts, atExit, Lfts, Dens, endedOf, resT, said, Read, got, refused, read-fault}
+use Rattle.rules.proofs.Offered.{ℕ, _≡_, refl, sym, _∙_, none, List, arith, now, said, Read, got, refused, read-fault}
+use Rattle.rules.specs.Determined.{AsksNothing, Promises}
 use Rattle.exports.specs.declared.Export.{Export}
 use Rattle.exports.specs.declared.Found.{Found}
 use Rattle.exports.specs.Export.{export-read, ExportAs}
@@ -8,12 +9,12 @@ use Rattle.exports.proofs.read_export.Kinds as read-kinds
 use Rattle.exports.proofs.read_export.Reads as read-reads
 
 -- demand 1: every list of bytes gets an answer, for `read_export` asks nothing of its caller
-pub demand-1-asks-nothing : (κs : Lfts 1) (a : Dens κs read-kinds.ps) → read-reads.Asked κs a
+pub demand-1-asks-nothing : AsksNothing read-kinds.ps read-reads.Asked
 demand-1-asks-nothing κs a = tt
 
 -- what the contract says
-pub export-says : (κs : Lfts 1) (a : Dens κs read-kinds.ps) → read-reads.Asked κs a → (z : resT read-kinds.r κs .Denot) (ws : Lasts (endedOf 1 read-kinds.ps read-kinds.r) κs a)
-    → read-reads.Learnt κs a z (atExit (endedOf 1 read-kinds.ps read-kinds.r) κs a ws) → ExportAs (now (a .0)) z
+pub export-says : Promises read-kinds.ps read-kinds.r read-reads.Asked read-reads.Learnt
+    (λ κs a z ws. ExportAs (now (a .0)) z)
 export-says κs a asked z ws p = p
 
 -- refused by number and place exactly where request Five says

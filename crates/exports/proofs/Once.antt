@@ -1,5 +1,6 @@
 -- Each kind exactly once: an export that is accepted has met both kinds, and its third record is the end.
-use Rattle.rules.proofs.Offered.{ℕ, arith, _≡_, refl, sym, _∙_, Bool, true, false, not, List, length, eqb, Float, not-true, _and_, at, by-test, by-order, and-left, and-right, Fault, Read, got, refused, Reader, hand-on, give, demand}
+use Rattle.rules.proofs.Offered.{ℕ, arith, _≡_, refl, sym, _∙_, Bool, true, false, not, List, length, eqb, Float, not-true, _and_, at, by-test, by-order}
+use Rattle.rules.proofs.Offered.{and-left, and-right, Fault, Read, got, refused, Reader, hand-on, give, demand}
 use Rattle.exports.specs.declared.Record.{Record}
 use Rattle.exports.specs.declared.Record.the-variants as record-is
 use Rattle.exports.specs.declared.Found.{Found}

@@ -1,5 +1,6 @@
 -- What the reading answers, one law for each way through it.
-use Rattle.rules.proofs.Offered.{ℕ, _+_, _<_, _≤_, _≡_, true, false, List, length, Float, binary32, ofBits-fits, le-leb, lt-leb, lt-ltb, le-ltb, ne-eqb, _and_, at, Fault, fault, early, Read, got, refused, hand-on, demand}
+use Rattle.rules.proofs.Offered.{ℕ, _+_, _<_, _≤_, _≡_, true, false, List, length, Float, binary32, ofBits-fits, le-leb, lt-leb, lt-ltb, le-ltb, ne-eqb, _and_}
+use Rattle.rules.proofs.Offered.{at, Fault, fault, early, Read, got, refused, hand-on, demand}
 use Rattle.rules.specs.declared.Refusal.the-variants.{JobEndsEarly, BadKind, NotFinite, OutOfBounds, KindMissing}
 use Rattle.exports.specs.declared.Record.{Record}
 use Rattle.exports.specs.declared.Record.the-variants as record-is
@@ -72,7 +73,8 @@ module _ (bytes : List ℕ) (spot i : ℕ) where
       unfolding coefficients-read hand-on
       f2-stops h = rw (← e, ← g, ← h)
 
-      pub three-come : {z : Float} {l : ℕ} → got z l ≡ judged bytes spot F2 k → got (record-is.Coefficients (record { f0 = x; f1 = y; f2 = z })) l ≡ coefficients-read bytes spot i
+      pub three-come : {z : Float} {l : ℕ} → got z l ≡ judged bytes spot F2 k → got (record-is.Coefficients (record { f0 = x; f1 = y; f2 = z })) l
+          ≡ coefficients-read bytes spot i
       unfolding coefficients-read hand-on
       three-come h = rw (← e, ← g, ← h)
 

@@ -1,5 +1,8 @@
 -- Sizes: what fits the code's types, and what a judged value is in them.
-use Rattle.rules.proofs.Offered.{ℕ, zero, suc, _+_, _*_, _/_, _%_, _^_, _<_, _≤_, mul-le-mul, mul-comm, div-eq-of-lt, mod-eq-of-lt, one-mul, arith, _≡_, refl, ap, _∙_, Bool, true, false, ℤ, pos, negsuc, negℤ, _-ℤ_, +ℤ-idl, leZ, ltZ, pow-add, pow-mono, shr-le, Float, binary32, toBits, toZ-ofZ, toZ-pos, sfits-lit, SFits, toZ, ofZ, w32, w64, le-leb, lt-leb, leb-true, ltb-true, ltb-false, nearest, _and_, and-left, and-right}
+use Rattle.rules.proofs.Offered.{ℕ, zero, suc, _+_, _*_, _/_, _%_, _^_, _<_, _≤_, mul-le-mul, mul-comm, div-eq-of-lt, mod-eq-of-lt, one-mul, arith, _≡_, refl}
+use Rattle.rules.proofs.Offered.{ap, _∙_, Bool, true, false, ℤ, pos, negsuc, negℤ, _-ℤ_, +ℤ-idl, leZ, ltZ, pow-add, pow-mono, shr-le, Float, binary32, toBits}
+use Rattle.rules.proofs.Offered.{toZ-ofZ, toZ-pos, sfits-lit, SFits, toZ, ofZ, w32, w64, le-leb, lt-leb, leb-true, ltb-true, ltb-false, nearest, _and_}
+use Rattle.rules.proofs.Offered.{and-left, and-right}
 use Rattle.exports.specs.declared.Field.{Field}
 use Rattle.exports.specs.Floats.{signed, scaled}
 use Rattle.exports.specs.Fields.{F0, F1, F2, TM, units, in-bounds}
@@ -123,14 +126,19 @@ module _ (k : ℕ) (x : Float) (m : Moderate k x) (n : ℕ) (e : n ≡ size-of k
   pub turned : 2147483648 ≤ toBits binary32 x → (toZ w64 (ofZ w64 (pos 0 -ℤ toZ w64 n)) ≡ scaled k x) × SFits w64 (toZ w64 (ofZ w64 (pos 0 -ℤ toZ w64 n)))
   unfolding signed negative
   turned l =
-      let same : toZ w64 (ofZ w64 (pos 0 -ℤ toZ w64 n)) ≡ scaled k x = toZ-ofZ minus-short ∙ minus-is ∙ rw (scaled-is k x m, le-leb 2147483648 (toBits binary32 x) l, ← e) in
+      let same : toZ w64 (ofZ w64 (pos 0 -ℤ toZ w64 n)) ≡ scaled k x = toZ-ofZ minus-short ∙ minus-is
+      ∙ rw (scaled-is k x m, le-leb 2147483648 (toBits binary32 x) l, ← e) in
       (same, rw same value-short)
 
 -- ---- the fields
 
 pub f0-plain : Unsigned F0
 unfolding F0
-f0-plain = record { fair = record { least = omega arith; most = omega arith; lower = refl; upper = refl; lo-held = sfits-lit tt; hi-held = sfits-lit tt }; from-zero = refl; short = refl }
+f0-plain = record {
+  fair = record { least = omega arith; most = omega arith; lower = refl; upper = refl; lo-held = sfits-lit tt; hi-held = sfits-lit tt };
+  from-zero = refl;
+  short = refl;
+}
 
 pub f1-fair : Fair F1
 unfolding F1
@@ -138,8 +146,16 @@ f1-fair = record { least = omega arith; most = omega arith; lower = refl; upper 
 
 pub f2-plain : Unsigned F2
 unfolding F2
-f2-plain = record { fair = record { least = omega arith; most = omega arith; lower = refl; upper = refl; lo-held = sfits-lit tt; hi-held = sfits-lit tt }; from-zero = refl; short = refl }
+f2-plain = record {
+  fair = record { least = omega arith; most = omega arith; lower = refl; upper = refl; lo-held = sfits-lit tt; hi-held = sfits-lit tt };
+  from-zero = refl;
+  short = refl;
+}
 
 pub tm-plain : Unsigned TM
 unfolding TM
-tm-plain = record { fair = record { least = omega arith; most = omega arith; lower = refl; upper = refl; lo-held = sfits-lit tt; hi-held = sfits-lit tt }; from-zero = refl; short = refl }
+tm-plain = record {
+  fair = record { least = omega arith; most = omega arith; lower = refl; upper = refl; lo-held = sfits-lit tt; hi-held = sfits-lit tt };
+  from-zero = refl;
+  short = refl;
+}

@@ -1,5 +1,6 @@
 -- What a reader of request Five may conclude of the definitions, each theorem by name.
-use Rattle.rules.proofs.Offered.{ℕ, _+_, _*_, _/_, _%_, _<_, _≤_, div-mul-le-self, div-add-mod', mod-lt, mul-left-comm, arith, _≡_, refl, true, false, getD, ℤ, pos, negℤ, leZ, Float, fin, le-leb, nearest, _and_, within, newest, bounds}
+use Rattle.rules.proofs.Offered.{ℕ, _+_, _*_, _/_, _%_, _<_, _≤_, div-mul-le-self, div-add-mod', mod-lt, mul-left-comm, arith, _≡_, refl, true, false, getD, ℤ}
+use Rattle.rules.proofs.Offered.{pos, negℤ, leZ, Float, fin, le-leb, nearest, _and_, within, newest, bounds}
 use Rattle.rules.specs.declared.Vehicle.{Vehicle}
 use Rattle.exports.specs.Floats.{signed, scaled}
 use Rattle.exports.specs.Fields.{F0, F1, F2, TM, units, in-bounds}

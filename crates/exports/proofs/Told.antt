@@ -1,5 +1,6 @@
 -- Whatever the reader of an export refuses, it refuses by number and place of a row of the table.
-use Rattle.rules.proofs.Offered.{ℕ, _+_, refl, not, List, length, leb, ltb, eqb, _and_, early, Reader, hand-on, read-fault, if-ind, Told, ToldRead, told-got, told-refused, told-then, told-demand}
+use Rattle.rules.proofs.Offered.{ℕ, _+_, refl, not, List, length, leb, ltb, eqb, _and_, early, Reader, hand-on, read-fault, if-ind, Told, ToldRead, told-got}
+use Rattle.rules.proofs.Offered.{told-refused, told-then, told-demand}
 use Rattle.rules.specs.declared.Refusal.the-variants.{JobEndsEarly, BadKind, NotFinite, OutOfBounds, KindMissing, BytesAfter}
 use Rattle.exports.specs.declared.Record.{Record}
 use Rattle.exports.specs.declared.Found.{Found}
@@ -30,7 +31,8 @@ module _ (bytes : List ℕ) where
       (λ _. told-then _ _ (told-demand _ 22 spot i (KindMissing spot, refl)) (λ t j. told-got _ j)) (λ _.
       if-ind (λ (f : Reader Record). ToldRead (f i)) (eqb k 1 and not (found .«has_coefficients»))
       (λ _.
-      told-then _ _ (judged-told spot F0 i) (λ x j. told-then _ _ (judged-told spot F1 j) (λ y j. told-then _ _ (judged-told spot F2 j) (λ z j. told-got _ j)))) (λ _.
+      told-then _ _ (judged-told spot F0 i) (λ x j. told-then _ _ (judged-told spot F1 j) (λ y j. told-then _ _ (judged-told spot F2 j) (λ z j. told-got _ j))))
+      (λ _.
       if-ind (λ (f : Reader Record). ToldRead (f i)) (eqb k 2 and not (found .«has_mass»))
       (λ _. told-then _ _ (judged-told spot TM i) (λ x j. told-got _ j))
       (λ _. told-refused (BadKind spot, refl))))

@@ -1,7 +1,10 @@
 -- The way of the code comes to the exact value: from a float's fields as whole numbers, denormals included, its scaled value, and where it is beyond
 -- every bound.
 use Rattle.rules.proofs.Base.{fits}
-use Rattle.rules.proofs.Offered.{ℕ, zero, suc, _+_, _-_, _*_, _/_, _%_, _^_, _<_, _≤_, add-mul, mul-one, mul-comm, mul-assoc, mul-left-comm, mul-le-mul, arith, _≡_, refl, sym, ap, _∙_, Bool, true, false, not, T, leb, eqb, ℤ, pos, negsuc, negℤ, leZ, pow-pos, pow-add, Float, nan, inf, fin, up, down, binary32, ofBits, ofFields, toBits, isNan, odd, ofBits-toBits, HasValue, odd-sign, div-same, lt-leb, ne-eqb, leb-true, nearest, _and_, by-test, by-order, and-no}
+use Rattle.rules.proofs.Offered.{ℕ, zero, suc, _+_, _-_, _*_, _/_, _%_, _^_, _<_, _≤_, add-mul, mul-one, mul-comm, mul-assoc, mul-left-comm, mul-le-mul, arith}
+use Rattle.rules.proofs.Offered.{_≡_, refl, sym, ap, _∙_, Bool, true, false, not, T, leb, eqb, ℤ, pos, negsuc, negℤ, leZ, pow-pos, pow-add, Float, nan, inf}
+use Rattle.rules.proofs.Offered.{fin, up, down, binary32, ofBits, ofFields, toBits, isNan, odd, ofBits-toBits, HasValue, odd-sign, div-same, lt-leb, ne-eqb}
+use Rattle.rules.proofs.Offered.{leb-true, nearest, _and_, by-test, by-order, and-no}
 use Rattle.exports.specs.declared.Field.{Field}
 use Rattle.exports.specs.Floats.{float-of, finite, signed, scaled}
 use Rattle.exports.specs.Fields.{units, in-bounds}
@@ -82,12 +85,14 @@ module _ (k b : ℕ) where
   unfolding size-of significand shift
   denormal e =
       rw (fields b, e)
-      (scaled-by k (ofFields binary32 (negative b) 0 (mantissa b)) (negative b) (mantissa b * 2 ^ 0) (2 ^ 149) (pow-pos 149) (fields-denormal (negative b) (mantissa b))
+      (scaled-by k (ofFields binary32 (negative b) 0 (mantissa b)) (negative b) (mantissa b * 2 ^ 0) (2 ^ 149) (pow-pos 149)
+      (fields-denormal (negative b) (mantissa b))
       ∙ ap (λ (n : ℕ). signed (negative b) (nearest (k * n) (2 ^ 149))) (mul-one (mantissa b)))
 
   module _ (x : ℕ) (e : exponent b ≡ suc x) (h : x < 254) where
     normal : scaled k (float-of b) ≡ signed (negative b) (nearest (k * ((8388608 + mantissa b) * 2 ^ x)) (2 ^ 149))
-    normal = rw (fields b, e) (scaled-by k (ofFields binary32 (negative b) (suc x) (mantissa b)) (negative b) _ (2 ^ 149) (pow-pos 149) (fields-value (negative b) x (mantissa b) h))
+    normal = rw (fields b, e)
+        (scaled-by k (ofFields binary32 (negative b) (suc x) (mantissa b)) (negative b) _ (2 ^ 149) (pow-pos 149) (fields-value (negative b) x (mantissa b) h))
 
     small : x < 149 → scaled k (float-of b) ≡ signed (negative b) (size-of k b)
     unfolding size-of significand shift

@@ -7,9 +7,9 @@ use Rattle.exports.specs.declared.Record.{Record}
 use Rattle.exports.specs.declared.Record.the-variants as record-is
 use Rattle.exports.specs.declared.Found.{Found}
 use Rattle.exports.specs.Fields.{TM, units}
-use Rattle.exports.specs.Export.{none-yet, with-record, record-read, export-read, numbers-of, ExportAs}
+use Rattle.exports.specs.Export.{none-yet, with-record, record-read, export-read, figures-of, ExportAs}
 use Rattle.exports.specs.Bits.{InField, Bounded, InUnits}
-use Rattle.exports.specs.Answers.{Fresh, Good, nothing}
+use Rattle.exports.specs.Answers.{Fresh, Good, no-export}
 use Rattle.exports.proofs.Once.{two-kinds}
 
 -- the coefficients and the mass of two records that come were judged
@@ -17,7 +17,8 @@ pub both-judged : (one two : Record) → Fresh none-yet one → Fresh (with-reco
     → Bounded (with-record (with-record none-yet one) two .coefficients) × InField TM (with-record (with-record none-yet one) two .mass)
 both-judged =
     two-kinds
-    (λ one two. Good one → Good two → Bounded (with-record (with-record none-yet one) two .coefficients) × InField TM (with-record (with-record none-yet one) two .mass))
+    (λ one two. Good one → Good two → Bounded (with-record (with-record none-yet one) two .coefficients)
+    × InField TM (with-record (with-record none-yet one) two .mass))
     (λ c m p q. (p, q))
     (λ m c p q. (q, p))
 
@@ -53,14 +54,14 @@ module _ (bytes : List ℕ) where
 
 -- ---- the reader's two ends
 
-pub refused-as : (bytes : List ℕ) {f : Refusal} → refused (fault f) ≡ export-read bytes 0 → ExportAs bytes (nothing (Refused f))
-unfolding said read-fault numbers-of
+pub refused-as : (bytes : List ℕ) {f : Refusal} → refused (fault f) ≡ export-read bytes 0 → ExportAs bytes (no-export (Refused f))
+unfolding said read-fault figures-of
 refused-as bytes e = record { answered = cc; the-f0 = cc; the-f1 = cc; the-f2 = cc; the-tm = cc }
 
 pub read-as-found : (bytes : List ℕ) {found : Found} {k : ℕ} → got found k ≡ export-read bytes 0
     → {a b t : ℕ} {s : ℤ} → InUnits (found .coefficients) (record { f0 = a; f1 = s; f2 = b }) → pos t ≡ units TM (found .mass)
     → ExportAs bytes (record { answer = Done; f0 = a; f1 = s; f2 = b; tm = t })
-unfolding said read-fault numbers-of
+unfolding said read-fault figures-of
 read-as-found bytes e u m =
     let f0 = u .f0-is in
     let f1 = u .f1-is in

@@ -61,5 +61,5 @@ next-answer (next-is.Record r j) = Done
 next-answer (next-is.Fault f) = Refused f
 
 -- what the reader answers where it refuses
-abbrev pub nothing : Answer → Export
-nothing a = record { answer = a; f0 = 0; f1 = pos 0; f2 = 0; tm = 0 }
+abbrev pub no-export : Answer → Export
+no-export a = record { answer = a; f0 = 0; f1 = pos 0; f2 = 0; tm = 0 }

@@ -27,7 +27,8 @@ none-yet = record {
 -- and this record
 abbrev pub with-record : Found → Record → Found
 with-record found (record-is.Coefficients c) = record { «has_coefficients» = true; coefficients = c; «has_mass» = found .«has_mass»; mass = found .mass }
-with-record found (record-is.Mass m) = record { «has_coefficients» = found .«has_coefficients»; coefficients = found .coefficients; «has_mass» = true; mass = m }
+with-record found (record-is.Mass m) =
+    record { «has_coefficients» = found .«has_coefficients»; coefficients = found .coefficients; «has_mass» = true; mass = m }
 with-record found record-is.End = found
 
 -- ---- reading
@@ -104,26 +105,26 @@ module _ (bytes : List ℕ) where
 -- ---- what the reader answers
 
 -- F0, F1, F2 and TM in document 01's units
-pub record Numbers : Type 0 where
+pub record Figures : Type 0 where
   pub f0 : ℤ
   pub f1 : ℤ
   pub f2 : ℤ
   pub tm : ℤ
 
 -- those of what was found; all 0 where the export is refused
-unfoldable pub numbers-of : Read Found → Numbers
-numbers-of (got found j) = record {
+unfoldable pub figures-of : Read Found → Figures
+figures-of (got found j) = record {
   f0 = units F0 (found .coefficients .f0);
   f1 = units F1 (found .coefficients .f1);
   f2 = units F2 (found .coefficients .f2);
   tm = units TM (found .mass);
 }
-numbers-of (refused f) = record { f0 = pos 0; f1 = pos 0; f2 = pos 0; tm = pos 0 }
+figures-of (refused f) = record { f0 = pos 0; f1 = pos 0; f2 = pos 0; tm = pos 0 }
 
 -- the answer r is what is read of the export
 pub record ExportAs (bytes : List ℕ) (r : Export) : Type 0 where
   pub answered : said (r .answer) ≡ read-fault (export-read bytes 0)
-  pub the-f0 : pos (r .f0) ≡ numbers-of (export-read bytes 0) .f0
-  pub the-f1 : r .f1 ≡ numbers-of (export-read bytes 0) .f1
-  pub the-f2 : pos (r .f2) ≡ numbers-of (export-read bytes 0) .f2
-  pub the-tm : pos (r .tm) ≡ numbers-of (export-read bytes 0) .tm
+  pub the-f0 : pos (r .f0) ≡ figures-of (export-read bytes 0) .f0
+  pub the-f1 : r .f1 ≡ figures-of (export-read bytes 0) .f1
+  pub the-f2 : pos (r .f2) ≡ figures-of (export-read bytes 0) .f2
+  pub the-tm : pos (r .tm) ≡ figures-of (export-read bytes 0) .tm

@@ -60,7 +60,7 @@ pub fn in_bounds(x: f32, field: Field) -> bool
 }
 
 // A float that was judged, for a field with no negative values, in its units.
-pub fn whole(x: f32, field: Field) -> u16
+pub fn whole_number(x: f32, field: Field) -> u16
     requires { ⌜ InField field x × Unsigned field ⌝ }
     ensures { λ r. ⌜ pos r ≡ units field x ⌝ }
 {
@@ -81,8 +81,8 @@ pub fn in_units(c: Coefficients) -> Units
     ensures { λ r. ⌜ InUnits c r ⌝ }
 {
     Units {
-        f0: whole(c.f0, F0),
+        f0: whole_number(c.f0, F0),
         f1: thousandths(c.f1),
-        f2: whole(c.f2, F2),
+        f2: whole_number(c.f2, F2),
     }
 }

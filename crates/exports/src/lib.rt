@@ -2,7 +2,7 @@
 // units from their bits, in whole numbers only. The first fault from left to right is the answer.
 ghost use mathlib.Core.Path.{_≡_};
 ghost use Rattle.exports.specs.Export.{ExportAs, none-yet, with-record};
-ghost use Rattle.exports.specs.Answers.{number-next, next-answer, nothing};
+ghost use Rattle.exports.specs.Answers.{number-next, next-answer, no-export};
 
 mod fields;
 mod floats;
@@ -10,7 +10,7 @@ mod records;
 
 use fields::TM;
 use fields::in_units;
-use fields::whole;
+use fields::whole_number;
 use records::record_at;
 use rules::Answer;
 use rules::Refusal;
@@ -134,8 +134,8 @@ impl Found {
 }
 
 // Nothing is read.
-fn nothing(answer: Answer) -> Export
-    ensures { λ r. ⌜ r ≡ nothing answer ⌝ }
+fn no_export(answer: Answer) -> Export
+    ensures { λ r. ⌜ r ≡ no-export answer ⌝ }
 {
     Export {
         answer,
@@ -154,24 +154,24 @@ pub fn read_export(bytes: &[u8]) -> Export
     let none = Found::none_yet();
     let first = record_at(bytes, 0, none);
     let Next::Record(one, at) = first else {
-        return nothing(first.answer());
+        return no_export(first.answer());
     };
     let half = none.and(one);
     let second = record_at(bytes, at, half);
     let Next::Record(two, at) = second else {
-        return nothing(second.answer());
+        return no_export(second.answer());
     };
     let both = half.and(two);
     let third = record_at(bytes, at, both);
     let Next::Record(_, end) = third else {
-        return nothing(third.answer());
+        return no_export(third.answer());
     };
     if end != bytes.len() {
-        return nothing(Answer::Refused(Refusal::BytesAfter(end)));
+        return no_export(Answer::Refused(Refusal::BytesAfter(end)));
     }
     let coefficients = both.coefficients;
     let units = in_units(coefficients);
-    let tm = whole(both.mass, TM);
+    let tm = whole_number(both.mass, TM);
     Export {
         answer: Answer::Done,
         f0: units.f0,

@@ -1,5 +1,7 @@
 -- A job that was read, and what the working makes of it, as the definitions' text.
-use Rattle.rules.proofs.Offered.{ℕ, arith, _≡_, refl, sym, _∙_, _≢_, none, some, List, length, take, ne-eqb, Fault, numbered, fault, said, work-fault, left, work-card, Read, got, refused, Job, read-fault, job-of, card-text, refusal-text, worked-text, read-text, printed, program-room, printed-fault, room-alone}
+use Rattle.rules.proofs.Offered.{ℕ, arith, _≡_, refl, sym, _∙_, _≢_, none, some, List, length, take, ne-eqb, Fault, numbered, fault, said, work-fault, left}
+use Rattle.rules.proofs.Offered.{work-card, Read, got, refused, Job, read-fault, job-of, card-text, refusal-text, worked-text, read-text, printed, program-room}
+use Rattle.rules.proofs.Offered.{printed-fault, room-alone}
 use Rattle.rules.specs.declared.Vehicle.{Vehicle}
 use Rattle.rules.specs.declared.Refusal.{Refusal}
 use Rattle.rules.specs.declared.Refusal.the-variants.{TraceLength}
@@ -14,7 +16,8 @@ use Rattle.gearcard.specs.Printing.{text-of}
 
 module _ (car : Vehicle) (vs hs old : List ℕ) (e : length old ≡ length vs) where
   -- where the working is done, the text is that of the card that it left
-  pub done-text : {a : Answer} {new : List ℕ} → said a ≡ work-fault car vs hs old → a ≡ Done → new ≡ work-card car vs hs old → text-of car vs hs ≡ card-text vs new
+  pub done-text : {a : Answer} {new : List ℕ} → said a ≡ work-fault car vs hs old → a ≡ Done → new ≡ work-card car vs hs old
+      → text-of car vs hs ≡ card-text vs new
   unfolding said work-card left worked-text
   done-text s d n =
       let w : work-fault car vs hs old ≡ none = sym s ∙ rw d in

@@ -1,5 +1,8 @@
 -- Text put piece by piece: the digits of a number, the pieces of a line, line after line, and what begins the memory is seen there.
-use Rattle.rules.proofs.Offered.{ℕ, zero, suc, _+_, _-_, _*_, _%_, _/_, _≤_, _<_, arith, add-zero, zero-add, add-one, _≡_, refl, _∙_, List, [], _∷_, _++_, append-nil, append-assoc, length, drop, set, getD, length-append, length-drop, length-set, drop-of-length-le, take-all, sets-eq, length-sets, drop-cons, getD-set-same, drop-set-lt, take-append-seam, drop-append-seam, le-leb, lt-leb, part, decimal, pedal, line, lines, tens, decimal-one, decimal-more, line-short, lines-more}
+use Rattle.rules.proofs.Offered.{ℕ, zero, suc, _+_, _-_, _*_, _%_, _/_, _≤_, _<_, arith, add-zero, zero-add, add-one, _≡_, refl, _∙_, List, [], _∷_, _++_}
+use Rattle.rules.proofs.Offered.{append-nil, append-assoc, length, drop, set, getD, length-append, length-drop, length-set, drop-of-length-le, take-all}
+use Rattle.rules.proofs.Offered.{sets-eq, length-sets, drop-cons, getD-set-same, drop-set-lt, take-append-seam, drop-append-seam, le-leb, lt-leb, part, decimal}
+use Rattle.rules.proofs.Offered.{pedal, line, lines, tens, decimal-one, decimal-more, line-short, lines-more}
 use Rattle.reading.specs.Lent.{Put}
 use Rattle.reading.proofs.PutInTurn.{put-both}
 use Rattle.gearcard.specs.Printing.{Begins, speed-text, gear-text}
@@ -131,4 +134,9 @@ pub begins : {text out out′ : List ℕ} {r : ℕ} → Put text out 0 r out′ 
 begins {text} {out} {out′} {r} p =
     let n : r ≡ length text = omega (arith, p .after) in
     let w : out′ ≡ text ++ drop (length text) out = p .now-is ∙ rw zero-add at (sets-eq text out 0 (omega (arith, p .inside))) in
-    record { count = rw n; inside = rw (p .now-is, length-sets) (p .inside); shown = rw (w, n) (take-append-seam text _); beyond = rw (w, n) (drop-append-seam text _) }
+    record {
+      count = rw n;
+      inside = rw (p .now-is, length-sets) (p .inside);
+      shown = rw (w, n) (take-append-seam text _);
+      beyond = rw (w, n) (drop-append-seam text _);
+    }

@@ -1,5 +1,9 @@
 -- The choice, as a loop from the top gear down meets it: what is left, from here down, with the best gear so far, is what was asked.
-use Rattle.rules.proofs.Offered.{ℕ, zero, suc, _-_, _≤_, _<_, arith, _≡_, refl, sym, _∙_, subst, _≢_, Bool, true, false, not, List, eqb, ℤ, pos, natAbs, leZ, eqb-true, eqb-false, ne-eqb, if_then_else_, _and_, _or_, highest, low, is-first, required, fits, Power, power, enough, more, suits, beats, strongest, choose, NoGear, clash, by-test, and-left, and-no, highest-holds, highest-none, fits-from, strongest-fits, more-asym, no-more-trans, gear-wide, choose-strongest, choose-highest, choose-to, first-choice-plainly, InBounds}
+use Rattle.rules.proofs.Offered.{ℕ, zero, suc, _-_, _≤_, _<_, arith, _≡_, refl, sym, _∙_, subst, _≢_, Bool, true, false, not, List, eqb, ℤ, pos, natAbs, leZ}
+use Rattle.rules.proofs.Offered.{eqb-true, eqb-false, ne-eqb, if_then_else_, _and_, _or_, highest, low, is-first, required, fits, Power, power, enough, more}
+use Rattle.rules.proofs.Offered.{suits, beats, strongest, choose, NoGear, clash, by-test, and-left, and-no, highest-holds, highest-none, fits-from}
+use Rattle.rules.proofs.Offered.{strongest-fits, more-asym, no-more-trans, gear-wide, choose-strongest, choose-highest, choose-to, first-choice-plainly}
+use Rattle.rules.proofs.Offered.{InBounds}
 use Rattle.rules.specs.declared.Vehicle.{Vehicle}
 use Rattle.rules.proofs.Laws.Strongest.{Wide}
 use Rattle.rules.specs.declared.Role.{Role}
@@ -10,16 +14,23 @@ use Rattle.gears.specs.declared.Best.{Best}
 use Rattle.gears.specs.Parts.{Lent}
 use Rattle.gears.specs.Choosing.{power-of, PowerSized, enough-for, InGear, only-lowest, the-stronger}
 use Rattle.gears.proofs.Powers.{nothing, turning-of, turning-enough, sized-of}
-use Rattle.gears.proofs.Speeds.{fits-not, fits-below}
+use Rattle.gears.proofs.Speeds.{fits-not, fits-lower}
 use Rattle.gears.proofs.Parts.{ng-of}
 
 -- ---- what is left
 
 module _ (car : Vehicle) (here : Role) (v : ℕ) where
+  -- the strongest of the gears up to k, and whether it has more power than gear b
+  abbrev rest : ℕ → ℕ
+  rest k = strongest car here v k
+
+  abbrev outdone : ℕ → ℕ → Bool
+  outdone b k = more (power car v (rest k)) (power car v b)
+
   -- of the best gear so far, 0 for none, and those up to k the fitting one with most power, the higher gear on a tie
   unfoldable pub fallback : ℕ → ℕ → ℕ
   fallback b k =
-      let r = strongest car here v k in
+      let r = rest k in
       if eqb b 0 or (not (eqb r 0) and more (power car v r) (power car v b)) then r else b
 
   -- the best so far once gear g, which fits, is one of them
@@ -39,53 +50,53 @@ module _ (car : Vehicle) (here : Role) (v : ℕ) where
     unfolding better _or_
     better-not y u = rw (y, u)
 
-  same-rest : (b j k : ℕ) → strongest car here v j ≡ strongest car here v k → fallback b j ≡ fallback b k
+  same-rest : (b j k : ℕ) → rest j ≡ rest k → fallback b j ≡ fallback b k
   unfolding fallback
   same-rest b j k e = rw e
 
   module _ (b k : ℕ) where
-    falls-through : eqb b 0 ≡ true → fallback b k ≡ strongest car here v k
+    falls-through : eqb b 0 ≡ true → fallback b k ≡ rest k
     unfolding fallback _or_
     falls-through y = rw y
 
-    falls-alone : eqb b 0 ≡ false → eqb (strongest car here v k) 0 ≡ true → fallback b k ≡ b
+    falls-alone : eqb b 0 ≡ false → eqb (rest k) 0 ≡ true → fallback b k ≡ b
     unfolding fallback _and_ _or_
     falls-alone y z = rw (y, z)
 
-    falls-back : eqb b 0 ≡ false → more (power car v (strongest car here v k)) (power car v b) ≡ false → fallback b k ≡ b
+    falls-back : eqb b 0 ≡ false → outdone b k ≡ false → fallback b k ≡ b
     unfolding fallback _or_
-    falls-back y t = rw (y, and-no (not (eqb (strongest car here v k) 0)) _ t)
+    falls-back y t = rw (y, and-no (not (eqb (rest k) 0)) _ t)
 
-    falls-on : eqb (strongest car here v k) 0 ≡ false → more (power car v (strongest car here v k)) (power car v b) ≡ true → fallback b k ≡ strongest car here v k
+    falls-on : eqb (rest k) 0 ≡ false → outdone b k ≡ true → fallback b k ≡ rest k
     unfolding fallback _and_ _or_
     falls-on z t = by-test (eqb b 0) (λ y. rw y) (λ y. rw (y, z, t))
 
   module _ (k : ℕ) (f : fits car here v (suc k) ≡ true) where
-    tops-alone : eqb (strongest car here v k) 0 ≡ true → strongest car here v (suc k) ≡ suc k
+    tops-alone : eqb (rest k) 0 ≡ true → rest (suc k) ≡ suc k
     unfolding strongest beats _and_ _or_
     tops-alone z = rw (f, z)
 
-    tops : more (power car v (strongest car here v k)) (power car v (suc k)) ≡ false → strongest car here v (suc k) ≡ suc k
+    tops : outdone (suc k) k ≡ false → rest (suc k) ≡ suc k
     unfolding strongest beats _and_ _or_
-    tops t = by-test (eqb (strongest car here v k) 0) (λ z. rw (f, z)) (λ z. rw (f, z, t))
+    tops t = by-test (eqb (rest k) 0) (λ z. rw (f, z)) (λ z. rw (f, z, t))
 
-    stays : eqb (strongest car here v k) 0 ≡ false → more (power car v (strongest car here v k)) (power car v (suc k)) ≡ true → strongest car here v (suc k) ≡ strongest car here v k
+    stays : eqb (rest k) 0 ≡ false → outdone (suc k) k ≡ true → rest (suc k) ≡ rest k
     unfolding strongest beats _and_ _or_
     stays z t = rw (f, z, t)
 
-    -- none of those below fits, or the strongest of them has more power, or no more
-    by-rest : {A : Type 0} → ((g : ℕ) → fits car here v g ≡ true → Wide (power car v g)) → (eqb (strongest car here v k) 0 ≡ true → A)
-        → (eqb (strongest car here v k) 0 ≡ false → Wide (power car v (strongest car here v k)) → more (power car v (strongest car here v k)) (power car v (suc k)) ≡ true → A)
-        → (eqb (strongest car here v k) 0 ≡ false → Wide (power car v (strongest car here v k)) → more (power car v (strongest car here v k)) (power car v (suc k)) ≡ false → A) → A
+    -- none of those under fits, or the strongest of them has more power, or no more
+    by-rest : {A : Type 0} → ((g : ℕ) → fits car here v g ≡ true → Wide (power car v g)) → (eqb (rest k) 0 ≡ true → A)
+        → (eqb (rest k) 0 ≡ false → Wide (power car v (rest k)) → outdone (suc k) k ≡ true → A)
+        → (eqb (rest k) 0 ≡ false → Wide (power car v (rest k)) → outdone (suc k) k ≡ false → A) → A
     by-rest wide none more-there no-more =
-        by-test (eqb (strongest car here v k) 0) none
-        (λ z. let w = wide (strongest car here v k) (strongest-fits car here v k (eqb-false _ _ z) .0) in by-test (more (power car v (strongest car here v k)) (power car v (suc k))) (more-there z w) (no-more z w))
+        by-test (eqb (rest k) 0) none
+        (λ z. let w = wide (rest k) (strongest-fits car here v k (eqb-false _ _ z) .0) in by-test (outdone (suc k) k) (more-there z w) (no-more z w))
 
-    -- a gear may be put with those before or with those below
+    -- a gear may be put with those before or with those under
     fallback-better : InBounds car → (b : ℕ) → (b ≢ 0 → fits car here v b ≡ true) → fallback b (suc k) ≡ fallback (better b (suc k)) k
     fallback-better B b fitting =
         let n = suc k in
-        let r = strongest car here v k in
+        let r = rest k in
         let wide = gear-wide car B here v in
         let some : eqb n 0 ≡ false = ne-eqb n 0 (λ z. omega arith) in
         by-test (eqb b 0)
@@ -140,14 +151,14 @@ module _ (car : Vehicle) (here : Role) (v : ℕ) where
     unfolding choice-left highest
     left-suits b k s = rw (s, ne-eqb (suc k) 0 (λ z. omega arith))
 
-    -- none is left: below the lowest none fits
+    -- none is left: under the lowest none fits
     left-none : (b k : ℕ) → k < low car → choice-left b k ≡ b
     unfolding choice-left fallback suits _and_ _or_
     left-none b k l =
-        let h : highest (suits car here v d) k ≡ 0 = highest-none (suits car here v d) k (λ j x y. rw (fits-below car here v j (omega arith))) in
+        let h : highest (suits car here v d) k ≡ 0 = highest-none (suits car here v d) k (λ j x y. rw (fits-lower car here v j (omega arith))) in
         let r : strongest car here v k ≡ 0 =
         by-test (eqb (strongest car here v k) 0) (λ z. eqb-true _ _ z)
-        (λ z. let s = strongest-fits car here v k (eqb-false _ _ z) in clash (s .0) (fits-below car here v (strongest car here v k) (omega (arith, s .1)))) in
+        (λ z. let s = strongest-fits car here v k (eqb-false _ _ z) in clash (s .0) (fits-lower car here v (strongest car here v k) (omega (arith, s .1)))) in
         rw (h, r) (by-test (eqb b 0) (λ y. rw y (sym (eqb-true b 0 y))) (λ y. rw y))
 
 -- ---- the gears tried so far
@@ -167,7 +178,8 @@ pub record Tried (car : Vehicle) (here : Role) (v : ℕ) (d : ℤ) (g : ℕ) (b 
 
 -- none, to begin with
 pub tried-none : (car : Vehicle) (here : Role) (v : ℕ) (d : ℤ) (b : Best) → b .gear ≡ 0 → power-of (b .power) ≡ nothing → Tried car here v d (car .ng) b
-tried-none car here v d b z p = record { left = rw z (left-all car here v d); none = λ y. p; its-power = λ n. absurd (n z); fitting = λ n. absurd (n z); to = omega (arith, z) }
+tried-none car here v d b z p =
+    record { left = rw z (left-all car here v d); none = λ y. p; its-power = λ n. absurd (n z); fitting = λ n. absurd (n z); to = omega (arith, z) }
 
 module _ {car : Vehicle} {here : Role} {v : ℕ} {d : ℤ} {g : ℕ} {b : Best} (T : Tried car here v d g b) where
   -- the power of the best is within its bounds
@@ -180,17 +192,21 @@ module _ {car : Vehicle} {here : Role} {v : ℕ} {d : ℤ} {g : ℕ} {b : Best} 
       })
       (λ y.
       let f = T .fitting (eqb-false _ _ y) in
-      sized-of L v (b .gear) (turning-of (L .has) here v (b .gear) (record { from = fits-from car here v (b .gear) f; to = omega (arith, T .to, ng-of (L .has .counts)) }) f) (b .power) (T .its-power (eqb-false _ _ y)))
+      let i : InGear k (b .gear) = record { from = fits-from car here v (b .gear) f; to = omega (arith, T .to, ng-of (L .has .counts)) } in
+      sized-of L v (b .gear) (turning-of (L .has) here v (b .gear) i f) (b .power) (T .its-power (eqb-false _ _ y)))
 
   module _ (l : 0 < g) where
     -- gear g suits: it is the choice
     pub tried-suits : suits car here v d g ≡ true → g ≡ choose car here v d
-    tried-suits s = sym (T .left ∙ down (λ i j. suits car here v d i ≡ true → choice-left car here v d (b .gear) i ≡ i) (λ k. left-suits car here v d (b .gear) k) g l s)
+    tried-suits s =
+        sym (T .left ∙ down (λ i j. suits car here v d i ≡ true → choice-left car here v d (b .gear) i ≡ i) (λ k. left-suits car here v d (b .gear) k) g l s)
 
     -- it does not fit
     pub tried-unfit : fits car here v g ≡ false → Tried car here v d (g - 1) b
     tried-unfit f = record {
-      left = T .left ∙ down (λ i j. fits car here v i ≡ false → choice-left car here v d (b .gear) i ≡ choice-left car here v d (b .gear) j) (λ k. left-unfit car here v d (b .gear) k) g l f;
+      left =
+          T .left ∙ down (λ i j. fits car here v i ≡ false → choice-left car here v d (b .gear) i ≡ choice-left car here v d (b .gear) j)
+          (λ k. left-unfit car here v d (b .gear) k) g l f;
       none = T .none;
       its-power = T .its-power;
       fitting = T .fitting;
@@ -198,7 +214,8 @@ module _ {car : Vehicle} {here : Role} {v : ℕ} {d : ℤ} {g : ℕ} {b : Best} 
     }
 
     -- it has too little power: the stronger of the two is kept
-    pub tried-weak : InBounds car → g ≤ car .ng → (a : code.Power) → fits car here v g ≡ true → power-of a ≡ power car v g → suits car here v d g ≡ false → more (power car v g) nothing ≡ true
+    pub tried-weak : InBounds car → g ≤ car .ng → (a : code.Power) → fits car here v g ≡ true → power-of a ≡ power car v g → suits car here v d g ≡ false
+        → more (power car v g) nothing ≡ true
         → {r : Best} → r ≡ the-stronger b g a → Tried car here v d (g - 1) r
     unfolding the-stronger better _or_
     tried-weak B to a f q s some is =
@@ -206,7 +223,8 @@ module _ {car : Vehicle} {here : Role} {v : ℕ} {d : ℤ} {g : ℕ} {b : Best} 
         by-test (eqb (b .gear) 0) (λ y. rw (y, q, T .none (eqb-true _ _ y)) some) (λ y. rw (y, q, T .its-power (eqb-false _ _ y))) in
         let on : choose car here v d ≡ choice-left car here v d (better car here v (b .gear) g) (g - 1) =
         T .left
-        ∙ down (λ i j. fits car here v i ≡ true → suits car here v d i ≡ false → choice-left car here v d (b .gear) i ≡ choice-left car here v d (better car here v (b .gear) i) j)
+        ∙ down (λ i j. fits car here v i ≡ true → suits car here v d i ≡ false
+        → choice-left car here v d (b .gear) i ≡ choice-left car here v d (better car here v (b .gear) i) j)
         (λ k x y. left-weak car here v d B (b .gear) k (T .fitting) x y) g l f s in
         by-test (more (power-of a) (power-of (b .power)))
         (λ t. rw (is, t) (record { left = rw (sym compared ∙ t) at on; none = λ z. absurd (omega (arith, z)); its-power = λ n. q; fitting = λ n. f; to = to }))
@@ -219,13 +237,15 @@ module _ {car : Vehicle} {here : Role} {v : ℕ} {d : ℤ} {g : ℕ} {b : Best} 
 -- ---- a gear that fits
 
 -- it suits if its power is enough for E
-pub suits-power : (car : Vehicle) (here : Role) (v : ℕ) (d : ℤ) (g : ℕ) (a : code.Power) {e : ℤ} {t : Bool} → e ≡ required car v d → fits car here v g ≡ true → power-of a ≡ power car v g
+pub suits-power : (car : Vehicle) (here : Role) (v : ℕ) (d : ℤ) (g : ℕ) (a : code.Power) {e : ℤ} {t : Bool} → e ≡ required car v d → fits car here v g ≡ true
+    → power-of a ≡ power car v g
     → enough-for (power-of a) e ≡ t → suits car here v d g ≡ t
 unfolding suits enough enough-for _and_
 suits-power car here v d g a r f q h = rw (f, ← q, ← r) h
 
 -- or if E is at most 0
-pub suits-none : {car : Vehicle} {k : Numbers} {ratio n p : List ℕ} → Lent car k ratio n p → (here : Role) (v g : ℕ) (d : ℤ) {e : ℤ} → InGear k g → e ≡ required car v d → fits car here v g ≡ true → leZ e (pos 0) ≡ true
+pub suits-none : {car : Vehicle} {k : Numbers} {ratio n p : List ℕ} → Lent car k ratio n p → (here : Role) (v g : ℕ) (d : ℤ) {e : ℤ} → InGear k g
+    → e ≡ required car v d → fits car here v g ≡ true → leZ e (pos 0) ≡ true
     → suits car here v d g ≡ true
 unfolding suits enough enough-for _and_
 suits-none L here v g d {e} i r f h = rw (f, ← r) (turning-enough L v g (turning-of (L .has) here v g i f) e h)
@@ -241,7 +261,8 @@ choice-fits car here v d n =
     (λ t. let o = eqb-false _ _ t in rw (choose-highest car here v d o) (and-left _ _ (highest-holds (suits car here v d) (car .ng) o .0)))
 
 -- only the lowest may
-pub choice-only : (car : Vehicle) → InBounds car → (here : Role) (v : ℕ) → ((g : ℕ) → g ≤ car .ng → fits car here v g ≡ true → g ≡ low car) → (d : ℤ) → only-lowest car here v ≡ choose car here v d
+pub choice-only : (car : Vehicle) → InBounds car → (here : Role) (v : ℕ) → ((g : ℕ) → g ≤ car .ng → fits car here v g ≡ true → g ≡ low car) → (d : ℤ)
+    → only-lowest car here v ≡ choose car here v d
 unfolding only-lowest
 choice-only car b here v only d =
     let plain = first-choice-plainly car here v d b in
@@ -254,4 +275,5 @@ choice-only car b here v only d =
 -- as at a trip's first second
 pub choice-first : (car : Vehicle) → InBounds car → (v : ℕ) (d : ℤ) → only-lowest car First v ≡ choose car First v d
 unfolding is-first
-choice-first car b v d = choice-only car b First v (λ g l t. by-test (eqb g (low car)) (λ e. eqb-true _ _ e) (λ e. clash t (sym (fits-not car First v g (eqb-false _ _ e) refl)))) d
+choice-first car b v d =
+    choice-only car b First v (λ g l t. by-test (eqb g (low car)) (λ e. eqb-true _ _ e) (λ e. clash t (sym (fits-not car First v g (eqb-false _ _ e) refl)))) d

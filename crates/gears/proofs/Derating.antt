@@ -1,5 +1,6 @@
 -- The available powers, point by point: as a loop from left to right puts them down, and what they are of a vehicle in bounds.
-use Rattle.rules.proofs.Offered.{ℕ, suc, _+_, _-_, _*_, _≤_, _<_, add-one, lt-of-lt-of-le, arith, _≡_, refl, ap, _∙_, List, length, set, pos, at, pass, derated, InBounds, pass-at, derated-is}
+use Rattle.rules.proofs.Offered.{ℕ, _+_, _-_, _*_, _≤_, _<_, add-one, lt-of-lt-of-le, arith, _≡_, refl, _∙_, List, length, set, pos, at, pass, derated}
+use Rattle.rules.proofs.Offered.{InBounds, pass-at, derated-is}
 use Rattle.rules.specs.declared.Vehicle.{Vehicle}
 use Rattle.gears.specs.Choosing.{available}
 use Rattle.gears.specs.Second.{Derates}
@@ -13,7 +14,8 @@ module _ (margin : ℕ) (p m room : List ℕ) where
   begun = refl
 
   -- and one more
-  pub goes-on : {powers : List ℕ} (i : ℕ) {x : ℕ} → powers ≡ available margin p m i room → x ≡ at p i * (100 - margin - at m i) → set powers i x ≡ available margin p m (i + 1) room
+  pub goes-on : {powers : List ℕ} (i : ℕ) {x : ℕ} → powers ≡ available margin p m i room → x ≡ at p i * (100 - margin - at m i)
+      → set powers i x ≡ available margin p m (i + 1) room
   unfolding available pass
   goes-on {powers} i {x} e f = rw (add-one, e, f)
 
@@ -28,10 +30,12 @@ module _ (car : Vehicle) (b : InBounds car) where
   derates = record { to = b .points-to; left = b .margins-to }
 
   -- to the available powers of the rules
-  derated-powers : (room : List ℕ) → length room ≡ 64 → (i : ℕ) → i < car .points → derated car i ≡ pos (at (available (car .margin) (car .p) (car .m) (car .points) room) i)
+  derated-powers : (room : List ℕ) → length room ≡ 64 → (i : ℕ) → i < car .points
+      → derated car i ≡ pos (at (available (car .margin) (car .p) (car .m) (car .points) room) i)
   derated-powers room n i h = derated-is car b i h ∙ rw (available-at (car .margin) (car .p) (car .m) room (car .points) i h (omega (arith, n, b .points-to)))
 
   -- which may be lent in place of p
-  pub powers-lent : {k : Numbers} → Counts car k → (room : List ℕ) {powers : List ℕ} → length room ≡ 64 → powers ≡ available (car .margin) (car .p) (car .m) (car .points) room
+  pub powers-lent : {k : Numbers} → Counts car k → (room : List ℕ) {powers : List ℕ} → length room ≡ 64
+      → powers ≡ available (car .margin) (car .p) (car .m) (car .points) room
       → Lent car k (car .ratio) (car .n) powers
   powers-lent K room n e = record { has = record { counts = K; ratios = refl }; speeds = refl; powers = rw e (derated-powers room n); bounds = b }

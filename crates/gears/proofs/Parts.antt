@@ -1,8 +1,9 @@
 -- The parts of a vehicle, number by number.
-use Rattle.rules.proofs.Offered.{ℕ, _-_, _*_, _≡_, refl, sym, ap, _∙_, List, [], ℤ, pos, _+ℤ_, _*ℤ_, at, ratio-of, low, engine, required, nested, required-nested}
+use Rattle.rules.proofs.Offered.{ℕ, _-_, _*_, _≡_, refl, sym, ap, _∙_, List, [], ℤ, pos, _+ℤ_, _*ℤ_, at, ratio-of, low, engine, required, nested}
+use Rattle.rules.proofs.Offered.{required-nested}
 use Rattle.rules.specs.declared.Vehicle.{Vehicle}
 use Rattle.gears.specs.declared.Numbers.{Numbers}
-use Rattle.gears.specs.Parts.{numbers-of, whole, low-in, Counts, Has}
+use Rattle.gears.specs.Parts.{whole, low-in, Counts, Has}
 
 module _ {car : Vehicle} {k : Numbers} (C : Counts car k) where
   -- the lowest gear, from the numbers
@@ -43,7 +44,8 @@ module _ {car : Vehicle} {k : Numbers} (C : Counts car k) where
 
   -- required power, from the numbers
   pub required-of : (v : ℕ) (d : ℤ)
-      → pos v *ℤ (pos 9000000 *ℤ pos (k .f0) +ℤ pos 2575000 *ℤ d *ℤ pos (k .tm) +ℤ pos v *ℤ (pos 9000 *ℤ k .f1 +ℤ pos v *ℤ (pos 9 *ℤ pos (k .f2)))) ≡ required car v d
+      → pos v *ℤ (pos 9000000 *ℤ pos (k .f0) +ℤ pos 2575000 *ℤ d *ℤ pos (k .tm) +ℤ pos v *ℤ (pos 9000 *ℤ k .f1 +ℤ pos v *ℤ (pos 9 *ℤ pos (k .f2))))
+      ≡ required car v d
   unfolding nested
   required-of v d = sym (required-nested car v d ∙ rw (f0-of, f1-of, f2-of, tm-of))
 

@@ -1,5 +1,8 @@
 -- The power at a gear, from the parts that the code works it out of.
-use Rattle.rules.proofs.Offered.{ℕ, zero, suc, _+_, _-_, _*_, _≤_, _<_, max, le-trans, mul-assoc, mul-left-comm, mul-le-mul-left, max-le, le-max-right, arith, _≡_, refl, sym, ap, _∙_, subst, true, List, ℤ, pos, negsuc, negℤ, natAbs, _+ℤ_, _-ℤ_, _*ℤ_, +ℤ-assoc, leZ, ltZ, leb-true, le-leb, at, Power, more, engine, under-nmax, fits, between, on-segment, segment, power-speed, power, OnSegment, and-right, +ℤ-*ℤ, neg-*ℤ, pos-sub, leZ-trans, leZ-scale, segment-holds, Q-size, w-size}
+use Rattle.rules.proofs.Offered.{ℕ, zero, suc, _+_, _-_, _*_, _≤_, _<_, max, le-trans, mul-assoc, mul-left-comm, mul-le-mul-left, max-le, le-max-right, arith}
+use Rattle.rules.proofs.Offered.{_≡_, refl, sym, ap, _∙_, subst, true, List, ℤ, pos, negsuc, negℤ, natAbs, _+ℤ_, _-ℤ_, _*ℤ_, +ℤ-assoc, leZ, ltZ, leb-true}
+use Rattle.rules.proofs.Offered.{le-leb, at, Power, more, engine, under-nmax, fits, between, on-segment, segment, power-speed, power, OnSegment, and-right}
+use Rattle.rules.proofs.Offered.{+ℤ-*ℤ, neg-*ℤ, pos-sub, leZ-trans, leZ-scale, segment-holds, Q-size, w-size}
 use Rattle.rules.specs.declared.Vehicle.{Vehicle}
 use Rattle.rules.specs.declared.Role.{Role}
 use Rattle.gears.specs.Choosing.{segment-in, segment-parts, Curve, Segment, power-of, turned, Turning, PowerSized, enough-for, InGear}
@@ -64,8 +67,9 @@ module _ {car : Vehicle} {k : Numbers} {ratio n p : List ℕ} (L : Lent car k ra
     unfolding power on-segment
     power-is {x} {s} e f =
         let on = turning-on in
-        let here : s ≡ segment car (power-speed car v g) = f ∙ rw (← segment-of, e) in
-        rw (here, e, ← L .speeds, ← L .powers (segment car (power-speed car v g)) (omega (arith, on .next-point)), ← L .powers (suc (segment car (power-speed car v g))) (on .next-point))
+        let t = segment car (power-speed car v g) in
+        let here : s ≡ t = f ∙ rw (← segment-of, e) in
+        rw (here, e, ← L .speeds, ← L .powers t (omega (arith, on .next-point)), ← L .powers (suc t) (on .next-point))
 
     -- the search can be made
     pub turning-curve : {x : ℕ} → x ≡ power-speed car v g → Curve n (k .points) x
@@ -73,7 +77,7 @@ module _ {car : Vehicle} {k : Numbers} {ratio n p : List ℕ} (L : Lent car k ra
       from = L .bounds .points-from;
       to = L .bounds .points-to;
       rises = L .bounds .n-rises;
-      below = rw e (le-trans speed-to (mul-le-mul-left 1000 (L .bounds .last-point)));
+      reaches-to = rw e (le-trans speed-to (mul-le-mul-left 1000 (L .bounds .last-point)));
     })
 
     -- and so can the reading of what it finds
@@ -135,7 +139,8 @@ module _ {car : Vehicle} {k : Numbers} {ratio n p : List ℕ} (L : Lent car k ra
         ) (more-nothing (at (car .n) (suc s) - at (car .n) s) _ (omega arith))
 
 -- a gear that fits turns the engine no faster than nmax
-pub turning-of : {car : Vehicle} {k : Numbers} {ratio : List ℕ} → Has car k ratio → (here : Role) (v g : ℕ) → InGear k g → fits car here v g ≡ true → Turning k ratio v g
+pub turning-of : {car : Vehicle} {k : Numbers} {ratio : List ℕ} → Has car k ratio → (here : Role) (v g : ℕ) → InGear k g → fits car here v g ≡ true
+    → Turning k ratio v g
 unfolding fits under-nmax
 turning-of {car} H here v g b t = record {
   from = b .from;

@@ -1,5 +1,7 @@
 -- Laws of minimum speed, of fitting and of the floor, as the code meets them.
-use Rattle.rules.proofs.Offered.{ℕ, suc, _+_, _-_, _*_, _/_, _≤_, _<_, arith, _≡_, refl, sym, ap, _∙_, Bool, true, false, Option, Option·getD, List, leb, eqb, le-leb, lt-leb, ne-eqb, eq-eqb, _and_, _or_, at, first, low, ratio-of, is-first, next-minimum, minimum, minimum-of, engine, under-nmax, over-minimum, allowed, fits, floor, and-no, by-eq, Left, stops}
+use Rattle.rules.proofs.Offered.{ℕ, suc, _+_, _-_, _*_, _/_, _≤_, _<_, arith, _≡_, refl, sym, ap, _∙_, Bool, true, false, Option, Option·getD, List, leb, eqb}
+use Rattle.rules.proofs.Offered.{le-leb, lt-leb, ne-eqb, eq-eqb, _and_, at, first, low, ratio-of, is-first, next-minimum, minimum, minimum-of, engine}
+use Rattle.rules.proofs.Offered.{under-nmax, over-minimum, allowed, fits, floor, and-no, by-eq, Left, stops, _or_}
 use Rattle.rules.specs.declared.Vehicle.{Vehicle}
 use Rattle.rules.specs.declared.Role.{Role}
 use Rattle.rules.proofs.Laws.Walk.{ends}
@@ -46,10 +48,10 @@ pub fits-not : (car : Vehicle) (here : Role) (v g : ℕ) → (g ≡ low car → 
 unfolding fits allowed _or_
 fits-not car here v g n t = sym (no-and _ _ (and-no _ _ (rw (ne-eqb g (low car) n, t))))
 
--- nor does one below the lowest, at any second
-pub fits-below : (car : Vehicle) (here : Role) (v g : ℕ) → g < low car → fits car here v g ≡ false
+-- nor does one under the lowest, at any second
+pub fits-lower : (car : Vehicle) (here : Role) (v g : ℕ) → g < low car → fits car here v g ≡ false
 unfolding fits allowed
-fits-below car here v g l = no-and _ _ (no-and _ _ (lt-leb (low car) g l))
+fits-lower car here v g l = no-and _ _ (no-and _ _ (lt-leb (low car) g l))
 
 module _ {car : Vehicle} {k : Numbers} {ratio : List ℕ} (H : Has car k ratio) (here : Role) (v g : ℕ) where
   -- X is over 1000 x nmax
@@ -57,21 +59,25 @@ module _ {car : Vehicle} {k : Numbers} {ratio : List ℕ} (H : Has car k ratio) 
   unfolding fits under-nmax engine ratio-of
   fits-over h = sym (and-no _ _ (and-no _ _ (rw (nmax-of (H .counts), H .ratios) (lt-leb _ _ h))))
 
-  -- the lowest gear and those below it
+  -- the lowest gear and those under it
   pub fits-one : g ≤ low-in k → at ratio (g - 1) * v ≤ 1000 * k .nmax → eqb g (low-in k) ≡ fits car here v g
   unfolding fits allowed over-minimum under-nmax engine ratio-of _and_ _or_
   fits-one l h =
       let e = low-of (H .counts) in
       by-eq l
-      (λ x. rw (e, x, le-leb (low-in k) (low-in k) (omega arith), eq-eqb (low-in k) (low-in k) refl, nmax-of (H .counts), H .ratios) (sym (rw x at (le-leb _ _ h))))
-      (λ x. rw (ne-eqb g (low-in k) (omega arith)) (sym (fits-below car here v g (omega arith))))
+      (λ x. rw (e, x, le-leb (low-in k) (low-in k) (omega arith), eq-eqb (low-in k) (low-in k) refl, nmax-of (H .counts), H .ratios)
+      (sym (rw x at (le-leb _ _ h))))
+      (λ x. rw (ne-eqb g (low-in k) (omega arith)) (sym (fits-lower car here v g (omega arith))))
 
   -- a later second
-  pub fits-later : low-in k < g → is-first here ≡ false → at ratio (g - 1) * v ≤ 1000 * k .nmax → leb (1000 * minimum car here g) (at ratio (g - 1) * v) ≡ fits car here v g
+  pub fits-later : low-in k < g → is-first here ≡ false → at ratio (g - 1) * v ≤ 1000 * k .nmax
+      → leb (1000 * minimum car here g) (at ratio (g - 1) * v) ≡ fits car here v g
   unfolding fits allowed over-minimum under-nmax engine ratio-of _and_ _or_
-  fits-later a t h = rw (low-of (H .counts), nmax-of (H .counts), H .ratios, ne-eqb g (low-in k) (omega arith), t, le-leb (low-in k) g (omega arith), le-leb _ _ h) (sym (and-yes _))
+  fits-later a t h =
+      rw (low-of (H .counts), nmax-of (H .counts), H .ratios, ne-eqb g (low-in k) (omega arith), t, le-leb (low-in k) g (omega arith), le-leb _ _ h)
+      (sym (and-yes _))
 
-  -- a later second and a gear from two above the lowest on, below their shared minimum
+  -- a later second and a gear from two above the lowest on, under their shared minimum
   module _ {least : ℕ} (e : least ≡ 1000 * minimum car here (low-in k + 2)) (a : low-in k + 1 < g) (t : is-first here ≡ false) where
     pub shared : least ≡ 1000 * minimum car here g
     shared = e ∙ ap (λ x. 1000 * x) (rw (low-of (H .counts)) at (same-minimum car here g (omega (arith, low-of (H .counts)))))
@@ -92,13 +98,13 @@ turns ratio v most g = leb (at ratio (g - 1) * v) most
 abbrev pub LeftFrom : List ℕ → ℕ → ℕ → ℕ → ℕ → ℕ → Type 0
 LeftFrom ratio v most ng lowest g = Left (turns ratio v most) g (suc ng) (first (turns ratio v most) lowest (suc ng - lowest))
 
-module _ {car : Vehicle} {k : Numbers} {ratio : List ℕ} (H : Has car k ratio) (v : ℕ) {most lowest : ℕ} (e : most ≡ 1000 * k .nmax) (o : lowest ≡ low-in k) where
-  floor-is : (r : ℕ) → r ≡ Option·getD (first (turns ratio v most) lowest (suc (k .ng) - lowest)) (suc (k .ng)) → r ≡ floor car v
+module _ {car : Vehicle} {k : Numbers} {ratio : List ℕ} (H : Has car k ratio) (v : ℕ) {most l : ℕ} (e : most ≡ 1000 * k .nmax) (o : l ≡ low-in k) where
+  floor-is : (r : ℕ) → r ≡ Option·getD (first (turns ratio v most) l (suc (k .ng) - l)) (suc (k .ng)) → r ≡ floor car v
   unfolding floor under-nmax engine ratio-of
   floor-is r h = h ∙ rw (low-of (H .counts), ng-of (H .counts), nmax-of (H .counts), H .ratios, e, o)
 
-  pub floor-here : (g : ℕ) → LeftFrom ratio v most (k .ng) lowest g → g ≤ k .ng → at ratio (g - 1) * v ≤ most → g ≡ floor car v
+  pub floor-here : (g : ℕ) → LeftFrom ratio v most (k .ng) l g → g ≤ k .ng → at ratio (g - 1) * v ≤ most → g ≡ floor car v
   floor-here g inv h t = floor-is g (ap (λ (o : Option ℕ). Option·getD o (suc (k .ng))) (stops inv (omega arith) (le-leb _ _ t)))
 
-  pub floor-none : (g : ℕ) → LeftFrom ratio v most (k .ng) lowest g → g ≡ suc (k .ng) → g ≡ floor car v
+  pub floor-none : (g : ℕ) → LeftFrom ratio v most (k .ng) l g → g ≡ suc (k .ng) → g ≡ floor car v
   floor-none g inv h = floor-is g (h ∙ ap (λ (o : Option ℕ). Option·getD o (suc (k .ng))) (ends inv (omega arith)))

@@ -1,8 +1,10 @@
 -- The rules of a choice over the parts that the functions are lent, and what those functions ask of them.
-use Rattle.rules.specs.Words.{ℕ, suc, _-_, _*_, _≤_, _<_, max, _≡_, refl, Bool, List, Option·getD, leb, eqb, ℤ, pos, natAbs, _*ℤ_, leZ, if_then_else_, at, first, pass}
+use Rattle.rules.specs.Words.{ℕ, suc, _+_, _-_, _*_, _≤_, _<_, max, _≡_, refl, Bool, List, Option·getD, leb, ltb, eqb, ℤ, pos, natAbs, _*ℤ_, leZ, if_then_else_}
+use Rattle.rules.specs.Words.{_and_, at, first, pass}
 use Rattle.rules.specs.declared.Vehicle.{Vehicle}
 use Rattle.rules.specs.declared.Role.{Role}
-use Rattle.rules.specs.Gears.{Power, fits, more, choose, reaches, segment}
+use Rattle.rules.specs.declared.Role.the-variants.{Inner}
+use Rattle.rules.specs.Gears.{Power, minimum, engine, fits, more, choose, reaches, segment}
 use Rattle.rules.specs.Units.{low, fastest, steepest, rise}
 use Rattle.rules.specs.Corrections.{here, first-choice}
 use Rattle.gears.specs.declared.Numbers.{Numbers}
@@ -34,7 +36,7 @@ pub record Curve (n : List ℕ) (points x : ℕ) : Type 0 where
   pub from : 2 ≤ points
   pub to : points ≤ 64
   pub rises : (k : ℕ) → suc k < points → at n k < at n (suc k)
-  pub below : x ≤ 1000 * at n (points - 1)
+  pub reaches-to : x ≤ 1000 * at n (points - 1)
 
 -- a segment and an engine speed that the arrays and the products have room for
 pub record Segment (x s : ℕ) : Type 0 where
@@ -84,6 +86,16 @@ pub record InGear (k : Numbers) (g : ℕ) : Type 0 where
 pub record Pace (v : ℕ) (d : ℤ) : Type 0 where
   pub v-to : v ≤ fastest
   pub d-in : natAbs d ≤ steepest
+
+-- ---- fitting
+
+-- a gear from two above the lowest on, under the minimum that these share
+unfoldable pub out-of-reach : Vehicle → ℕ → ℕ → Bool
+out-of-reach car v g = ltb (engine car g v) (1000 * minimum car Inner (low car + 2)) and ltb (low car + 1) g
+
+-- the gear above the lowest, under its own minimum at X = x
+unfoldable pub under-minimum : Vehicle → Role → ℕ → ℕ → Bool
+under-minimum car here g x = eqb g (low car + 1) and ltb x (1000 * minimum car here (low car + 1))
 
 -- ---- the fallback
 

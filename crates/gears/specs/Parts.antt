@@ -65,3 +65,7 @@ pub record Lent (car : Vehicle) (k : Numbers) (ratio n p : List ℕ) : Type 0 wh
 pub record Parts (k : Numbers) (ratio n p : List ℕ) : Type 0 where
   pub car : Vehicle
   pub lent : Lent car k ratio n p
+
+-- what is said is so of every such vehicle
+abbrev pub OfLent : Numbers → List ℕ → List ℕ → List ℕ → (Vehicle → Type 0) → Type 0
+OfLent k ratio n p So = (car : Vehicle) → Lent car k ratio n p → So car

@@ -10,7 +10,7 @@ pub record Gear (g : ℕ) : Type 0 where
   pub from : 1 ≤ g
   pub to : g ≤ 10
 
--- the lowest gear or above, of a vehicle whose rated speed is not below idle
+-- the lowest gear or above, of a vehicle whose rated speed is not under idle
 pub record Lowest (k : Numbers) (g : ℕ) : Type 0 where
   pub from : low-in k ≤ g
   pub rated-from : k .idle ≤ k .rated
@@ -20,8 +20,8 @@ pub record Driven (k : Numbers) : Type 0 where
   pub ng-to : k .ng ≤ 10
   pub low-to : low-in k ≤ k .ng
 
--- a vehicle whose gears all have a place, and whose rated speed is not below idle
-pub record Geared (k : Numbers) : Type 0 where
+-- a vehicle whose gears all have a place, and whose rated speed is not under idle
+pub record HasMinima (k : Numbers) : Type 0 where
   pub ng-to : k .ng ≤ 10
   pub rated-from : k .idle ≤ k .rated
 

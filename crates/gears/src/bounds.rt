@@ -29,7 +29,7 @@ fn placed(first: u16, version: u16, x: u16) -> bool
     x == 0
 }
 
-// A gear's ratio is 1 to 50,000, and below that of the gear before.
+// A gear's ratio is 1 to 50,000, and under that of the gear before.
 fn ratio_good(ratio: &[u16; 10], g: usize) -> bool
     requires { ⌜ Gear g ⌝ }
     ensures { λ r. ⌜ ((car : Vehicle) → car .ratio ≡ now (ratio .entry) → r ≡ ratio-good car g) ⌝ }
@@ -192,7 +192,8 @@ pub fn check_vehicle<'a>(
     margin: u16,
     version: u16,
 ) -> Answer
-    ensures { λ r. ⌜ said r ≡ refuse-at 3 (first-failed 1 (bounds version (whole k (now (ratio .entry)) (now (n .entry)) (now (p .entry)) (now (m .entry)) margin))) ⌝ }
+    ensures { λ r. ⌜ said r ≡ refuse-at 3 (first-failed 1
+        (bounds version (whole k (now (ratio .entry)) (now (n .entry)) (now (p .entry)) (now (m .entry)) margin))) ⌝ }
 {
     if !gears_good(version, k.profile, k.ng) {
         return Answer::Refused(Refusal::VehicleField(1));

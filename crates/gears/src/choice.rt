@@ -1,12 +1,12 @@
 // The first choice of one second.
-ghost use Rattle.rules.specs.Words.{_≡_, false, _+_, _*_, _≤_, _<_, ltb, eqb, pos, _-ℤ_, _and_};
+ghost use Rattle.rules.specs.Words.{_≡_, false, _+_, _*_, _≤_, _<_, pos, _-ℤ_};
 ghost use Rattle.rules.specs.declared.Role.the-variants.{Inner};
 ghost use Rattle.rules.specs.declared.Vehicle.{Vehicle};
-ghost use Rattle.rules.specs.Gears.{minimum, fits, more, choose};
+ghost use Rattle.rules.specs.Gears.{fits, more, choose};
 ghost use Rattle.rules.specs.Corrections.{role-of};
-ghost use Rattle.gears.specs.Parts.{low-in, Counts, Has, Lent, Parts};
+ghost use Rattle.gears.specs.Parts.{low-in, Counts, Has, Parts, OfLent};
 ghost use Rattle.gears.specs.Second.{Gear};
-ghost use Rattle.gears.specs.Choosing.{power-of, PowerSized, Weighed, enough-for, Pace, the-stronger, first-of};
+ghost use Rattle.gears.specs.Choosing.{power-of, PowerSized, Weighed, enough-for, Pace, out-of-reach, under-minimum, the-stronger, first-of};
 use crate::Best;
 use crate::Chosen;
 use crate::Numbers;
@@ -51,20 +51,22 @@ fn role_of(k: Numbers, closes: bool, before: u8) -> Role
     Role::Inner
 }
 
-// Whether a gear from two above the lowest on is below the minimum that these share, X = x.
-fn out_of_reach(k: Numbers, g: usize, x: u64) -> bool
-    requires { ⌜ k .idle ≤ k .rated ⌝ }
-    ensures { λ r. ⌜ ((car : Vehicle) → Counts car k → r ≡ (ltb x (1000 * minimum car Inner (low-in k + 2)) and ltb (low-in k + 1) g)) ⌝ }
+// Whether a gear from two above the lowest on is under the minimum that these share. It stands in front of `fits_in_reach`: the value that `minimum` gave once
+// is all that most gears too high for the speed are asked.
+fn out_of_reach(k: Numbers, ratio: &[u16; 10], v: u16, g: usize) -> bool
+    requires { ⌜ Gear g × (k .idle ≤ k .rated) ⌝ }
+    ensures { λ r. ⌜ ((car : Vehicle) → Has car k (now (ratio .entry)) → r ≡ out-of-reach car v g) ⌝ }
 {
+    let x = engine(ratio, g, v);
     if x < shared_least(k) {
         return lowest(k) + 1 < g;
     }
     false
 }
 
-// Whether the gear above the lowest is below its own, which what the second is in its trip decides.
-fn below_minimum(k: Numbers, closes: bool, before: u8, g: usize, x: u64) -> bool
-    ensures { λ r. ⌜ ((car : Vehicle) → Counts car k → r ≡ (eqb g (low-in k + 1) and ltb x (1000 * minimum car (role-of car false closes before) (low-in k + 1)))) ⌝ }
+// Whether the gear above the lowest is under its own, which what the second is in its trip decides.
+fn under_minimum(k: Numbers, closes: bool, before: u8, g: usize, x: u64) -> bool
+    ensures { λ r. ⌜ ((car : Vehicle) → Counts car k → r ≡ under-minimum car (role-of car false closes before) g x) ⌝ }
 {
     if g != lowest(k) + 1 {
         return false;
@@ -72,22 +74,19 @@ fn below_minimum(k: Numbers, closes: bool, before: u8, g: usize, x: u64) -> bool
     x < next_least(k, role_of(k, closes, before))
 }
 
-// Whether a gear fits at a second that is not its trip's first. The lowest fits below its minimum too.
-fn fits_later(k: Numbers, ratio: &[u16; 10], closes: bool, before: u8, v: u16, g: usize) -> bool
-    requires { ⌜ Gear g × (low-in k ≤ g) × (k .idle ≤ k .rated) ⌝ }
-    ensures { λ r. ⌜ ((car : Vehicle) → Has car k (now (ratio .entry)) → r ≡ fits car (role-of car false closes before) v g) ⌝ }
+// Whether a gear that is not out of reach fits, at a second that is not its trip's first. The lowest fits under its minimum too.
+fn fits_in_reach(k: Numbers, ratio: &[u16; 10], closes: bool, before: u8, v: u16, g: usize) -> bool
+    requires { ⌜ Gear g × (low-in k ≤ g) ⌝ }
+    ensures { λ r. ⌜ ((car : Vehicle) → Has car k (now (ratio .entry)) → out-of-reach car v g ≡ false → r ≡ fits car (role-of car false closes before) v g) ⌝ }
 {
     let x = engine(ratio, g, v);
-    if out_of_reach(k, g, x) {
-        return false;
-    }
-    if below_minimum(k, closes, before, g, x) {
+    if under_minimum(k, closes, before, g, x) {
         return false;
     }
     x <= top(k)
 }
 
-// The stronger of the best gear so far and gear g below it, whose power is a; the best so far on a tie.
+// The stronger of the best gear so far and gear g under it, whose power is a; the best so far on a tie.
 fn stronger(best: Best, g: usize, a: Power) -> Best
     requires { ⌜ PowerSized (best .power) × PowerSized a ⌝ }
     ensures { λ r. ⌜ r ≡ the-stronger best g a ⌝ }
@@ -114,7 +113,8 @@ pub fn choose<'a>(
     near: usize,
 ) -> Chosen
     requires { ⌜ Parts k (now ratio) (now n) (now p) × Pace v d × (near + 1 < k .points) ⌝ }
-    ensures gear { λ r. ⌜ ((car : Vehicle) → Lent car k (now (ratio .entry)) (now (n .entry)) (now (p .entry)) → r .gear ≡ choose car (role-of car false closes before) v d) ⌝ }
+    ensures gear { λ r. ⌜ OfLent k (now (ratio .entry)) (now (n .entry)) (now (p .entry))
+        (λ car. r .gear ≡ choose car (role-of car false closes before) v d) ⌝ }
     ensures segment { λ r. ⌜ r .segment + 1 < k .points ⌝ }
 {
     let low = lowest(k);
@@ -127,22 +127,25 @@ pub fn choose<'a>(
     let mut s = near;
     let mut g = k.ng as usize;
     let gear = loop {
-        if fits_later(k, ratio, closes, before, v, g) {
-            // every power is enough while coasting or braking
-            if e <= 0 {
-                break g;
+        if !out_of_reach(k, ratio, v, g) {
+            if fits_in_reach(k, ratio, closes, before, v, g) {
+                // every power is enough while coasting or braking
+                if e <= 0 {
+                    break g;
+                }
+                s = segment_at(k, ratio, n, v, g, s);
+                let a = power_at(k, ratio, n, p, v, g, s);
+                if enough(a, e) {
+                    break g;
+                }
+                best = stronger(best, g, a);
             }
-            s = segment_at(k, ratio, n, v, g, s);
-            let a = power_at(k, ratio, n, p, v, g, s);
-            if enough(a, e) {
-                break g;
+            // the lowest gear is never out of reach
+            if g <= low {
+                // the next search starts where this one did
+                s = near;
+                break best.gear;
             }
-            best = stronger(best, g, a);
-        }
-        if g <= low {
-            // the next search starts where this one did
-            s = near;
-            break best.gear;
         }
         g -= 1;
     };
@@ -166,7 +169,8 @@ pub fn choice_after<'a>(
     hold: u8,
 ) -> Chosen
     requires { ⌜ Parts k (now ratio) (now n) (now p) × Pace v (pos next -ℤ pos v) × (before .segment + 1 < k .points) ⌝ }
-    ensures gear { λ r. ⌜ ((car : Vehicle) → Lent car k (now (ratio .entry)) (now (n .entry)) (now (p .entry)) → r .gear ≡ first-of car (role-of car false closes (before .gear)) v (pos next -ℤ pos v) hold) ⌝ }
+    ensures gear { λ r. ⌜ OfLent k (now (ratio .entry)) (now (n .entry)) (now (p .entry))
+        (λ car. r .gear ≡ first-of car (role-of car false closes (before .gear)) v (pos next -ℤ pos v) hold) ⌝ }
     ensures segment { λ r. ⌜ r .segment + 1 < k .points ⌝ }
 {
     if hold != 0 {

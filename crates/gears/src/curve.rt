@@ -1,8 +1,7 @@
 // The power curve: the available power of its points, the segment of an engine speed, and the power there.
 ghost use Rattle.rules.specs.Words.{_≡_, suc, _+_, _-_, _*_, _≤_, _<_, max, at, pos};
 ghost use Rattle.rules.specs.Gears.{between, power};
-ghost use Rattle.rules.specs.declared.Vehicle.{Vehicle};
-ghost use Rattle.gears.specs.Parts.{Lent, Parts};
+ghost use Rattle.gears.specs.Parts.{Parts, OfLent};
 ghost use Rattle.gears.specs.Second.{Gear, Derates};
 ghost use Rattle.gears.specs.Choosing.{available, Signed, segment-in, Curve, Segment, power-of, turned, Turning};
 use crate::Numbers;
@@ -79,7 +78,8 @@ pub fn segment_near(n: &[u16; 64], points: u16, x: u64, near: usize) -> usize
 // The power at x on a segment.
 fn on_segment<'a>(n: &'a [u16; 64], p: &'a [u32; 64], x: u64, s: usize) -> Power
     requires { ⌜ Segment x s ⌝ }
-    ensures { λ r. ⌜ power-of r ≡ between (at (now (n .entry)) s) (pos (at (now (p .entry)) s)) (at (now (n .entry)) (suc s)) (pos (at (now (p .entry)) (suc s))) x ⌝ }
+    ensures { λ r. ⌜ power-of r ≡ between (at (now (n .entry)) s) (pos (at (now (p .entry)) s))
+        (at (now (n .entry)) (suc s)) (pos (at (now (p .entry)) (suc s))) x ⌝ }
 {
     let n1 = signed(n[s]);
     let p1 = signed_power(p[s]);
@@ -122,7 +122,7 @@ pub fn power_at<'a>(
     s: usize,
 ) -> Power
     requires { ⌜ Parts k (now ratio) (now n) (now p) × Turning k (now ratio) v g × (s ≡ segment-in (now n) (k .points) (turned k (now ratio) v g)) ⌝ }
-    ensures { λ r. ⌜ ((car : Vehicle) → Lent car k (now (ratio .entry)) (now (n .entry)) (now (p .entry)) → power-of r ≡ power car v g) ⌝ }
+    ensures { λ r. ⌜ OfLent k (now (ratio .entry)) (now (n .entry)) (now (p .entry)) (λ car. power-of r ≡ power car v g) ⌝ }
 {
     on_segment(n, p, power_speed(k.idle, engine(ratio, g, v)), s)
 }

@@ -24,7 +24,7 @@ pub fn lowest(k: Numbers) -> usize
     1 + k.profile as usize
 }
 
-// Whether a gear that may be held is not driven: above ng, or below the lowest. 0 is no gear.
+// Whether a gear that may be held is not driven: above ng, or under the lowest. 0 is no gear.
 pub fn not_driven(k: Numbers, gear: u8) -> bool
     ensures driven { λ r. ⌜ (r ≡ false → gear ≤ k .ng) ⌝ }
     ensures rule { λ r. ⌜ ((car : Vehicle) → Counts car k → r ≡ not-driven car gear) ⌝ }

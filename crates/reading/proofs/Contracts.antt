@@ -1,5 +1,7 @@
 -- The contracts of the reader's public functions as the check reads them: they ask nothing, and what `read` says of the rooms past what it fills.
-use Rattle.rules.proofs.Offered.{ℕ, _≤_, _≡_, sym, ap, _∙_, List, arith, length, now, Lasts, atExit, Lfts, Dens, endedOf, resT, at, job-of, Even, job-even, filled-beyond}
+use Rattle.rules.proofs.Offered.{ℕ, _≤_, _≡_, ap, _∙_, List, arith, length, now, at, job-of, job-even}
+use Rattle.rules.proofs.Offered.{filled-beyond}
+use Rattle.rules.specs.Determined.{AsksNothing, Promises}
 use Rattle.reading.specs.declared.Reading.{Reading}
 use Rattle.reading.specs.Reader.{reading, ReadAs}
 use Rattle.reading.proofs.groups.group_at.Kinds as group-at-kinds
@@ -8,16 +10,15 @@ use Rattle.reading.proofs.read.Kinds as read-kinds
 use Rattle.reading.proofs.read.Reads as read-reads
 
 -- demand 1: every list of bytes and all rooms get an answer, for neither asks anything of its caller
-pub read-asks-nothing : (κs : Lfts 3) (a : Dens κs read-kinds.ps) → read-reads.Asked κs a
+pub read-asks-nothing : AsksNothing read-kinds.ps read-reads.Asked
 read-asks-nothing κs a = tt
 
-pub group-asks-nothing : (κs : Lfts 1) (a : Dens κs group-at-kinds.ps) → group-at-reads.Asked κs a
+pub group-asks-nothing : AsksNothing group-at-kinds.ps group-at-reads.Asked
 group-asks-nothing κs a = tt
 
 -- what the contract of `read` says
-pub read-says : (κs : Lfts 3) (a : Dens κs read-kinds.ps) → read-reads.Asked κs a → (z : resT read-kinds.r κs .Denot) (ws : Lasts (endedOf 3 read-kinds.ps read-kinds.r) κs a)
-    → read-reads.Learnt κs a z (atExit (endedOf 3 read-kinds.ps read-kinds.r) κs a ws)
-    → ReadAs (now (a .0)) (now (a .1 .0)) (now (a .1 .1 .0)) z (ws .1 .0) (ws .1 .1 .0)
+pub read-says : Promises read-kinds.ps read-kinds.r read-reads.Asked read-reads.Learnt
+    (λ κs a z ws. ReadAs (now (a .0)) (now (a .1 .0)) (now (a .1 .1 .0)) z (ws .1 .0) (ws .1 .1 .0))
 read-says κs a asked z ws p = p
 
 -- document 01: "room beyond is untouched": past as many places as the sample count, which is 0 in a refusal

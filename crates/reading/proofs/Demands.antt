@@ -1,4 +1,5 @@
--- The demands on the reader alone; demand 2, which speaks of both directions, stands in `writing`. A reader of document 01 reads `ReadAs`, which is the contract
+-- The demands on the reader alone; demand 2, which speaks of both directions, stands
+-- in `writing`. A reader of document 01 reads `ReadAs`, which is the contract
 -- of `read`, and then these.
 use Rattle.rules.proofs.Offered.{ℕ, _≡_, refl, sym, _∙_, some, List, [], arith, Fault, said, Read, got, refused, Job, read-fault, job-of, filled}
 use Rattle.reading.specs.declared.Reading.{Reading}

@@ -13,7 +13,8 @@ one-group : (x y : Group) → group-as x ≡ group-as y → x ≡ y
 one-group (group-is.Value v i) (group-is.Value w j) e = cc
 one-group (group-is.Value v i) (group-is.Fault g) e = let z : _≡_ {A = ℕ} 0 1 = cc in absurd (omega arith)
 one-group (group-is.Fault f) (group-is.Value w j) e = let z : _≡_ {A = ℕ} 0 1 = cc in absurd (omega arith)
-one-group (group-is.Fault f) (group-is.Fault g) e = let h : fault f ≡ fault g = cc in ap group-is.Fault (refusal-once f g (ap (λ (x : Fault). x .no) h) (ap (λ (x : Fault). x .spot) h))
+one-group (group-is.Fault f) (group-is.Fault g) e = let h : fault f ≡ fault g = cc in
+    ap group-is.Fault (refusal-once f g (ap (λ (x : Fault). x .no) h) (ap (λ (x : Fault). x .spot) h))
 
 pub group-at : Determined group-at-kinds.ps group-at-kinds.r group-at-reads.Asked group-at-reads.Learnt
 group-at κs a asked z z′ ws ws′ p q = (one-group z z′ (p ∙ sym q), refl)

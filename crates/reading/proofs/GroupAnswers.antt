@@ -1,5 +1,9 @@
 -- What a value within bounds, a hold and a point answer, one law for each way through them; and what is known of a group that comes.
-use Rattle.rules.proofs.Offered.{ℕ, _+_, _-_, _*_, _/_, _%_, _<_, _≤_, arith, _≡_, refl, sym, ap, _∙_, Bool, true, false, List, length, leb, ltb, le-leb, lt-leb, lt-ltb, le-ltb, leb-true, ltb-true, eqb-false, not-true, _and_, within, at, Fault, Read, got, refused, hand-on, _>>=_, give, demand, early, group-if, group, Form, value, known, only-if, checked, bounded, _then_, point, hold, one, two, two-of, ends-first, ends-second, two-bad, ends-third, three-of, good, three-if, three, by-test, by-order, and-left, and-right, within-lo, within-hi, in-range, says-now, bounded-sound}
+use Rattle.rules.proofs.Offered.{ℕ, _+_, _-_, _*_, _/_, _%_, _<_, _≤_, arith, _≡_, refl, sym, ap, _∙_, Bool, true, false, List, length, leb, ltb, le-leb}
+use Rattle.rules.proofs.Offered.{lt-leb, lt-ltb, le-ltb, leb-true, ltb-true, eqb-false, not-true, _and_, within, at, Fault, Read, got, refused, hand-on, _>>=_}
+use Rattle.rules.proofs.Offered.{give, demand, early, group-if, group, Form, value, known, only-if, checked, bounded, _then_, point, one-hold, one, two, two-of}
+use Rattle.rules.proofs.Offered.{ends-first, ends-second, two-bad, ends-third, three-of, good, three-if, three, by-test, by-order, and-left, and-right}
+use Rattle.rules.proofs.Offered.{within-lo, within-hi, in-range, says-now, bounded-sound}
 use Rattle.reading.specs.Progress.{Comes, ShortGroup}
 use Rattle.reading.proofs.Steps.{joined, same-value, never}
 
@@ -56,7 +60,8 @@ module _ (job : List ℕ) (i : ℕ) (g : Comes (group job i)) where
 
       third-good : good job i ≡ true
       unfolding group-if
-      third-good = by-test (good job i) (λ t. t) (λ t. absurd (never {f = record { no = 13; spot = i }} (three-if job i first-there a second-there b third-there ∙ rw t) g))
+      third-good = by-test (good job i) (λ t. t)
+          (λ t. absurd (never {f = record { no = 13; spot = i }} (three-if job i first-there a second-there b third-there ∙ rw t) g))
 
       pub third-last : at job (i + 2) < 128
       third-last = ltb-true _ _ (and-left _ _ (and-left _ _ third-good))
@@ -73,7 +78,8 @@ pub short-last : (job : List ℕ) (i : ℕ) (g : ShortGroup (group job i)) → 1
 short-last job i g a =
     let c = g .there in
     by-order (at job (i + 1)) 128 (λ l. l) (λ b.
-    let e = same-value (sym (c .comes) ∙ three job i (first-there job i c) a (second-there job i c a) b (third-there job i c a b) (third-last job i c a b) (third-some job i c a b) (three-fits job i c a b)) in
+    let e = same-value (sym (c .comes) ∙ three job i (first-there job i c) a (second-there job i c a) b (third-there job i c a b) (third-last job i c a b)
+    (third-some job i c a b) (three-fits job i c a b)) in
     absurd (omega (arith, g .small, e, third-some job i c a b)))
 
 -- the value of its bytes, the top bits taken off at once
@@ -110,23 +116,23 @@ module _ (job : List ℕ) (next count i : ℕ) (some-second : 1 ≤ count) where
       (λ l. lt-ltb s count l ∙ sym (le-leb s (count - 1) (omega arith)))
       (λ l. let m : count - 1 < s = omega arith in le-ltb s count l ∙ sym (lt-leb _ _ m)))
 
-  hold-is : hold count next .read job i ≡ (do
+  hold-is : one-hold count next .read job i ≡ (do
     s ← bounded next (count - 1) 15 i .read job
     g ← bounded 1 255 15 i .read job
     give (s, g)) i
-  unfolding hold bounded checked _then_ value hand-on
+  unfolding one-hold bounded checked _then_ value hand-on
   hold-is = simp (in-trace, joined)
 
-  pub second-stops : {f : Fault} → refused f ≡ bounded next (count - 1) 15 i .read job i → refused f ≡ hold count next .read job i
+  pub second-stops : {f : Fault} → refused f ≡ bounded next (count - 1) 15 i .read job i → refused f ≡ one-hold count next .read job i
   unfolding hand-on
   second-stops e = rw (hold-is, ← e)
 
   module _ {s j : ℕ} (e : got s j ≡ bounded next (count - 1) 15 i .read job i) where
-    pub gear-stops : {f : Fault} → refused f ≡ bounded 1 255 15 i .read job j → refused f ≡ hold count next .read job i
+    pub gear-stops : {f : Fault} → refused f ≡ bounded 1 255 15 i .read job j → refused f ≡ one-hold count next .read job i
     unfolding hand-on
     gear-stops f = rw (hold-is, ← e, ← f)
 
-    pub hold-gives : {g k : ℕ} → got g k ≡ bounded 1 255 15 i .read job j → got (s, g) k ≡ hold count next .read job i
+    pub hold-gives : {g k : ℕ} → got g k ≡ bounded 1 255 15 i .read job j → got (s, g) k ≡ one-hold count next .read job i
     unfolding hand-on
     hold-gives f = rw (hold-is, ← e, ← f)
 

@@ -1,11 +1,13 @@
 -- What stands in the rooms at the end is what was read; a refusal leaves them as they were.
-use Rattle.rules.proofs.Offered.{ℕ, _≤_, arith, _≡_, sym, _∙_, List, _++_, length, take, drop, replicate, length-append, length-replicate, length-take-le, take-append-seam, true, fault, said, got, refused, hand-on, value, many, put, Job, job-read, read-fault, job-of, filled, value-sound, length-put, Even, job-even, job-room}
+use Rattle.rules.proofs.Offered.{ℕ, _≤_, arith, _≡_, sym, _∙_, List, _++_, length, take, drop, replicate, length-append, length-replicate, length-take-le}
+use Rattle.rules.proofs.Offered.{take-append-seam, true, fault, said, got, refused, hand-on, value, many, put, Job, job-read, read-fault, job-of, filled}
+use Rattle.rules.proofs.Offered.{value-sound, length-put, Even, job-even, job-room}
 use Rattle.rules.specs.declared.Vehicle.{Vehicle}
 use Rattle.rules.specs.declared.Refusal.{Refusal}
 use Rattle.rules.specs.declared.Answer.the-variants.{Done, Refused}
 use Rattle.reading.specs.declared.Reading.{Reading}
 use Rattle.reading.specs.Reader.{reading, ReadAs}
-use Rattle.reading.specs.Progress.{hold-row, nothing, used}
+use Rattle.reading.specs.Progress.{hold-row, no-reading, used}
 use Rattle.reading.proofs.Steps.{same-value, many-length, values, judged-comes}
 
 -- ---- what fills the start of a room is what was judged
@@ -34,7 +36,7 @@ module _ (job room : List ℕ) (count : ℕ) (fits : count ≤ length room) {z :
 -- ---- the reader's two ends
 
 pub refused-as : (job speeds holds : List ℕ) {f : Refusal} → refused (fault f) ≡ job-read job (length speeds) (length holds)
-    → ReadAs job speeds holds (nothing (Refused f)) speeds holds
+    → ReadAs job speeds holds (no-reading (Refused f)) speeds holds
 unfolding reading said read-fault job-of filled
 refused-as job speeds holds e =
     let r = sym e in

@@ -1,5 +1,8 @@
 -- What the stages of the vehicle answer, one law for each way through them.
-use Rattle.rules.proofs.Offered.{ℕ, zero, suc, _+_, _-_, _≤_, zero-add, arith, _≡_, _∙_, List, map, append-nil, length, drop, replicate, length-map, length-replicate, sets, sets-eq, drop-length, leb, at, Fault, Read, got, refused, hand-on, give, Form, value, known, only-if, bounded, _then_, seen, many, counted, version, profile, gearbox, numbers, point, curve, padded, vehicle-of, vehicle, by-test, Sound, value-sound, point-sound}
+use Rattle.rules.proofs.Offered.{ℕ, zero, suc, _+_, _-_, _≤_, zero-add, arith, _≡_, _∙_, List, map, append-nil, length, drop, replicate, length-map}
+use Rattle.rules.proofs.Offered.{length-replicate, sets, sets-eq, drop-length, leb, at, Fault, Read, got, refused, hand-on, give, Form, value, known, only-if}
+use Rattle.rules.proofs.Offered.{bounded, _then_, seen, many, counted, version, profile, gearbox, numbers, point, curve, padded, vehicle-of, vehicle, by-test}
+use Rattle.rules.proofs.Offered.{Sound, value-sound, point-sound}
 use Rattle.rules.specs.declared.Vehicle.{Vehicle}
 use Rattle.reading.specs.Progress.{reached, used, into, gears, columns, car-of}
 use Rattle.reading.specs.declared.Came.{Came}
@@ -75,12 +78,18 @@ module _ (job : List ℕ) (i : ℕ) where
   curve-stops w e = counted-stops _ (point w) job i columns e
 
   pub curve-on : (w : ℕ) {v j : ℕ} → got v j ≡ bounded 2 64 3 11 .read job i → (p : Came) (rooms : List ℕ × (List ℕ × List ℕ))
-      → reached p rooms ≡ used (into (replicate 64 0) (replicate 64 0) (replicate 64 0) 0) (many (point w) v) job j → reached p (v, rooms) ≡ used columns (curve w) job i
+      → reached p rooms ≡ used (into (replicate 64 0) (replicate 64 0) (replicate 64 0) 0) (many (point w) v) job j
+      → reached p (v, rooms) ≡ used columns (curve w) job i
   unfolding curve
   curve-on w {v} e p rooms h =
       let few = bounded-in job 2 64 3 11 i e .1 in
       counted-reached _ (point w) job i columns e (point-sound w) (into (replicate 64 0) (replicate 64 0) (replicate 64 0) 0) (λ x. (v, x))
-      (λ l n. rw (into-zeros 64 (map (λ x. x .0) l) (rw length-map (omega arith)), into-zeros 64 (map (λ x. x .1 .0) l) (rw length-map (omega arith)), into-zeros 64 (map (λ x. x .1 .1) l) (rw length-map (omega arith)), n)) p rooms h
+      (λ l n. rw (
+        into-zeros 64 (map (λ x. x .0) l) (rw length-map (omega arith)),
+        into-zeros 64 (map (λ x. x .1 .0) l) (rw length-map (omega arith)),
+        into-zeros 64 (map (λ x. x .1 .1) l) (rw length-map (omega arith)),
+        n,
+      )) p rooms h
 
 -- ---- the version and the vehicle
 
@@ -93,7 +102,9 @@ eight-filled job i = use-as-is (many value 8) job i (λ l k come. all-filled (re
 
 -- the vehicle as its parts are read
 vehicle-is : (w : ℕ) (job : List ℕ) (i : ℕ) → vehicle w .read job i
-    ≡ hand-on (profile w .read job i) (λ x h. hand-on (used gears (gearbox x) job h) (λ b j. hand-on (numbers .read job j) (λ ns k. hand-on (used columns (curve w) job k) (λ c. give (car-of x b ns c)))))
+    ≡ hand-on (profile w .read job i)
+    (λ x h. hand-on (used gears (gearbox x) job h)
+    (λ b j. hand-on (numbers .read job j) (λ ns k. hand-on (used columns (curve w) job k) (λ c. give (car-of x b ns c)))))
 unfolding vehicle vehicle-of seen _then_ used hand-on
 vehicle-is w job i = simp joined
 

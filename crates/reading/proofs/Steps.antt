@@ -1,5 +1,6 @@
 -- One reading after another.
-use Rattle.rules.proofs.Offered.{ℕ, arith, _≡_, refl, sym, _∙_, Bool, true, false, List, [], length, Fault, Read, got, refused, Reader, hand-on, give, demand, Form, row, many, says-now, Sound, many-sound}
+use Rattle.rules.proofs.Offered.{ℕ, arith, _≡_, refl, sym, _∙_, Bool, true, false, List, [], length, Fault, Read, got, refused, Reader, hand-on, give, demand}
+use Rattle.rules.proofs.Offered.{Form, row, many, says-now, Sound, many-sound}
 use Rattle.reading.specs.Progress.{Comes, used}
 
 -- two readings one after the other, and a third

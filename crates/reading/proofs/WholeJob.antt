@@ -1,11 +1,13 @@
 -- What is left to read of the job after each stage is what was asked, and what it answers there: one law for each way on.
-use Rattle.rules.proofs.Offered.{ℕ, _≤_, _≡_, sym, _∙_, true, false, List, length, replicate, leb, eqb, le-leb, leb-true, eq-eqb, ne-eqb, _and_, longest, fault, Read, got, refused, Reader, hand-on, _>>=_, _>>_, give, cursor, demand, group, value, checked, bounded, _then_, seen, many, counted, whole, seconds, trace, put, holds, Job, packed, stages, job, job-read, and-left, and-right, both, value-sound}
+use Rattle.rules.proofs.Offered.{ℕ, _≤_, _≡_, sym, _∙_, true, false, List, length, replicate, leb, eqb, le-leb, leb-true, eq-eqb, ne-eqb, _and_, longest, fault}
+use Rattle.rules.proofs.Offered.{Read, got, refused, Reader, hand-on, _>>=_, _>>_, give, cursor, demand, group, value, checked, bounded, _then_, seen, many}
+use Rattle.rules.proofs.Offered.{counted, to-the-end, seconds, trace, put, holds, Job, packed, stages, job, job-read, and-left, and-right, both, value-sound}
 use Rattle.rules.specs.declared.Vehicle.{Vehicle}
 use Rattle.rules.specs.declared.Refusal.{Refusal}
 use Rattle.rules.specs.declared.Refusal.the-variants.{RoomLength, BytesAfter}
 use Rattle.rules.specs.declared.Answer.the-variants.{Refused}
 use Rattle.reading.specs.Reader.{ReadAs}
-use Rattle.reading.specs.Progress.{hold-row, nothing, used}
+use Rattle.reading.specs.Progress.{hold-row, no-reading, used}
 use Rattle.reading.proofs.Steps.{joined, many-length, values, judged-comes}
 use Rattle.reading.proofs.GroupAnswers.{fails}
 use Rattle.reading.proofs.StageAnswers.{head}
@@ -59,10 +61,10 @@ module _ (job speeds holds : List ℕ) where
     pub left : asked ≡ hand-on (hold-row n k .read job l) (to-end job x n (values (many value n .read job t)))
 
   abbrev Refuses : Refusal → Type 0
-  Refuses f = ReadAs job speeds holds (nothing (Refused f)) speeds holds
+  Refuses f = ReadAs job speeds holds (no-reading (Refused f)) speeds holds
 
   pub in-order : asked ≡ hand-on (head .read job 0) (λ x j. hand-on (bounded 1 top 1 0 .read job j) (to-speeds job x (length speeds) (length holds)))
-  unfolding job-read whole job seen stages packed _then_ trace counted seconds checked longest holds value hand-on
+  unfolding job-read to-the-end job seen stages packed _then_ trace counted seconds checked longest holds value hand-on
   in-order = simp joined
 
 -- ---- the ways on
@@ -72,7 +74,8 @@ unfolding hand-on
 on next l e = rw (← e) at l
 
 module _ (job speeds holds : List ℕ) where
-  pub stops : {A : Type 0} {m : Read A} (next : A → Reader Job) → asked job speeds holds ≡ hand-on m next → {f : Refusal} → refused (fault f) ≡ m → Refuses job speeds holds f
+  pub stops : {A : Type 0} {m : Read A} (next : A → Reader Job) → asked job speeds holds ≡ hand-on m next → {f : Refusal} → refused (fault f) ≡ m
+      → Refuses job speeds holds f
   unfolding hand-on
   stops next l e = refused-as job speeds holds (sym (rw (← e) at l))
 
@@ -92,7 +95,8 @@ module _ (job speeds holds : List ℕ) where
         let r : leb n (length speeds) and leb n (length holds) ≡ true = both (le-leb _ _ v) (le-leb _ _ w) in
         record { left = rw r at (on _ (p .left) d) }
 
-  pub speeds-on : {x : ℕ × Vehicle} {n t : ℕ} → Speeding job speeds holds x n t → {k : ℕ} → got true k ≡ used (λ vs. true) (many value n) job t → Numbering job speeds holds x n t k
+  pub speeds-on : {x : ℕ × Vehicle} {n t : ℕ} → Speeding job speeds holds x n t → {k : ℕ} → got true k ≡ used (λ vs. true) (many value n) job t
+      → Numbering job speeds holds x n t k
   speeds-on {n = n} {t = t} p e =
       let come = judged-comes (many value n) job t e in
       record { so-many = many-length value-sound job n t (sym come); left = on _ (p .left) come }
@@ -106,6 +110,11 @@ module _ (job speeds holds : List ℕ) where
     more-bytes e = refused-as job speeds holds (sym (rw (ne-eqb _ _ e) at (on _ (p .left) (judged-comes (hold-row n h) job l q))))
 
     pub whole-gives : z ≡ length job
-        → got (record { version = x .0; vehicle = x .1; speeds = values (many value n .read job t); holds = put (values (hold-row n h .read job l)) (replicate n 0) }) z ≡ asked job speeds holds
+        → got (record {
+          version = x .0;
+          vehicle = x .1;
+          speeds = values (many value n .read job t);
+          holds = put (values (hold-row n h .read job l)) (replicate n 0);
+        }) z ≡ asked job speeds holds
     unfolding hand-on demand
     whole-gives e = sym (rw (eq-eqb _ _ e) at (on _ (p .left) (judged-comes (hold-row n h) job l q)))

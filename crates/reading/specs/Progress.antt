@@ -8,7 +8,7 @@ use Rattle.rules.specs.Units.{most-gears, most-points}
 use Rattle.rules.specs.Refusals.{numbered, fault}
 use Rattle.rules.specs.Groups.{Read, got, refused, Reader, _>>=_, give}
 use Rattle.rules.specs.Forms.{Form, row}
-use Rattle.rules.specs.Job.{hold, padded, job-of}
+use Rattle.rules.specs.Job.{one-hold, padded, job-of}
 use Rattle.reading.specs.declared.Group.{Group}
 use Rattle.reading.specs.declared.Group.the-variants as group-is
 use Rattle.reading.specs.declared.Came.{Came}
@@ -53,14 +53,14 @@ abbrev pub blank : Vehicle
 blank = job-of (refused (numbered 0 0)) .vehicle
 
 -- what the reader answers where it refuses
-abbrev pub nothing : Answer → Reading
-nothing a = record { answer = a; version = 0; vehicle = blank; count = 0 }
+abbrev pub no-reading : Answer → Reading
+no-reading a = record { answer = a; version = 0; vehicle = blank; count = 0 }
 
 -- ---- what is made of what was read
 
 -- second and gear for each of k holds, seconds rising from 0 on
 abbrev pub hold-row : ℕ → ℕ → Form (List (ℕ × ℕ))
-hold-row count k = row (hold count) (λ next h. suc (h .0)) 0 k
+hold-row count k = row (one-hold count) (λ next h. suc (h .0)) 0 k
 
 -- what is read of a part, put to use
 unfoldable pub used : {A B : Type 0} → (A → B) → Form A → List ℕ → Reader B

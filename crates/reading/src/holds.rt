@@ -49,7 +49,8 @@ fn clear(room: &mut [u8])
 // group's first byte, and has a second where that says so.
 pub fn fill_holds(job: &[u8], at: usize, holds: usize, room: &mut [u8]) -> usize
     requires { ⌜ Comes (hold-row (length (now room)) holds .read (now job) at) × (length (now room) ≤ 16384) ⌝ }
-    ensures { λ r. ⌜ got (now (room .exit)) r ≡ used (λ hs. put hs (replicate (length (now (room .entry))) 0)) (hold-row (length (now (room .entry))) holds) (now (job .entry)) at ⌝ }
+    ensures { λ r. ⌜ got (now (room .exit)) r ≡ used (λ hs. put hs (replicate (length (now (room .entry))) 0)) (hold-row (length (now (room .entry))) holds)
+        (now (job .entry)) at ⌝ }
 {
     clear(room);
     let mut place = at;

@@ -1,7 +1,7 @@
 // The job reader of document 01: the first fault from left to right, and nothing written where there is one.
 ghost use mathlib.Core.Path.{_≡_};
 ghost use Rattle.reading.specs.Reader.{ReadAs};
-ghost use Rattle.reading.specs.Progress.{group-came, came-answer, nothing};
+ghost use Rattle.reading.specs.Progress.{group-came, came-answer, no-reading};
 
 mod groups;
 mod holds;
@@ -98,8 +98,8 @@ impl Came {
 }
 
 // Nothing is read: how far reading came says why.
-fn nothing(at: Came) -> Reading
-    ensures { λ r. ⌜ r ≡ nothing (came-answer at) ⌝ }
+fn no_reading(at: Came) -> Reading
+    ensures { λ r. ⌜ r ≡ no-reading (came-answer at) ⌝ }
 {
     Reading {
         answer: at.answer(),
@@ -117,34 +117,34 @@ pub fn read(job: &[u8], speeds: &mut [u16], holds: &mut [u8]) -> Reading
     let car = car_at(job);
     let came = car.at;
     let Came::To(at) = came else {
-        return nothing(came);
+        return no_reading(came);
     };
     let seconds = bounded(job, at, 1, LONGEST as u16, Refusal::TraceLength);
     let Group::Value(samples, trace) = seconds else {
-        return nothing(seconds.came());
+        return no_reading(seconds.came());
     };
     let count = samples as usize;
     if speeds.len() < count {
-        return nothing(Came::Fault(Refusal::RoomLength));
+        return no_reading(Came::Fault(Refusal::RoomLength));
     }
     if holds.len() < count {
-        return nothing(Came::Fault(Refusal::RoomLength));
+        return no_reading(Came::Fault(Refusal::RoomLength));
     }
     let passed = judge_speeds(job, trace, count);
     let Came::To(at) = passed else {
-        return nothing(passed);
+        return no_reading(passed);
     };
     let number = group_at(job, at);
     let Group::Value(n, first) = number else {
-        return nothing(number.came());
+        return no_reading(number.came());
     };
     let held = n as usize;
     let judged = judge_holds(job, first, held, samples);
     let Came::To(end) = judged else {
-        return nothing(judged);
+        return no_reading(judged);
     };
     if end != job.len() {
-        return nothing(Came::Fault(Refusal::BytesAfter(end)));
+        return no_reading(Came::Fault(Refusal::BytesAfter(end)));
     }
     fill_speeds(job, trace, &mut speeds[..count]);
     fill_holds(job, first, held, &mut holds[..count]);

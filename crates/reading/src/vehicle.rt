@@ -99,7 +99,8 @@ fn fill_points(
     ms: &mut [u16],
 ) -> Came
     requires { ⌜ (count ≤ length (now ns)) × (count ≤ length (now ps)) × (count ≤ length (now ms)) ⌝ }
-    ensures { λ r. ⌜ reached r (now (ns .exit), (now (ps .exit), now (ms .exit))) ≡ used (into (now (ns .entry)) (now (ps .entry)) (now (ms .entry)) 0) (many (point version) count) (now (job .entry)) at ⌝ }
+    ensures { λ r. ⌜ reached r (now (ns .exit), (now (ps .exit), now (ms .exit))) ≡ used (into (now (ns .entry)) (now (ps .entry)) (now (ms .entry)) 0)
+        (many (point version) count) (now (job .entry)) at ⌝ }
 {
     let mut next = at;
     let mut i = 0;

@@ -1,5 +1,10 @@
 -- The first choice that is listed, and the sentence that is given for it.
-use Rattle.rules.proofs.Offered.{ℕ, zero, suc, _-_, _≤_, arith, _≡_, refl, sym, _∙_, _≢_, Bool, true, false, Option, none, List, [], _∷_, eqb, ℤ, getD, le-leb, leb-true, eq-eqb, eqb-true, eqb-false, within, at, first, highest, _and_, low, rise, is-first, under-nmax, allowed, fits, enough, suits, choose, first-at, Fault, InBounds, HighestEnough, MostPower, role-at, kind, about, listed-power, driven-facts, no-facts, gear-facts, gear-list, sentence, why-fault, early-fault, said-of, why, clash, by-test, and-left, and-right, both, or-skip, highest-holds, low-from, choose-strongest, choose-highest, choose-to, first-choice-plainly, strongest-fits, first-at-is}
+use Rattle.rules.proofs.Offered.{ℕ, zero, suc, _-_, _≤_, arith, _≡_, refl, sym, _∙_, _≢_, Bool, true, false, Option, none, List, [], _∷_, eqb, ℤ, getD, le-leb}
+use Rattle.rules.proofs.Offered.{leb-true, eq-eqb, eqb-true, eqb-false, within, at, first, highest, _and_, drop, low, rise, closing, is-first, under-nmax}
+use Rattle.rules.proofs.Offered.{allowed, fits, enough, suits, choose, first-at, Fault, InBounds, HighestEnough, MostPower, role-at, kind, about, listed-power}
+use Rattle.rules.proofs.Offered.{driven-facts, no-facts, gear-facts, gear-list, sentence, why-fault, early-fault, said-of, why, clash, by-test, and-left}
+use Rattle.rules.proofs.Offered.{and-right, both, or-skip, highest-holds, low-from, choose-strongest, choose-highest, choose-to, first-choice-plainly}
+use Rattle.rules.proofs.Offered.{strongest-fits, first-at-is}
 use Rattle.rules.specs.declared.Vehicle.{Vehicle}
 use Rattle.rules.specs.declared.Role.{Role}
 use Rattle.rules.specs.declared.GearFacts.{GearFacts}
@@ -24,7 +29,7 @@ place f (suc (suc (suc (suc (suc (suc (suc (suc (suc zero))))))))) a b = refl
 place f (suc (suc (suc (suc (suc (suc (suc (suc (suc (suc zero)))))))))) a b = refl
 place f (suc (suc (suc (suc (suc (suc (suc (suc (suc (suc (suc g))))))))))) a b = absurd (omega arith)
 
-module _ (car : Vehicle) (here : Role) (v : ℕ) (d : ℤ) where
+module _ (car : Vehicle) (here : Role) (closes : Bool) (v : ℕ) (d : ℤ) where
   abbrev c : ℕ
   c = choose car here v d
 
@@ -37,7 +42,7 @@ module _ (car : Vehicle) (here : Role) (v : ℕ) (d : ℤ) where
       (λ t. let h = eqb-false _ _ t in rw (choose-highest car here v d h) (and-left _ _ (highest-holds (suits car here v d) (car .ng) h .0)))
 
   -- what is listed of a driven gear
-  driven-is : (g : ℕ) → low car ≤ g → g ≤ car .ng → gear-facts car here v d g ≡ driven-facts car here v d g
+  pub driven-is : (g : ℕ) → low car ≤ g → g ≤ car .ng → gear-facts car here closes v d g ≡ driven-facts car here closes v d g
   unfolding gear-facts within _and_
   driven-is g a b = rw (le-leb (low car) g a, le-leb g (car .ng) b)
 
@@ -49,7 +54,7 @@ module _ (car : Vehicle) (here : Role) (v : ℕ) (d : ℤ) where
   unfolding fits allowed
   from-low g t = leb-true _ _ (and-left _ _ (and-left _ _ t))
 
-  listed-is : (g : ℕ) → low car ≤ g → g ≤ car .ng → Listed car here v d g (gear-facts car here v d g)
+  listed-is : (g : ℕ) → low car ≤ g → g ≤ car .ng → Listed car here v d g (gear-facts car here closes v d g)
   unfolding driven-facts listed-power _and_
   listed-is g a b = rw (driven-is g a b) (record { fitting = refl; sufficing = λ t. rw (under g t); Q-is = λ t. rw (under g t); w-is = λ t. rw (under g t) })
 
@@ -63,7 +68,7 @@ module _ (car : Vehicle) (here : Role) (v : ℕ) (d : ℤ) where
   -- each sentence
   module _ (B : InBounds car) where
     abbrev has : Bool
-    has = gear-facts car here v d c .enough
+    has = gear-facts car here closes v d c .enough
 
     has-is : c ≢ 0 → has ≡ enough car v d c
     has-is n = let t = chosen-fits n in listed-is c (from-low c t) (choose-to car here v d) .sufficing t
@@ -78,7 +83,8 @@ module _ (car : Vehicle) (here : Role) (v : ℕ) (d : ℤ) where
     say-most : c ≢ 0 → has ≡ false → MostPower car here v c
     say-most n t =
         first-choice-plainly car here v d B .choice-most
-        (λ g l. by-test (suits car here v d g) (λ u. clash (first-choice-plainly car here v d B .choice-enough g l u .with-enough) (sym (has-is n) ∙ t)) (λ u. u))
+        (λ g l. by-test (suits car here v d g) (λ u. clash (first-choice-plainly car here v d B .choice-enough g l u .with-enough) (sym (has-is n) ∙ t))
+        (λ u. u))
         c (choose-to car here v d) (chosen-fits n)
 
     -- one sentence at a time
@@ -117,6 +123,9 @@ module _ (car : Vehicle) (vs hs : List ℕ) (s : ℕ) (e : early-fault car vs hs
   abbrev there : Role
   there = role-at car vs hs i
 
+  abbrev ends-trip : Bool
+  ends-trip = closing (drop i vs)
+
   -- without a hold the first choice is the rules'
   free-choice : at hs i ≡ 0 → first-at car vs hs i ≡ choose car there (at vs i) (rise vs i)
   free-choice h = first-at-is car vs hs (even car vs hs s e) i (about-moves vs s z) ∙ rw (eq-eqb (at hs i) 0 h)
@@ -129,11 +138,13 @@ module _ (car : Vehicle) (vs hs : List ℕ) (s : ℕ) (e : early-fault car vs hs
       let l = low-from car in
       rw (x, h) (record {
         chosen = first-choice-plainly car there (at vs i) (rise vs i) B;
-        listed = λ g a b. rw (place (gear-facts car there (at vs i) (rise vs i)) g (omega arith) (omega (arith, B .ng-to))) (listed-is car there (at vs i) (rise vs i) g a b);
-        enough-said = say-2 car there (at vs i) (rise vs i) B;
-        most-said = say-3 car there (at vs i) (rise vs i) B;
-        first-said = say-4 car there (at vs i) (rise vs i) B;
-        none-said = say-5 car there (at vs i) (rise vs i) B;
+        listed =
+            λ g a b. rw (place (gear-facts car there ends-trip (at vs i) (rise vs i)) g (omega arith) (omega (arith, B .ng-to)))
+            (listed-is car there ends-trip (at vs i) (rise vs i) g a b);
+        enough-said = say-2 car there ends-trip (at vs i) (rise vs i) B;
+        most-said = say-3 car there ends-trip (at vs i) (rise vs i) B;
+        first-said = say-4 car there ends-trip (at vs i) (rise vs i) B;
+        none-said = say-5 car there ends-trip (at vs i) (rise vs i) B;
       })
 
   pub chooses-there : at hs i ≡ 0 → Chooses car there (at vs i) (rise vs i) (why car vs hs s)

@@ -1,5 +1,6 @@
 -- Demand 1 of `why`: it asks nothing of its caller, and whatever it refuses is a row of the table.
-use Rattle.rules.proofs.Offered.{ℕ, refl, List, Lfts, Dens, vehicle-fault, span-fault, row-fault, why-fault, Told, told-or, told-at, told-checks, trace-told, room-told}
+use Rattle.rules.proofs.Offered.{ℕ, refl, List, Lfts, Dens, vehicle-fault, span-fault, row-fault, why-fault, Told, told-or, told-at, told-checks, trace-told}
+use Rattle.rules.proofs.Offered.{room-told}
 use Rattle.rules.specs.declared.Vehicle.{Vehicle}
 use Rattle.rules.specs.declared.Refusal.the-variants.{VehicleField, OutsideTrace}
 use Rattle.reasons.proofs.whole.why.Kinds as why-kinds

@@ -1,5 +1,8 @@
 -- What is said of a gear, from the parts that the code works it out of.
-use Rattle.rules.proofs.Offered.{ℕ, suc, _-_, _*_, _≤_, _<_, arith, le-trans, mul-le-mul-left, mul-le-mul-right, _≡_, refl, sym, ap, _∙_, Bool, true, false, not, List, leb, eqb, ℤ, pos, le-leb, lt-leb, eq-eqb, ne-eqb, if_then_else_, _and_, _or_, within, at, low, ratio-of, Power, is-first, engine, minimum, under-nmax, over-minimum, allowed, fits, required, power, enough, minimum-rule, listed-power, driven-facts, no-facts, gear-facts, InBounds, by-test}
+use Rattle.rules.proofs.Offered.{ℕ, suc, _-_, _*_, _≤_, _<_, arith, le-trans, mul-le-mul-left, mul-le-mul-right, _≡_, refl, sym, ap, _∙_, Bool, true, false}
+use Rattle.rules.proofs.Offered.{not, List, leb, eqb, ℤ, pos, le-leb, lt-leb, eq-eqb, ne-eqb, if_then_else_, _and_, _or_, within, at, low, ratio-of, Power}
+use Rattle.rules.proofs.Offered.{is-first, engine, minimum, under-nmax, over-minimum, allowed, fits, required, power, enough, minimum-role, minimum-rule}
+use Rattle.rules.proofs.Offered.{listed-power, driven-facts, no-facts, gear-facts, InBounds, by-test}
 use Rattle.rules.specs.declared.Vehicle.{Vehicle}
 use Rattle.rules.specs.declared.Role.{Role}
 use Rattle.rules.specs.declared.GearFacts.{GearFacts}
@@ -26,13 +29,13 @@ module _ {car : Vehicle} {k : Numbers} (C : Counts car k) (here : Role) (g : ℕ
   allowed-high l n = rw (low-of C, le-leb (low-in k) g l, ne-eqb g (low-in k) n)
 
   module _ (v : ℕ) where
-    pub over-low : g ≡ low-in k → true ≡ over-minimum car here v g
-    unfolding over-minimum _or_
-    over-low e = rw (low-of C, eq-eqb g (low-in k) e)
+    pub turns-low : g ≡ low-in k → true ≡ (eqb g (low car) or over-minimum car here v g)
+    unfolding _or_
+    turns-low e = rw (low-of C, eq-eqb g (low-in k) e)
 
-    pub over-high : (g ≡ low-in k → ⊥) → leb (1000 * minimum car here g) (engine car g v) ≡ over-minimum car here v g
+    pub turns-high : (g ≡ low-in k → ⊥) → leb (1000 * minimum car here g) (engine car g v) ≡ (eqb g (low car) or over-minimum car here v g)
     unfolding over-minimum _or_
-    over-high n = rw (low-of C, ne-eqb g (low-in k) n)
+    turns-high n = rw (low-of C, ne-eqb g (low-in k) n)
 
 -- ---- its power
 
@@ -50,31 +53,36 @@ module _ {car : Vehicle} {k : Numbers} {ratio : List ℕ} (H : Has car k ratio) 
   power-read h = rw (← under-is, le-leb _ _ h)
 
   -- it is enough where it is read
-  pub enough-listed : (d e : ℤ) (a : Power) → e ≡ required car v d → a ≡ listed-power car v g → under-nmax car v g and enough-for a e ≡ under-nmax car v g and enough car v d g
+  pub enough-listed : (d e : ℤ) (a : Power) → e ≡ required car v d → a ≡ listed-power car v g
+      → under-nmax car v g and enough-for a e ≡ under-nmax car v g and enough car v d g
   unfolding listed-power enough enough-for _and_
   enough-listed d e a p q = by-test (under-nmax car v g) (λ t. rw (q, p, t)) (λ t. rw t)
 
 -- ---- a gear that is driven, and one that is not
 
 -- field by field
-module _ (car : Vehicle) (here : Role) (v : ℕ) (d : ℤ) (g : ℕ) where
-  pub facts-are : {q w : ℤ} {x m r : ℕ} {may over under inside has : Bool} → q ≡ listed-power car v g .Q → w ≡ listed-power car v g .w → x ≡ engine car g v
-      → m ≡ minimum car here g → r ≡ minimum-rule here (g - low car) → may ≡ allowed car here g → over ≡ over-minimum car here v g → under ≡ under-nmax car v g
-      → inside ≡ may and (over and under) → has ≡ under-nmax car v g and enough car v d g
-      → _≡_ {A = GearFacts} (record { q = q; w = w; engine = x; minimum = m; rule = r; allowed = may; «over_minimum» = over; «under_nmax» = under; fits = inside; enough = has }) (driven-facts car here v d g)
-  unfolding driven-facts fits
-  facts-are a b c e f h i j l n = rw (a, b, c, e, f, l, n, h, i, j)
+module _ (car : Vehicle) (here : Role) (closes : Bool) (v : ℕ) (d : ℤ) (g : ℕ) where
+  pub facts-are : {q w : ℤ} {x m r : ℕ} {may over turns under inside has : Bool} → q ≡ listed-power car v g .Q → w ≡ listed-power car v g .w
+      → x ≡ engine car g v
+      → m ≡ minimum car (minimum-role here closes) g → r ≡ minimum-rule (minimum-role here closes) (g - low car) → may ≡ allowed car here g
+      → over ≡ leb (1000 * m) x → turns ≡ (eqb g (low car) or over-minimum car here v g) → under ≡ under-nmax car v g
+      → inside ≡ may and (turns and under) → has ≡ under-nmax car v g and enough car v d g
+      → _≡_ {A = GearFacts}
+      (record { q = q; w = w; engine = x; minimum = m; rule = r; allowed = may; «over_minimum» = over; «under_nmax» = under; fits = inside; enough = has })
+      (driven-facts car here closes v d g)
+  unfolding driven-facts fits over-minimum
+  facts-are a b c e f h o i j l n = rw (a, b, o, c, e, f, l, n, h, i, j)
 
-module _ {car : Vehicle} {k : Numbers} (C : Counts car k) (here : Role) (v : ℕ) (d : ℤ) (g : ℕ) where
-  pub facts-below : g < low-in k → no-facts ≡ gear-facts car here v d g
+module _ {car : Vehicle} {k : Numbers} (C : Counts car k) (here : Role) (closes : Bool) (v : ℕ) (d : ℤ) (g : ℕ) where
+  pub facts-below : g < low-in k → no-facts ≡ gear-facts car here closes v d g
   unfolding gear-facts within _and_
   facts-below h = rw (low-of C, lt-leb (low-in k) g h)
 
-  pub facts-above : low-in k ≤ g → k .ng < g → no-facts ≡ gear-facts car here v d g
+  pub facts-above : low-in k ≤ g → k .ng < g → no-facts ≡ gear-facts car here closes v d g
   unfolding gear-facts within _and_
   facts-above l h = rw (low-of C, ng-of C, le-leb (low-in k) g l, lt-leb g (k .ng) h)
 
-  pub facts-driven : low-in k ≤ g → g ≤ k .ng → driven-facts car here v d g ≡ gear-facts car here v d g
+  pub facts-driven : low-in k ≤ g → g ≤ k .ng → driven-facts car here closes v d g ≡ gear-facts car here closes v d g
   unfolding gear-facts within _and_
   facts-driven l h = rw (low-of C, ng-of C, le-leb (low-in k) g l, le-leb g (k .ng) h)
 
@@ -91,5 +99,6 @@ unfolding ratio-of
 ratio-small L {g} a b = rw (← L .has .ratios) (L .bounds .ratio-to g (omega arith) (omega (arith, ng-of (L .has .counts))))
 
 -- its engine speed has room in 32 bits
-pub engine-small : {k : Numbers} {ratio n p : List ℕ} → Parts k ratio n p → {g : ℕ} (v : ℕ) → low-in k ≤ g → g ≤ k .ng → v ≤ 65535 → at ratio (g - 1) * v < 4294967296
+pub engine-small : {k : Numbers} {ratio n p : List ℕ} → Parts k ratio n p → {g : ℕ} (v : ℕ) → low-in k ≤ g → g ≤ k .ng → v ≤ 65535
+    → at ratio (g - 1) * v < 4294967296
 engine-small {ratio = ratio} P {g} v a b h = let x : at ratio (g - 1) * v ≤ 50000 * v = mul-le-mul-right v (ratio-small (P .lent) a b) in omega (arith, x, h)

@@ -1,4 +1,5 @@
--- What belongs to no one function: the theorems and the starred chains, laws of the definitions as the code meets them, and that the contract allows one outcome.
+-- What belongs to no one function: the theorems and the starred chains, laws of the definitions as the code meets them, and that the contract allows one
+-- outcome.
 pub mod Gears
 pub mod Stages
 pub mod Places
@@ -6,6 +7,7 @@ pub mod Saying
 pub mod Passed
 pub mod Shown
 pub mod Chosen
+pub mod Listed
 pub mod Wanted
 pub mod Theorems
 pub mod Cases

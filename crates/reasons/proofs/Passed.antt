@@ -1,5 +1,10 @@
 -- What is left of the row of checks where it passes, and that an accepted trace passes it at each second.
-use Rattle.rules.proofs.Offered.{ℕ, suc, _-_, _≤_, _<_, arith, _≡_, refl, sym, _∙_, Bool, false, not, Option, none, List, [], _∷_, ltb, eqb, length, ltb-true, lt-ltb, le-ltb, eq-eqb, ne-eqb, eqb-true, eqb-false, not-false, _and_, at, first, enough, Fault, refuse-at, when, trace-fault, room-fault, vehicle-fault, Check, speed, step, ends, over-ng, at-rest, over-rev, no-gear, check-number, checks, bad, fault-of, seconds-fault, span-fault, work-fault, left, all-checks, _orelse_, InBounds, kind, about, why-lo, why-end, row-fault, why-fault, early-fault, nothing, said-of, why, by-test, by-order, orelse-none, none-orelse, refuse-none, when-none, rooms-in, vehicle-in, gears-last, left-none, first-none, none-first, moving-in, accepted}
+use Rattle.rules.proofs.Offered.{ℕ, suc, _-_, _≤_, _<_, arith, _≡_, refl, sym, _∙_, Bool, false, not, Option, none, List, [], _∷_, ltb, eqb, length, ltb-true}
+use Rattle.rules.proofs.Offered.{lt-ltb, le-ltb, eq-eqb, ne-eqb, eqb-true, eqb-false, not-false, _and_, at, first, enough, Fault, refuse-at, when, trace-fault}
+use Rattle.rules.proofs.Offered.{room-fault, vehicle-fault, Check, speed, step, ends, over-ng, at-rest, over-rev, no-gear, check-number, checks, bad, fault-of}
+use Rattle.rules.proofs.Offered.{seconds-fault, span-fault, work-fault, left, all-checks, _orelse_, InBounds, kind, about, why-lo, why-end, row-fault}
+use Rattle.rules.proofs.Offered.{why-fault, early-fault, nothing, said-of, why, by-test, by-order, orelse-none, none-orelse, refuse-none, when-none, rooms-in}
+use Rattle.rules.proofs.Offered.{vehicle-in, gears-last, left-none, first-none, none-first, moving-in, accepted}
 use Rattle.rules.specs.declared.Vehicle.{Vehicle}
 use Rattle.reasons.proofs.Places.{looked, about-next, about-itself, next-moves}
 
@@ -56,7 +61,8 @@ narrower f g a b lo hi l m h [] e = refl
 narrower f g a b lo hi l m h (c ∷ cs) e =
     let x = orelse-none (refuse-at (check-number c) (first (f c) a (b - a))) (fault-of f a b cs) e in
     let y = refuse-none (check-number c) (first (f c) a (b - a)) (x .0) in
-    rw (first-none (g c) (hi - lo) lo (λ i p q. h c i p (omega arith) (none-first (f c) (b - a) a y i (omega arith) (omega arith)))) (narrower f g a b lo hi l m h cs (x .1))
+    rw (first-none (g c) (hi - lo) lo (λ i p q. h c i p (omega arith) (none-first (f c) (b - a) a y i (omega arith) (omega arith))))
+    (narrower f g a b lo hi l m h cs (x .1))
 
 -- what is looked at lies in the trace
 pub end-in : (vs : List ℕ) (s : ℕ) → s < length vs → why-end vs s ≤ length vs

@@ -1,18 +1,25 @@
 -- Where the second that is spoken of lies: what is looked at, and its trip.
-use Rattle.rules.proofs.Offered.{ℕ, suc, _+_, _-_, _≤_, _<_, min, add-one, arith, _≡_, refl, sym, ap, _∙_, _≢_, Bool, true, false, Option, none, List, leb, eqb, lit<, length, set, length-set, set-out, eq-eqb, ne-eqb, eqb-true, eqb-false, lt-ltb, if_then_else_, at, part, moving, rise, start, stop, longest, trip-speeds, trip-holds, Fault, checks, bad, seconds-fault, span-fault, Span, around, hold-span, IsTrip, kind, about, clash, by-test, by-order, at-part, length-part, trip-of, trip-start, trip-stop, start-le, start-before, stop-le, stop-after, stop-to, moving-in, standing-past, listed, driven, trace-in}
+use Rattle.rules.proofs.Offered.{ℕ, suc, _+_, _-_, _≤_, _<_, min, add-one, arith, _≡_, refl, sym, ap, _∙_, _≢_, Bool, true, false, Option, none, List, leb, eqb}
+use Rattle.rules.proofs.Offered.{lit<, length, set, length-set, set-out, eq-eqb, ne-eqb, eqb-true, eqb-false, lt-ltb, if_then_else_, at, part, moving, rise}
+use Rattle.rules.proofs.Offered.{start, stop, longest, trip-speeds, trip-holds, Fault, checks, bad, seconds-fault, gear-fault, fastest, Extent, around}
+use Rattle.rules.proofs.Offered.{hold-span}
+use Rattle.rules.proofs.Offered.{IsTrip, kind, about, clash, by-test, by-order, at-part, length-part, trip-of, trip-start, trip-stop, start-le, start-before}
+use Rattle.rules.proofs.Offered.{stop-le, stop-after, stop-to, moving-in, standing-past, listed, driven, trace-in}
 use Rattle.rules.proofs.Theorems.Edits.{span-of-hold}
 use Rattle.rules.specs.declared.Vehicle.{Vehicle}
 use Rattle.gears.specs.declared.Numbers.{Numbers}
 use Rattle.gears.specs.Parts.{Counts, Lent}
 use Rattle.gears.proofs.Parts.{ng-of}
-use Rattle.trips.specs.Ready.{Ready}
+use Rattle.trips.specs.Ready.{ReadyTrip}
 use Rattle.checks.specs.Checks.{Spanned}
+use Rattle.checks.specs.Calm.{AtMost}
 use Rattle.checks.specs.Want.{Resting, Level, Ahead}
+use Rattle.checks.proofs.Through.{unasked}
 use Rattle.checks.proofs.Dry.{level, ahead}
 use Rattle.checks.proofs.Rows.{Opened, spanned, longest-is}
 use Rattle.trips.proofs.Passes.{gears-to}
 use Rattle.reasons.specs.declared.Chain.{Chain}
-use Rattle.reasons.specs.Asks.{Told, chain-of}
+use Rattle.reasons.specs.Asks.{InTrip, chain-of}
 
 -- ---- what the second is
 
@@ -90,7 +97,7 @@ module _ (vs : List ℕ) (i : ℕ) (h : i < length vs) where
 
   -- of a moving one its trip
   pub span-moving : moving (at vs i) ≡ true → (start vs i - 1 ≡ hold-span vs i .lo) × (min (suc (stop vs i)) (length vs) ≡ hold-span vs i .end)
-  span-moving m = let e = span-of-hold vs i m in (sym (ap (λ (r : Span). r .lo) e), sym (ap (λ (r : Span). r .end) e))
+  span-moving m = let e = span-of-hold vs i m in (sym (ap (λ (r : Extent). r .lo) e), sym (ap (λ (r : Extent). r .end) e))
 
 -- and lies in it
 pub inside-span : (vs : List ℕ) (i : ℕ) → moving (at vs i) ≡ true → (hold-span vs i .lo ≤ i) × (i < hold-span vs i .end)
@@ -108,19 +115,25 @@ module _ {car : Vehicle} {vs hs : List ℕ} (O : Opened car vs hs hs) {lo end : 
   pub resting-at : (v : ℕ) → Resting (set vs (length vs) v) lo end
   resting-at v = let e = set-out vs (length vs) v (omega arith) in rw e (record { some = K .some; begins = K .begins; ends = K .ends })
 
-  pub no-seconds-edit : (one : Vehicle) (v g : ℕ) {f : Option Fault} → f ≡ seconds-fault one (set vs (length vs) v) (set hs (length vs) g) lo end → f ≡ seconds-fault one vs hs lo end
-  no-seconds-edit one v g e =
-      e ∙ ap (λ (us : List ℕ). seconds-fault one us (set hs (length vs) g) lo end) (set-out vs (length vs) v (omega arith))
-      ∙ ap (λ (ks : List ℕ). seconds-fault one vs ks lo end) (set-out hs (length vs) g (omega (arith, O .holds-long)))
+  pub no-seconds-edit : (v g : ℕ) {f : Option Fault} → f ≡ seconds-fault car (set vs (length vs) v) (set hs (length vs) g) lo end
+      → f ≡ seconds-fault car vs hs lo end
+  no-seconds-edit v g e = e ∙ unasked (λ us ks. seconds-fault car us ks lo end) vs hs (O .holds-long) v g
 
-  pub no-span-edit : (one : Vehicle) (v g : ℕ) {f : Option Fault} → f ≡ span-fault one (set vs (length vs) v) (set hs (length vs) g) lo end → f ≡ span-fault one vs hs lo end
-  no-span-edit one v g e =
-      e ∙ ap (λ (us : List ℕ). span-fault one us (set hs (length vs) g) lo end) (set-out vs (length vs) v (omega arith))
-      ∙ ap (λ (ks : List ℕ). span-fault one vs ks lo end) (set-out hs (length vs) g (omega (arith, O .holds-long)))
+  pub no-gears-edit : (v g : ℕ) {f : Option Fault} → f ≡ gear-fault car (set vs (length vs) v) (set hs (length vs) g) lo end → f ≡ gear-fault car vs hs lo end
+  no-gears-edit v g e = e ∙ unasked (λ us ks. gear-fault car us ks lo end) vs hs (O .holds-long) v g
+
+  -- where 4 to 9 pass, no speed is above the highest
+  pub slow-at : (v g : ℕ) → seconds-fault car (set vs (length vs) v) (set hs (length vs) g) lo end ≡ none → AtMost (at (set vs (length vs) v)) lo end fastest
+  slow-at v g e =
+      let n = length-set vs (length vs) v in
+      let flat : Level (set vs (length vs) v) hs lo end =
+      level car (set vs (length vs) v) (set hs (length vs) g) lo end e (resting-at v) (omega (arith, n, K .inside)) (O .holds-long ∙ sym n) in
+      flat .speed-to
 
 -- ---- the trip of a moving second, of a span that passes 4 to 9
 
-module _ {car : Vehicle} {vs hs : List ℕ} (O : Opened car vs hs hs) {i lo end : ℕ} (h : i < length vs) (a : lo ≡ hold-span vs i .lo) (b : end ≡ hold-span vs i .end)
+module _ {car : Vehicle} {vs hs : List ℕ} (O : Opened car vs hs hs) {i lo end : ℕ} (h : i < length vs) (a : lo ≡ hold-span vs i .lo)
+    (b : end ≡ hold-span vs i .end)
     (e : seconds-fault car vs hs lo end ≡ none) (m : moving (at vs i) ≡ true) where
   looks : Looked vs lo end
   looks = looked vs i h a b
@@ -141,12 +154,13 @@ module _ {car : Vehicle} {vs hs : List ℕ} (O : Opened car vs hs hs) {i lo end 
   later : 1 ≤ start vs i
   later =
       by-order 0 (start vs i) (λ l. l)
-      (λ l. let z : lo ≡ start vs i = omega (arith, low-is) in clash (rw (← z) at (its .0 .inside (start vs i) (omega arith) (its .0 .some-second))) (flat .rest .first))
+      (λ l. let z : lo ≡ start vs i = omega (arith, low-is) in
+      clash (rw (← z) at (its .0 .inside (start vs i) (omega arith) (its .0 .some-second))) (flat .rest .first))
 
   same-stop : stop vs (start vs i) ≡ stop vs i
   same-stop = trip-stop vs (its .0) (start vs i) (omega arith) (its .0 .some-second)
 
-  pub told : {k : Numbers} → Counts car k → Told k vs hs i (start vs i) (stop vs i)
+  pub told : {k : Numbers} → Counts car k → InTrip k vs hs i (start vs i) (stop vs i)
   unfolding bad seconds-fault checks
   told C =
       let x = low-is in
@@ -154,7 +168,8 @@ module _ {car : Vehicle} {vs hs : List ℕ} (O : Opened car vs hs hs) {i lo end 
       let l = later in
       let t = its in
       let u = stop-to vs i (omega arith) in
-      let A : Ahead vs (start vs i) (stop vs (start vs i)) = ahead flat (omega (arith, x, l)) (omega (arith, x, y, t .1, t .2, looks .inside, h)) (t .0 .before (start vs i - 1) (omega (arith, l))) in
+      let A : Ahead vs (start vs i) (stop vs (start vs i)) =
+      ahead flat (omega (arith, x, l)) (omega (arith, x, y, t .1, t .2, looks .inside, h)) (t .0 .before (start vs i - 1) (omega (arith, l))) in
       let B : Ahead vs (start vs i) (stop vs i) = rw same-stop at A in
       record {
         trip = B;
@@ -162,12 +177,14 @@ module _ {car : Vehicle} {vs hs : List ℕ} (O : Opened car vs hs hs) {i lo end 
         short = trace-in vs (O .trace) .1;
         since = t .1;
         until = t .2;
-        hold = λ j p q. rw (← ng-of C) (driven car (at hs j) (listed (λ c. bad c car vs hs lo) lo end checks e 3 (lit< tt) j (omega (arith, x)) (omega (arith, y, B .inside))) .0);
+        hold =
+            λ j p q. rw (← ng-of C)
+            (driven car (at hs j) (listed (λ c. bad c car vs hs lo) lo end checks e 3 (lit< tt) j (omega (arith, x)) (omega (arith, y, B .inside))) .0);
       }
 
 -- ---- the trip's own lists
 
-module _ {k : Numbers} {vs hs : List ℕ} {i a b : ℕ} (T : Told k vs hs i a b) where
+module _ {k : Numbers} {vs hs : List ℕ} {i a b : ℕ} (T : InTrip k vs hs i a b) where
   pub its-trip : IsTrip vs a b
   its-trip = record { some-second = omega (arith, T .since, T .until); inside = T .trip .moves; before = T .trip .before; after = T .trip .after }
 
@@ -186,7 +203,7 @@ module _ {k : Numbers} {vs hs : List ℕ} {i a b : ℕ} (T : Told k vs hs i a b)
       )
 
   -- what going through it asks
-  pub trip-ready : {gs : List ℕ} → length gs ≡ b - a → Ready k (part vs a (b + 1)) (part hs a b) gs
+  pub trip-ready : {gs : List ℕ} → length gs ≡ b - a → ReadyTrip k (part vs a (b + 1)) (part hs a b) gs
   trip-ready {gs} g =
       let l = T .trip .inside in
       let o = T .trip .order in
@@ -206,15 +223,18 @@ module _ {k : Numbers} {vs hs : List ℕ} {i a b : ℕ} (T : Told k vs hs i a b)
   trip-place = rw (length-part hs a b (omega (arith, T .rooms, T .trip .inside))) (omega (arith, T .since, T .until))
 
   -- the trip's lists, as the card names them
-  pub trip-lists : (car : Vehicle) → chain-of car (part vs a (b + 1)) (part hs a b) (i - a) ≡ chain-of car (trip-speeds vs i) (trip-holds vs hs i) (i - start vs i)
+  pub trip-lists : (car : Vehicle)
+      → chain-of car (part vs a (b + 1)) (part hs a b) (i - a) ≡ chain-of car (trip-speeds vs i) (trip-holds vs hs i) (i - start vs i)
   unfolding trip-speeds trip-holds
   trip-lists car = rw (add-one, trip-start vs its-trip i (T .since) (T .until), trip-stop vs its-trip i (T .since) (T .until))
 
   -- the gear after C leaves room for the clutch
-  pub chain-small : {car : Vehicle} {ratio n p : List ℕ} → Lent car k ratio n p → {x : Chain} → x ≡ chain-of car (part vs a (b + 1)) (part hs a b) (i - a) → x .«after_c» ≤ 11
+  pub chain-small : {car : Vehicle} {ratio n p : List ℕ} → Lent car k ratio n p → {x : Chain} → x ≡ chain-of car (part vs a (b + 1)) (part hs a b) (i - a)
+      → x .«after_c» ≤ 11
   unfolding chain-of
   chain-small {car = car} L {x} q =
-      let h : at (part hs a b) (i - a) ≤ car .ng = rw (at-part hs a b (i - a) (omega (arith, T .since, T .until)), ng-of (L .has .counts)) (T .hold (a + (i - a)) (omega (arith, T .since)) (omega (arith, T .since, T .until))) in
+      let h : at (part hs a b) (i - a) ≤ car .ng = rw (at-part hs a b (i - a) (omega (arith, T .since, T .until)), ng-of (L .has .counts))
+      (T .hold (a + (i - a)) (omega (arith, T .since)) (omega (arith, T .since, T .until))) in
       let g = gears-to car (L .bounds) (part vs a (b + 1)) (part hs a b) (i - a) trip-place h in
       let e = ap (λ (y : Chain). y .«after_c») q in
       omega (arith, e, g, L .bounds .ng-to)

@@ -1,5 +1,11 @@
 -- What is said of a second, field by field, and each way out of asking.
-use Rattle.rules.proofs.Offered.{ℕ, suc, _+_, _-_, _*_, _≤_, _<_, arith, add-one, _≡_, refl, sym, ap, _∙_, Bool, true, false, not, Option, none, some, List, eqb, ltb, ℤ, pos, _-ℤ_, leZ, length, drop, set, set-out, eq-eqb, ne-eqb, lt-ltb, le-ltb, if_then_else_, _and_, at, part, moving, rise, start, stop, engine, required, floor, closing, role-of, here, firsts, trip-speeds, trip-holds, first-at, gear-at, Fault, said, fault, refuse-at, _orelse_, when, span-fault, seconds-fault, left, role-at, gear-fault, kind, about, role-code, gear-facts, gear-list, sentence, A-at, B-at, ceiling-at, clutch-reason, pedal-down, byte-of, why-lo, why-end, row-fault, why-fault, early-fault, nothing, said-of, why, by-order, trip-of, trip-start, trip-stop, stop-in, closing-part, gears-last}
+use Rattle.rules.proofs.Offered.{ℕ, suc, _+_, _-_, _*_, _≤_, _<_, arith, add-one, _≡_, refl, sym, ap, _∙_, Bool, true, false, not, Option, none, some, List}
+use Rattle.rules.proofs.Offered.{eqb, ltb, ℤ, pos, _-ℤ_, leZ, length, drop, set, set-out, eq-eqb, ne-eqb, lt-ltb, le-ltb, if_then_else_, _and_, at, part}
+use Rattle.rules.proofs.Offered.{moving, rise, start, stop, engine, required, floor, closing, role-of, here, firsts, trip-speeds, trip-holds, first-at, gear-at}
+use Rattle.rules.proofs.Offered.{Fault, said, fault, refuse-at, _orelse_, when, span-fault, seconds-fault, left, role-at, gear-fault, kind, about, role-code}
+use Rattle.rules.proofs.Offered.{gear-facts, gear-list, sentence, A-at, B-at, ceiling-at, clutch-reason, pedal-down, byte-of, why-lo, why-end, row-fault}
+use Rattle.rules.proofs.Offered.{why-fault, early-fault, nothing, said-of, why, by-order, trip-of, trip-start, trip-stop, stop-in, closing-part, none-orelse}
+use Rattle.rules.proofs.Offered.{gears-last}
 use Rattle.rules.specs.declared.Vehicle.{Vehicle}
 use Rattle.rules.specs.declared.Role.{Role}
 use Rattle.rules.specs.declared.GearFacts.{GearFacts}
@@ -36,11 +42,20 @@ module _ (car : Vehicle) (vs hs : List ℕ) (i : ℕ) (m : moving (at vs i) ≡ 
       ))
       (λ h. rw (eq-eqb (i - a) 0 (omega arith), eq-eqb i a (omega arith)))
 
+  -- and whether it lies in the closing run
+  closes-is : closing (drop (i - start vs i) (trip-speeds vs i)) ≡ closing (drop i vs)
+  unfolding trip-speeds
+  closes-is = let t = trip-of vs i m in closing-part vs (t .0) (stop-in vs i m) i (t .1) (t .2)
+
   -- what the stages left there
   module _ {links : Chain} (q : links ≡ chain-of car (trip-speeds vs i) (trip-holds vs hs i) (i - start vs i)) where
     pub link-role : links .role ≡ role-at car vs hs i
     unfolding chain-of
     link-role = ap (λ (x : Chain). x .role) q ∙ role-is
+
+    pub link-closes : links .closes ≡ closing (drop i vs)
+    unfolding chain-of
+    link-closes = ap (λ (x : Chain). x .closes) q ∙ closes-is
 
     pub link-choice : links .choice ≡ first-at car vs hs i
     unfolding chain-of first-at
@@ -65,9 +80,11 @@ module _ (car : Vehicle) (vs hs : List ℕ) (i : ℕ) (m : moving (at vs i) ≡ 
 module _ (car : Vehicle) (vs hs : List ℕ) (s i : ℕ) where
   -- field by field
   pub said-is : {a b : ℕ} {e : ℤ} {gs : List GearFacts} {what role held choice word x y z low top : ℕ} {down : Bool} {reason shown : ℕ}
-      → a ≡ start vs i → b ≡ stop vs i - 1 → e ≡ required car (at vs i) (rise vs i) → gs ≡ gear-list car (role-at car vs hs i) (at vs i) (rise vs i)
+      → a ≡ start vs i → b ≡ stop vs i - 1 → e ≡ required car (at vs i) (rise vs i)
+      → gs ≡ gear-list car (role-at car vs hs i) (closing (drop i vs)) (at vs i) (rise vs i)
       → what ≡ kind vs s → role ≡ role-code (role-at car vs hs i) → held ≡ at hs i → choice ≡ first-at car vs hs i
-      → word ≡ sentence (role-at car vs hs i) (at hs i) (first-at car vs hs i) (gear-facts car (role-at car vs hs i) (at vs i) (rise vs i) (first-at car vs hs i) .enough)
+      → word ≡ sentence (role-at car vs hs i) (at hs i) (first-at car vs hs i)
+      (gear-facts car (role-at car vs hs i) (closing (drop i vs)) (at vs i) (rise vs i) (first-at car vs hs i) .enough)
       → x ≡ A-at car vs hs i → y ≡ B-at car vs hs i → z ≡ gear-at car vs hs i → low ≡ floor car (at vs i) → top ≡ ceiling-at car vs hs i
       → down ≡ pedal-down (clutch-reason car vs s (gear-at car vs hs i)) → reason ≡ clutch-reason car vs s (gear-at car vs hs i)
       → shown ≡ byte-of (clutch-reason car vs s (gear-at car vs hs i)) (gear-at car vs hs i)
@@ -180,10 +197,10 @@ pub record InView (car : Vehicle) (vs hs : List ℕ) (s lo end : ℕ) : Type 0 w
   pub from : lo ≡ why-lo vs s
   pub to : end ≡ why-end vs s
 
--- 4 to 9 have passed there, and 4 to 10 said this
+-- 4 to 9 have passed there, and 10 said this
 pub record Checked (car : Vehicle) (vs hs : List ℕ) (lo end : ℕ) (x : Answer) : Type 0 where
   pub passed : seconds-fault car vs hs lo end ≡ none
-  pub says : said x ≡ span-fault car vs hs lo end
+  pub gears-say : said x ≡ gear-fault car vs hs lo end
 
 module _ {car : Vehicle} {vs hs : List ℕ} {s lo end : ℕ} (W : InView car vs hs s lo end) where
   early-is : early-fault car vs hs s ≡ seconds-fault car vs hs lo end
@@ -200,7 +217,7 @@ module _ {car : Vehicle} {vs hs : List ℕ} {s lo end : ℕ} (W : InView car vs 
 
   module _ {x : Answer} (C : Checked car vs hs lo end x) where
     said-why : said x ≡ why-fault car vs hs s
-    said-why = C .says ∙ sym fault-is
+    said-why = C .gears-say ∙ sym (none-orelse _ _ (C .passed)) ∙ sym (gears-last car vs hs lo end) ∙ sym fault-is
 
     why-is : why car vs hs s ≡ (if eqb (kind vs s) 0 then nothing else said-of car vs hs s (about vs s) (why-fault car vs hs s))
     unfolding why

@@ -1,5 +1,8 @@
 -- The byte that is explained is the card's.
-use Rattle.rules.proofs.Offered.{ℕ, suc, _+_, _*_, _<_, add-comm, zero-add, mod-eq-of-lt, add-mod-right, arith, _≡_, refl, sym, _∙_, true, false, none, List, ltb, pos, leZ, length, within, at, _and_, moving, rise, engine, gear-at, clutch, byte, pressed, card-at, card, left, hold-span, kind, about, clutch-reason, pedal-down, byte-of, why-lo, why-end, why-fault, early-fault, nothing, said-of, why, by-test, at-table, fit-of, gear-in-range, card-mod}
+use Rattle.rules.proofs.Offered.{ℕ, suc, _+_, _*_, _<_, add-comm, zero-add, mod-eq-of-lt, add-mod-right, arith, _≡_, refl, sym, _∙_, true, false, none, List}
+use Rattle.rules.proofs.Offered.{ltb, pos, leZ, length, within, at, _and_, moving, rise, engine, gear-at, clutch, byte, pressed, card-at, card, left, hold-span}
+use Rattle.rules.proofs.Offered.{kind, about, clutch-reason, pedal-down, byte-of, why-lo, why-end, why-fault, early-fault, nothing, said-of, why, by-test}
+use Rattle.rules.proofs.Offered.{at-table, fit-of, gear-in-range, card-mod}
 use Rattle.rules.specs.declared.Vehicle.{Vehicle}
 use Rattle.reasons.specs.Says.{Shows}
 use Rattle.reasons.proofs.Places.{inside-span, about-next, about-itself, kind-moving, kind-before, kind-rests}
@@ -48,14 +51,16 @@ module _ (car : Vehicle) (vs hs : List ℕ) (s : ℕ) where
         let i = about vs s in
         let B = bounds car vs hs s early in
         let l = inside-span vs i m in
-        let r = gear-in-range car vs hs (even car vs hs s early) i m B (fit-of car vs hs (hold-span vs i .lo) (hold-span vs i .end) (row-none car vs hs s _ e .3) i (l .0) (l .1)) in
+        let r = gear-in-range car vs hs (even car vs hs s early) i m B
+        (fit-of car vs hs (hold-span vs i .lo) (hold-span vs i .end) (row-none car vs hs s _ e .3) i (l .0) (l .1)) in
         omega (arith, r .1, B .ng-to)
 
     shows-moving : (m : moving (at vs s) ≡ true) → gear-at car vs hs s < 16 → Shows (said-of car vs hs s s none) (card-at car vs hs s)
     unfolding said-of left byte-of
     shows-moving m l = record { the-byte = sym (card-moving m); the-gear = card-mod car vs hs s m l; the-clutch = card-moving m }
 
-    shows-before : moving (at vs s) ≡ false → moving (at vs (suc s)) ≡ true → gear-at car vs hs (suc s) < 16 → Shows (said-of car vs hs s (suc s) none) (card-at car vs hs s)
+    shows-before : moving (at vs s) ≡ false → moving (at vs (suc s)) ≡ true → gear-at car vs hs (suc s) < 16
+        → Shows (said-of car vs hs s (suc s) none) (card-at car vs hs s)
     unfolding said-of left byte-of pedal-down within _and_
     shows-before m n l =
         let b = card-before m n in

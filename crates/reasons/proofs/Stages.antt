@@ -1,12 +1,14 @@
 -- The stages of a trip at one of its seconds: what it is, B's ceiling there, and what each stage left.
-use Rattle.rules.proofs.Offered.{ℕ, suc, _+_, _-_, _≤_, _<_, arith, _≡_, refl, sym, ap, _∙_, Bool, true, false, List, leb, ltb, eqb, length, drop, le-leb, lt-leb, lt-ltb, le-ltb, eq-eqb, ne-eqb, if_then_else_, _and_, at, pass, low, closing, role-of, ceiling, here, free, peak, rising, slowing, firsts, after-A, after-B, gears, B-looks, ceiling-of, and-no, both, length-B}
+use Rattle.rules.proofs.Offered.{ℕ, suc, _+_, _-_, _≤_, _<_, arith, _≡_, refl, sym, ap, _∙_, Bool, true, false, List, leb, ltb, eqb, length, drop, le-leb}
+use Rattle.rules.proofs.Offered.{lt-leb, lt-ltb, le-ltb, eq-eqb, ne-eqb, if_then_else_, _and_, at, pass, low, closing, role-of, ceiling, here, free, peak}
+use Rattle.rules.proofs.Offered.{rising, slowing, firsts, after-A, after-B, gears, B-looks, ceiling-of, and-no, both, length-B}
 use Rattle.rules.specs.declared.Vehicle.{Vehicle}
 use Rattle.rules.specs.declared.Role.{Role}
 use Rattle.rules.specs.declared.Role.the-variants.{First, Closing, AfterLow, Inner}
 use Rattle.gears.specs.declared.Numbers.{Numbers}
 use Rattle.gears.specs.Parts.{low-in, Counts, Lent}
 use Rattle.gears.proofs.Parts.{low-of, ng-of}
-use Rattle.trips.specs.Ready.{Ready}
+use Rattle.trips.specs.Ready.{ReadyTrip}
 use Rattle.trips.specs.Trip.{RunFrom}
 use Rattle.trips.proofs.Passes.{B-to}
 use Rattle.reasons.specs.declared.Chain.{Chain}
@@ -68,17 +70,17 @@ module _ (car : Vehicle) (us hs : List ℕ) (j : ℕ) {f a b g : List ℕ} (pf :
   unfolding gears
   is-C = rw (pg, is-B)
 
-  pub chain-is : {r : Role} {x y z w t : ℕ} → r ≡ here car us hs j f → x ≡ at f j → y ≡ at a j → z ≡ at b j → w ≡ at g j
+  pub chain-is : {r : Role} {d : Bool} {x y z w t : ℕ} → r ≡ here car us hs j f → d ≡ closing (drop j us) → x ≡ at f j → y ≡ at a j → z ≡ at b j → w ≡ at g j
       → t ≡ (if B-looks car us hs j then ceiling j b else 0)
-      → _≡_ {A = Chain} (record { role = r; choice = x; «after_a» = y; «after_b» = z; «after_c» = w; ceiling = t }) (chain-of car us hs j)
+      → _≡_ {A = Chain} (record { role = r; closes = d; choice = x; «after_a» = y; «after_b» = z; «after_c» = w; ceiling = t }) (chain-of car us hs j)
   unfolding chain-of ceiling-of
-  chain-is p q r s t u = rw (p, q, r, s, t, u, is-C, is-B, is-A, pf)
+  chain-is p d q r s t u = rw (p, d, q, r, s, t, u, is-C, is-B, is-A, pf)
 
   pub B-long : length b ≡ length hs
   B-long = ap length is-B ∙ length-B car us hs
 
   -- after B there is room for one more in a byte
-  pub B-low : {k : Numbers} {ratio n p gs : List ℕ} → Lent car k ratio n p → Ready k us hs gs → j < length hs → Low us hs b j
+  pub B-low : {k : Numbers} {ratio n p gs : List ℕ} → Lent car k ratio n p → ReadyTrip k us hs gs → j < length hs → Low us hs b j
   B-low L R l = record {
     speeds = R .lists .speeds;
     gears = B-long;

@@ -1,5 +1,9 @@
 -- Refused for want of a gear.
-use Rattle.rules.proofs.Offered.{ℕ, _-_, _≤_, _<_, arith, _≡_, refl, sym, ap, _∙_, true, false, Option, none, some, List, eqb, length, leb-true, lt-ltb, eq-eqb, eqb-true, eqb-false, _and_, within, at, first, low, moving, rise, fits, choose, first-at, Fault, numbered, refuse-at, when, no-gear, checks, bad, seconds-fault, work-fault, _orelse_, gear-fault, PassesOthers, role-at, kind, about, driven-facts, no-facts, gear-facts, gear-list, sentence, why-lo, why-end, row-fault, why-fault, early-fault, said-of, why, by-test, if-ind, and-left, and-right, none-orelse, gears-last, first-found, moving-in, first-choice-plainly, first-at-is}
+use Rattle.rules.proofs.Offered.{ℕ, _-_, _≤_, _<_, arith, _≡_, refl, sym, ap, _∙_, true, false, Option, none, some, List, eqb, length, leb-true, lt-ltb, eq-eqb}
+use Rattle.rules.proofs.Offered.{eqb-true, eqb-false, _and_, within, at, first, drop, low, moving, rise, closing, fits, choose, first-at, Fault, numbered}
+use Rattle.rules.proofs.Offered.{refuse-at, when, no-gear, checks, bad, seconds-fault, work-fault, _orelse_, gear-fault, PassesOthers, role-at, kind, about}
+use Rattle.rules.proofs.Offered.{driven-facts, no-facts, gear-facts, gear-list, sentence, why-lo, why-end, row-fault, why-fault, early-fault, said-of, why}
+use Rattle.rules.proofs.Offered.{by-test, if-ind, and-left, and-right, none-orelse, gears-last, first-found, moving-in, first-choice-plainly, first-at-is}
 use Rattle.rules.specs.declared.Vehicle.{Vehicle}
 use Rattle.rules.specs.declared.GearFacts.{GearFacts}
 use Rattle.reasons.specs.Says.{Wants}
@@ -39,7 +43,7 @@ module _ (car : Vehicle) (vs hs : List ℕ) (i : ℕ) (e : early-fault car vs hs
       first-choice-plainly car (role-at car vs hs i) (at vs i) (rise vs i) (bounds car vs hs i e) .none-fits
       (sym (first-at-is car vs hs (even car vs hs i e) i wants-moves ∙ rw (eq-eqb (at hs i) 0 wants-free)) ∙ wants-none) g l
 
-  listed-none : (g : ℕ) → gear-facts car (role-at car vs hs i) (at vs i) (rise vs i) g .fits ≡ false
+  listed-none : (g : ℕ) → gear-facts car (role-at car vs hs i) (closing (drop i vs)) (at vs i) (rise vs i) g .fits ≡ false
   unfolding gear-facts driven-facts no-facts
   listed-none g = if-ind (λ (f : GearFacts). f .fits ≡ false) (within (low car) (car .ng) g) (λ t. none-fit g (within-to _ _ _ t)) (λ t. refl)
 
@@ -48,7 +52,7 @@ module _ (car : Vehicle) (vs hs : List ℕ) (i : ℕ) (e : early-fault car vs hs
   wants-there f = record {
     none-chosen = wants-none;
     the-sentence = rw (wants-free, wants-none);
-    none-fits = λ g a b. rw (place (gear-facts car (role-at car vs hs i) (at vs i) (rise vs i)) g a b) (listed-none g);
+    none-fits = λ g a b. rw (place (gear-facts car (role-at car vs hs i) (closing (drop i vs)) (at vs i) (rise vs i)) g a b) (listed-none g);
   }
 
   pub wants-said : Wants (why car vs hs i)
@@ -79,7 +83,8 @@ module _ (car : Vehicle) (vs hs old : List ℕ) (P : PassesOthers car vs hs old)
   unfolding work-fault
   wanting-there =
       gear-found car vs hs 0 (length vs) i
-      (sym (none-orelse _ _ (P .one) ∙ none-orelse _ _ (P .two) ∙ none-orelse _ _ (P .three) ∙ gears-last car vs hs 0 (length vs) ∙ none-orelse _ _ (P .four-to-nine)) ∙ r)
+      (sym (none-orelse _ _ (P .one) ∙ none-orelse _ _ (P .two) ∙ none-orelse _ _ (P .three) ∙ gears-last car vs hs 0 (length vs)
+      ∙ none-orelse _ _ (P .four-to-nine)) ∙ r)
 
   in-trace : i < length vs
   unfolding bad

@@ -1,9 +1,9 @@
 -- What the functions that explain a second ask of their arguments.
-use Rattle.rules.specs.Words.{ℕ, suc, _≤_, _<_, _≡_, false, List, length, at}
+use Rattle.rules.specs.Words.{ℕ, suc, _≤_, _<_, _≡_, false, List, length, drop, at}
 use Rattle.rules.specs.declared.Vehicle.{Vehicle}
 use Rattle.rules.specs.declared.Reasons.{Reasons}
 use Rattle.rules.specs.Inside.{InBounds}
-use Rattle.rules.specs.Corrections.{here, firsts, after-A, after-B, gears}
+use Rattle.rules.specs.Corrections.{closing, here, firsts, after-A, after-B, gears}
 use Rattle.rules.specs.Units.{longest}
 use Rattle.rules.specs.Why.{ceiling-of}
 use Rattle.gears.specs.declared.Numbers.{Numbers}
@@ -29,6 +29,7 @@ pub record Low (us hs gs : List ℕ) (j : ℕ) : Type 0 where
 unfoldable pub chain-of : Vehicle → List ℕ → List ℕ → ℕ → Chain
 chain-of car us hs j = record {
   role = here car us hs j (firsts car us hs);
+  closes = closing (drop j us);
   choice = at (firsts car us hs) j;
   «after_a» = at (after-A car us hs) j;
   «after_b» = at (after-B car us hs) j;
@@ -43,7 +44,7 @@ pub record Loaded (k : Numbers) : Type 0 where
   pub bounds : InBounds car
 
 -- second i of the trip from a up to b, whose speeds, steps and holds pass the checks
-pub record Told (k : Numbers) (vs hs : List ℕ) (i a b : ℕ) : Type 0 where
+pub record InTrip (k : Numbers) (vs hs : List ℕ) (i a b : ℕ) : Type 0 where
   pub trip : Ahead vs a b
   pub rooms : length hs ≡ length vs
   pub short : length vs ≤ longest

@@ -1,5 +1,5 @@
 -- The words of the theorems on what is said of a second.
-use Rattle.rules.specs.Words.{ℕ, _+_, _-_, _≤_, _≡_, true, false, List, ℤ, getD, if_then_else_}
+use Rattle.rules.specs.Words.{ℕ, _+_, _-_, _*_, _≤_, _≡_, true, false, List, leb, eqb, ℤ, getD, if_then_else_, _and_, _or_}
 use Rattle.rules.specs.declared.Vehicle.{Vehicle}
 use Rattle.rules.specs.declared.Role.{Role}
 use Rattle.rules.specs.declared.GearFacts.{GearFacts}
@@ -26,6 +26,11 @@ pub record Listed (car : Vehicle) (here : Role) (v : ℕ) (d : ℤ) (g : ℕ) (f
   pub sufficing : fits car here v g ≡ true → f .enough ≡ enough car v d g
   pub Q-is : fits car here v g ≡ true → f .q ≡ power car v g .Q
   pub w-is : fits car here v g ≡ true → f .w ≡ power car v g .w
+
+-- what is listed of a gear agrees with itself: over its minimum is X at least 1000 x that minimum, and the lowest gear also fits below
+pub record Agrees (car : Vehicle) (g : ℕ) (f : GearFacts) : Type 0 where
+  pub over-said : f .«over_minimum» ≡ leb (1000 * f .minimum) (f .engine)
+  pub fits-said : f .fits ≡ (f .allowed and ((eqb g (low car) or f .«over_minimum») and f .«under_nmax»))
 
 -- the gear marked as chosen is the first choice of the facts listed, and the sentence that is given for it holds
 pub record Chooses (car : Vehicle) (here : Role) (v : ℕ) (d : ℤ) (r : Reasons) : Type 0 where

@@ -5,9 +5,9 @@ ghost use Rattle.rules.specs.Units.{start};
 ghost use Rattle.rules.specs.Gears.{required};
 ghost use Rattle.rules.specs.Corrections.{trip-speeds, trip-holds};
 ghost use Rattle.rules.specs.Why.{kind, sentence, clutch-reason, pedal-down, byte-of, nothing, said-of};
-ghost use Rattle.gears.specs.Parts.{Counts, Has, Lent, Parts};
+ghost use Rattle.gears.specs.Parts.{Counts, Has, Parts, OfLent};
 ghost use Rattle.gears.specs.Choosing.{most-E, Pace};
-ghost use Rattle.reasons.specs.Asks.{Loaded, Told, chain-of, uncorrected};
+ghost use Rattle.reasons.specs.Asks.{Loaded, InTrip, chain-of, uncorrected};
 use crate::Chain;
 use crate::facts::gear_facts;
 use crate::facts::gear_list;
@@ -104,8 +104,10 @@ fn trip_chain<'a>(
     trip: Span,
     about: usize,
 ) -> Chain
-    requires { ⌜ Parts k (now ratio) (now n) (now p) × Told k (now speeds) (now holds) about (trip .lo) (trip .hi) ⌝ }
-    ensures chain { λ r. ⌜ ((car : Vehicle) → Lent car k (now (ratio .entry)) (now (n .entry)) (now (p .entry)) → r ≡ chain-of car (trip-speeds (now (speeds .entry)) about) (trip-holds (now (speeds .entry)) (now (holds .entry)) about) (about - start (now (speeds .entry)) about)) ⌝ }
+    requires { ⌜ Parts k (now ratio) (now n) (now p) × InTrip k (now speeds) (now holds) about (trip .lo) (trip .hi) ⌝ }
+    ensures chain { λ r. ⌜ OfLent k (now (ratio .entry)) (now (n .entry)) (now (p .entry))
+        (λ car. r ≡ chain-of car (trip-speeds (now (speeds .entry)) about) (trip-holds (now (speeds .entry)) (now (holds .entry)) about)
+        (about - start (now (speeds .entry)) about)) ⌝ }
     ensures small { λ r. ⌜ r .«after_c» ≤ 11 ⌝ }
 {
     let mut room = [0u8; LONGEST];
@@ -139,16 +141,19 @@ pub fn explain<'a>(
     trip: Span,
     about: usize,
 ) -> Reasons
-    requires { ⌜ Parts k (now ratio) (now n) (now p) × Told k (now speeds) (now holds) about (trip .lo) (trip .hi) × (second + 1 < length (now speeds)) × (what ≡ kind (now speeds) second) ⌝ }
-    ensures { λ r. ⌜ ((car : Vehicle) → Lent car k (now (ratio .entry)) (now (n .entry)) (now (p .entry)) → r ≡ said-of car (now (speeds .entry)) (now (holds .entry)) second about none) ⌝ }
+    requires { ⌜ Parts k (now ratio) (now n) (now p) × InTrip k (now speeds) (now holds) about (trip .lo) (trip .hi) × (second + 1 < length (now speeds))
+        × (what ≡ kind (now speeds) second) ⌝ }
+    ensures { λ r. ⌜ OfLent k (now (ratio .entry)) (now (n .entry)) (now (p .entry))
+        (λ car. r ≡ said-of car (now (speeds .entry)) (now (holds .entry)) second about none) ⌝ }
 {
     let links = trip_chain(k, ratio, n, p, speeds, holds, trip, about);
     let role = links.role;
+    let closes = links.closes;
     let choice = links.choice;
     let v = speeds[about];
     let e = required_at(k, v, speeds[about + 1]);
     let held = holds[about];
-    let chosen = gear_facts(k, ratio, n, p, role, v, e, choice as usize);
+    let chosen = gear_facts(k, ratio, n, p, role, closes, v, e, choice as usize);
     let g = links.after_c;
     let reason = clutch_reason(k, ratio, speeds, second, g);
     Reasons {
@@ -156,7 +161,7 @@ pub fn explain<'a>(
         first: trip.lo,
         last: trip.hi - 1,
         required: e,
-        gears: gear_list(k, ratio, n, p, role, v, e),
+        gears: gear_list(k, ratio, n, p, role, closes, v, e),
         kind: what,
         role: role_code(role),
         held,

@@ -1,10 +1,10 @@
 // What is said of each gear at a second.
-ghost use Rattle.rules.specs.Words.{_≡_, ℕ, _-_, _*_, _≤_, _<_, ℤ, natAbs, _and_, at};
+ghost use Rattle.rules.specs.Words.{_≡_, ℕ, _-_, _*_, _≤_, _<_, ℤ, natAbs, eqb, _and_, _or_, at};
 ghost use Rattle.rules.specs.declared.Vehicle.{Vehicle};
-ghost use Rattle.rules.specs.Units.{fastest};
+ghost use Rattle.rules.specs.Units.{low};
 ghost use Rattle.rules.specs.Gears.{is-first, engine, minimum, allowed, over-minimum, required};
-ghost use Rattle.rules.specs.Why.{role-code, next-rule, minimum-rule, listed-power, driven-facts, no-facts, gear-facts, gear-list};
-ghost use Rattle.gears.specs.Parts.{low-in, Counts, Has, Lent, Parts};
+ghost use Rattle.rules.specs.Why.{role-code, minimum-role, next-rule, minimum-rule, listed-power, driven-facts, no-facts, gear-facts, gear-list};
+ghost use Rattle.gears.specs.Parts.{low-in, Counts, Has, Lent, Parts, OfLent};
 ghost use Rattle.gears.specs.Second.{Driven};
 ghost use Rattle.gears.specs.Choosing.{power-of, PowerSized, most-E, Weighed};
 ghost use Rattle.reasons.specs.Asks.{DrivenGear};
@@ -42,6 +42,16 @@ pub fn is_first(here: Role) -> bool
         Role::AfterLow => false,
         Role::Inner => false,
     }
+}
+
+// What it counts as for the minimum of the gear above the lowest.
+fn minimum_role(here: Role, closes: bool) -> Role
+    ensures { λ r. ⌜ r ≡ minimum-role here closes ⌝ }
+{
+    if closes {
+        return Role::Closing;
+    }
+    here
 }
 
 // The rule of the minimum of the gear above the lowest.
@@ -88,10 +98,10 @@ fn may_fit(k: Numbers, here: Role, g: usize) -> bool
     !is_first(here)
 }
 
-// Whether a gear whose X is x is over its minimum. The lowest has none.
-fn over(k: Numbers, here: Role, g: usize, x: u64) -> bool
+// Whether a gear whose X is x turns fast enough to fit: the lowest also below its minimum.
+fn turns_enough(k: Numbers, here: Role, g: usize, x: u64) -> bool
     requires { ⌜ DrivenGear k g ⌝ }
-    ensures { λ r. ⌜ ((car : Vehicle) (v : ℕ) → Counts car k → x ≡ engine car g v → r ≡ over-minimum car here v g) ⌝ }
+    ensures { λ r. ⌜ ((car : Vehicle) (v : ℕ) → Counts car k → x ≡ engine car g v → r ≡ (eqb g (low car) or over-minimum car here v g)) ⌝ }
 {
     if g == lowest(k) {
         return true;
@@ -109,7 +119,7 @@ fn listed_power<'a>(
     g: usize,
 ) -> Power
     requires { ⌜ Parts k (now ratio) (now n) (now p) × DrivenGear k g ⌝ }
-    ensures power { λ r. ⌜ ((car : Vehicle) → Lent car k (now (ratio .entry)) (now (n .entry)) (now (p .entry)) → power-of r ≡ listed-power car v g) ⌝ }
+    ensures power { λ r. ⌜ OfLent k (now (ratio .entry)) (now (n .entry)) (now (p .entry)) (λ car. power-of r ≡ listed-power car v g) ⌝ }
     ensures sized { λ r. ⌜ PowerSized r ⌝ }
 {
     if top(k) < engine(ratio, g, v) {
@@ -124,26 +134,32 @@ fn driven_facts(
     k: Numbers,
     ratio: &[u16; 10],
     here: Role,
+    closes: bool,
     v: u16,
     e: i64,
     g: usize,
     a: Power,
 ) -> GearFacts
     requires { ⌜ DrivenGear k g × Weighed a e × (at (now ratio) (g - 1) * v < 4294967296) ⌝ }
-    ensures { λ r. ⌜ ((car : Vehicle) (d : ℤ) → Has car k (now (ratio .entry)) → e ≡ required car v d → power-of a ≡ listed-power car v g → r ≡ driven-facts car here v d g) ⌝ }
+    ensures { λ r. ⌜
+        ((car : Vehicle) (d : ℤ) → Has car k (now (ratio .entry)) → e ≡ required car v d → power-of a ≡ listed-power car v g
+        → r ≡ driven-facts car here closes v d g) ⌝ }
 {
     let x = engine(ratio, g, v);
+    let by = minimum_role(here, closes);
+    let least = minimum(k, by, g);
+    let reaches = 1000 * least <= x;
     let may = may_fit(k, here, g);
-    let reaches = over(k, here, g, x);
+    let turns = turns_enough(k, here, g, x);
     let under = x <= top(k);
-    let inside = both(reaches, under);
+    let inside = both(turns, under);
     let suffices = enough(a, e);
     GearFacts {
         q: a.q,
         w: a.w,
         engine: x as u32,
-        minimum: minimum(k, here, g) as u32,
-        rule: minimum_rule(here, g - lowest(k)),
+        minimum: least as u32,
+        rule: minimum_rule(by, g - lowest(k)),
         allowed: may,
         over_minimum: reaches,
         under_nmax: under,
@@ -177,12 +193,15 @@ pub fn gear_facts<'a>(
     n: &'a [u16; 64],
     p: &'a [u32; 64],
     here: Role,
+    closes: bool,
     v: u16,
     e: i64,
     g: usize,
 ) -> GearFacts
     requires { ⌜ Parts k (now ratio) (now n) (now p) × (natAbs e ≤ most-E) ⌝ }
-    ensures { λ r. ⌜ ((car : Vehicle) (d : ℤ) → Lent car k (now (ratio .entry)) (now (n .entry)) (now (p .entry)) → e ≡ required car v d → r ≡ gear-facts car here v d g) ⌝ }
+    ensures { λ r. ⌜
+        ((car : Vehicle) (d : ℤ) → Lent car k (now (ratio .entry)) (now (n .entry)) (now (p .entry)) → e ≡ required car v d
+        → r ≡ gear-facts car here closes v d g) ⌝ }
 {
     let low = lowest(k);
     if g < low {
@@ -192,7 +211,7 @@ pub fn gear_facts<'a>(
         return no_facts();
     }
     let a = listed_power(k, ratio, n, p, v, g);
-    driven_facts(k, ratio, here, v, e, g, a)
+    driven_facts(k, ratio, here, closes, v, e, g, a)
 }
 
 // What is said of gears 1 to 10.
@@ -202,22 +221,25 @@ pub fn gear_list<'a>(
     n: &'a [u16; 64],
     p: &'a [u32; 64],
     here: Role,
+    closes: bool,
     v: u16,
     e: i64,
 ) -> [GearFacts; 10]
     requires { ⌜ Parts k (now ratio) (now n) (now p) × (natAbs e ≤ most-E) ⌝ }
-    ensures { λ r. ⌜ ((car : Vehicle) (d : ℤ) → Lent car k (now (ratio .entry)) (now (n .entry)) (now (p .entry)) → e ≡ required car v d → r ≡ gear-list car here v d) ⌝ }
+    ensures { λ r. ⌜
+        ((car : Vehicle) (d : ℤ) → Lent car k (now (ratio .entry)) (now (n .entry)) (now (p .entry)) → e ≡ required car v d → r ≡ gear-list car here closes v d)
+        ⌝ }
 {
     [
-        gear_facts(k, ratio, n, p, here, v, e, 1),
-        gear_facts(k, ratio, n, p, here, v, e, 2),
-        gear_facts(k, ratio, n, p, here, v, e, 3),
-        gear_facts(k, ratio, n, p, here, v, e, 4),
-        gear_facts(k, ratio, n, p, here, v, e, 5),
-        gear_facts(k, ratio, n, p, here, v, e, 6),
-        gear_facts(k, ratio, n, p, here, v, e, 7),
-        gear_facts(k, ratio, n, p, here, v, e, 8),
-        gear_facts(k, ratio, n, p, here, v, e, 9),
-        gear_facts(k, ratio, n, p, here, v, e, 10),
+        gear_facts(k, ratio, n, p, here, closes, v, e, 1),
+        gear_facts(k, ratio, n, p, here, closes, v, e, 2),
+        gear_facts(k, ratio, n, p, here, closes, v, e, 3),
+        gear_facts(k, ratio, n, p, here, closes, v, e, 4),
+        gear_facts(k, ratio, n, p, here, closes, v, e, 5),
+        gear_facts(k, ratio, n, p, here, closes, v, e, 6),
+        gear_facts(k, ratio, n, p, here, closes, v, e, 7),
+        gear_facts(k, ratio, n, p, here, closes, v, e, 8),
+        gear_facts(k, ratio, n, p, here, closes, v, e, 9),
+        gear_facts(k, ratio, n, p, here, closes, v, e, 10),
     ]
 }

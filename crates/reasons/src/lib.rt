@@ -15,9 +15,10 @@ pub struct Explained {
     pub reasons: Reasons,
 }
 
-// What a second is in its trip, its first choice, its gear after A, B and C, and the ceiling of B.
+// What a second is in its trip, whether it lies in the closing run, its first choice, its gear after A, B and C, and the ceiling of B.
 pub struct Chain {
     pub role: Role,
+    pub closes: bool,
     pub choice: u8,
     pub after_a: u8,
     pub after_b: u8,

@@ -10,14 +10,15 @@ use crate::explain::nothing;
 use crate::explain::uncorrected;
 use checks::Asked;
 use checks::Span;
+use checks::check_gears;
 use checks::check_opening;
 use checks::check_seconds;
-use checks::check_span;
 use checks::trip_start;
 use checks::trip_stop;
 use gears::derate;
 use gears::numbers_of;
 use rules::Answer;
+use rules::FASTEST;
 use rules::Refusal;
 use rules::Vehicle;
 use rules::moving;
@@ -63,7 +64,7 @@ fn before(first: usize) -> usize
 }
 
 // What is looked at, as of a hold: of a moving second its trip with the standing second on either side, as far as the trace has them; of a standing one itself.
-fn looked_at(speeds: &[u16], second: usize, trip: Span) -> Span
+fn hold_span(speeds: &[u16], second: usize, trip: Span) -> Span
     requires { ⌜ (second < length (now speeds)) × (trip .lo ≡ start (now speeds) second) × (trip .hi ≡ stop (now speeds) second) ⌝ }
     ensures from { λ r. ⌜ r .lo ≡ hold-span (now (speeds .entry)) second .lo ⌝ }
     ensures to { λ r. ⌜ r .hi ≡ hold-span (now (speeds .entry)) second .end ⌝ }
@@ -126,7 +127,7 @@ pub fn why<'a>(vehicle: Vehicle, speeds: &'a [u16], holds: &'a [u8], second: usi
         lo: trip_start(speeds, i),
         hi: trip_stop(speeds, i),
     };
-    let looked = looked_at(speeds, i, trip);
+    let looked = hold_span(speeds, i, trip);
     let mut powers = [0u32; 64];
     derate(
         vehicle.margin,
@@ -145,7 +146,7 @@ pub fn why<'a>(vehicle: Vehicle, speeds: &'a [u16], holds: &'a [u8], second: usi
     let Answer::Done = early else {
         return refused(early);
     };
-    let answer = check_span(
+    let answer = check_gears(
         k,
         &vehicle.ratio,
         &vehicle.n,
@@ -154,6 +155,7 @@ pub fn why<'a>(vehicle: Vehicle, speeds: &'a [u16], holds: &'a [u8], second: usi
         holds,
         none,
         looked,
+        FASTEST,
     );
     if what == 0 {
         return Explained {

@@ -1,20 +1,37 @@
 -- Document 01, "Sums done on paper": the starred cases, one table, one theorem; and a few rows of our own, each for a slip that the paper's rows let pass.
+pub mod Rows
 pub mod Cars
-use Rattle.rules.proofs.Base.{_≡_, refl, true, false, none, some, List, [], _∷_, pos, negℤ, _*ℤ_, replicate, drop, set, take, First, Closing, AfterLow, Inner, Hold, Release, Mend}
-use Rattle.rules.specs.Vocabulary.{role-at, job-from, none-held}
+use Rattle.rules.proofs.Base.{_≡_, refl, true, false, none, some, List, [], _∷_, pos, negℤ, _*ℤ_, replicate, drop, set, take, First, Closing, AfterLow}
+use Rattle.rules.proofs.Base.{Inner, Hold, Release, Mend, _++_, Done, Refused, TraceLength, RoomLength, VehicleField, OutsideTrace, SpeedOver}
+use Rattle.rules.proofs.Base.{StepOver, EndMoving, HoldNotDriven, HoldStanding, HoldOverRev, NoGear, JobEndsEarly, BadGroup, BadVersion, BadHold}
+use Rattle.rules.proofs.Base.{BytesAfter, RoomShort, BadPart, BadKind, NotFinite, OutOfBounds, KindMissing, BadFactor}
+use Rattle.rules.specs.Vocabulary.{bytes-of, shows-gears, first-gear-everywhere, one-trip-worked, first-trip-worked}
+use Rattle.rules.specs.Vocabulary.{role-at, job-from, none-held, cleared, most-groups, longest-job}
 use Rattle.rules.specs.Words.{_and_, _or_, within, every, first, highest, pass, table, patch, part}
-use Rattle.rules.specs.Units.{ratio-of, ratio-good, point-good, bounds, first-failed, bad-field, low, longest, moving, rise, start, run, stop, margin-good}
-use Rattle.rules.specs.Gears.{engine, minimum-of, minimum, under-nmax, over-minimum, allowed, fits, required, between, on-segment, reaches, segment, power-speed, power, enough, more, suits, beats, strongest, choose, is-first, next-minimum, derated}
-use Rattle.rules.specs.Corrections.{floor, closing, ceiling, here, first-choice, free, is-peak, peak, too-high, rising, too-low, slowing, firsts, after-A, after-B, gears, trip-speeds, trip-holds, first-at, gear-at, clutch, byte, card-at, card, role-of}
-use Rattle.rules.specs.Refusals.{refuse-at, _orelse_, when, trace-fault, room-fault, vehicle-fault, not-driven, check-number, checks, all-checks, bad, fault-of, seconds-fault, span-fault, work-fault, left}
+use Rattle.rules.specs.Units.{ratio-of, ratio-good, point-good, bounds, first-failed, bad-field, low, longest, moving, rise, start, run, stop}
+use Rattle.rules.specs.Units.{margin-good, most-gears, most-points}
+use Rattle.rules.specs.Gears.{engine, minimum-of, minimum, under-nmax, over-minimum, allowed, fits, required, between, on-segment, reaches, segment}
+use Rattle.rules.specs.Gears.{power-speed, power, enough, more, suits, beats, strongest, choose, is-first, next-minimum, derated}
+use Rattle.rules.specs.Corrections.{floor, closing, ceiling, here, first-choice, free, is-peak, peak, too-high, rising, too-low, slowing, firsts}
+use Rattle.rules.specs.Corrections.{after-A, after-B, gears, trip-speeds, trip-holds, first-at, gear-at, clutch, byte, card-at, card, role-of}
+use Rattle.rules.specs.Refusals.{refuse-at, _orelse_, when, trace-fault, room-fault, vehicle-fault, not-driven, check-number, checks, all-checks, bad}
+use Rattle.rules.specs.Refusals.{fault-of, seconds-fault, span-fault, work-fault, left, fault, told}
 use Rattle.rules.specs.Groups.{got, refused, hand-on, demand, early, group-if, group, form}
-use Rattle.rules.specs.Forms.{value, checked, bounded, _then_, seen, row-read, row as in-a-row, many, counted, whole, row-write, known, only-if}
-use Rattle.rules.specs.Job.{version, profile, gearbox, numbers as eight-numbers, point, curve, seconds, trace as speeds, hold, padded, vehicle-of, vehicle, put, holds, packed, stages, job, job-read, points-of, parts-of, gather, fields, read-fault, job-of}
-use Rattle.rules.specs.Write.{job-bytes, checks-fault}
+use Rattle.rules.specs.Forms.{value, checked, bounded, _then_, seen, row-read, row as in-a-row, many, counted, to-the-end, row-write, known, only-if}
+use Rattle.rules.specs.Job.{version, profile, gearbox, numbers as eight-numbers, point, curve, seconds, trace as speeds, one-hold, padded, vehicle-of}
+use Rattle.rules.specs.Job.{vehicle, put, holds, packed, stages, job, job-read, points-of, parts-of, gather, fields, read-fault, job-of, filled}
+use Rattle.rules.specs.Write.{job-bytes, checks-fault, write-fault}
 use Rattle.rules.specs.Edit.{showing, second, asked-speeds, asked-holds, around, hold-span, span, fails, asked-fault, edit-fault, asked-screen, edited}
 use Rattle.rules.specs.Summary.{tally, rests, drives, changes, summary, summary-fault, counted-summary, settled, updated}
-use Rattle.rules.specs.Text.{digits, decimal, heading, pedal, line, lines, card-text, refusal-text, worked-text, read-text, printed, program-room, printed-fault}
-use Rattle.rules.proofs.Cases.Cars.{vehicle-with, five-gears, car-with, car-of, car-Z, Z, halves, halves-after, gap, van-with, van, gap-van, margins-Z, inside, free-trip, steady, up, trace, split, two-trips, dip, dip-closing, slow-start, job-Z, counting, Value, too-long, Row, row, choice, next-minimums, firsts-of, refused-by, no-gear-at, margins-read, counted-as, of-Z, of-held, all-at, numbers, scaled, test, reading, refusal}
+use Rattle.rules.specs.Text.{digits, decimal, heading, pedal, line, lines, card-text, refusal-text, worked-text, read-text, printed, program-room}
+use Rattle.rules.specs.Text.{printed-fault}
+use Rattle.rules.specs.Why.{kind, about, role-code, minimum-role, next-rule, minimum-rule, listed-power, driven-facts, no-facts, gear-facts, gear-list}
+use Rattle.rules.specs.Why.{why-lo, why-end, row-fault, why-fault, early-fault, nothing, said-of, why}
+use Rattle.rules.proofs.Cases.Cars.{vehicle-with, five-gears, car-with, car-of, car-Z, Z, halves, halves-after, gap, van-with, van, gap-van, margins-Z}
+use Rattle.rules.proofs.Cases.Cars.{inside, free-trip, steady, up, trace, split, two-trips, dip, dip-closing, slow-start, job-Z, counting, too-long}
+use Rattle.rules.proofs.Cases.Cars.{choice, next-minimums, firsts-of, no-gear-at, margins-read, counted-as, of-Z, of-held, all-at, twice-corrected}
+use Rattle.rules.proofs.Cases.Cars.{said-of-gear, minimum-said, told-all, past-gears, tied}
+use Rattle.rules.proofs.Cases.Rows.{Row, row, refused-by, sums, papers, numbers, scaled, test, reading, refusal}
 
 rows : List Row
 rows =
@@ -78,7 +95,8 @@ rows =
     ∷ row (refusal (work-fault gap slow-start (0 ∷ 0 ∷ 2 ∷ 0 ∷ 0 ∷ 0 ∷ []) slow-start)) (refusal none)
     ∷ row (refusal (edit-fault gap (Release 2) (showing slow-start (0 ∷ 0 ∷ 2 ∷ 0 ∷ 0 ∷ 0 ∷ []) slow-start (all-at 0)))) (no-gear-at 3)
     -- request Thirteen: a van's gears are car Z's, each one higher: minima, choices, floors, cards
-    ∷ row (numbers (minimum van Inner 2 ∷ minimum van Inner 3 ∷ minimum van Closing 3 ∷ minimum van AfterLow 3 ∷ minimum van Inner 4 ∷ [])) (numbers (800 ∷ 720 ∷ 800 ∷ 920 ∷ 1400 ∷ []))
+    ∷ row (numbers (minimum van Inner 2 ∷ minimum van Inner 3 ∷ minimum van Closing 3 ∷ minimum van AfterLow 3 ∷ minimum van Inner 4 ∷ []))
+    (numbers (800 ∷ 720 ∷ 800 ∷ 920 ∷ 1400 ∷ []))
     ∷ row (numbers (choose van inside 500 (pos 0) ∷ choose van inside 500 (pos 36) ∷ choose van First 50 (pos 0) ∷ [])) (numbers (6 ∷ 5 ∷ 2 ∷ []))
     ∷ row (numbers (floor van 200 ∷ floor van 501 ∷ [])) (numbers (2 ∷ 3 ∷ []))
     ∷ row (numbers (card van trace (replicate 5 0))) (numbers (18 ∷ 2 ∷ 3 ∷ 19 ∷ 0 ∷ []))
@@ -104,18 +122,25 @@ rows =
     ∷ row (numbers (card Z two-trips (replicate 11 0))) (numbers (17 ∷ 17 ∷ 17 ∷ 1 ∷ 1 ∷ 1 ∷ 2 ∷ 4 ∷ 2 ∷ 2 ∷ 0 ∷ []))
     -- the two buttons: gear 3 held at second 2, and released again; a free second released
     ∷ row (numbers (edited Z (Hold 2 3) (showing trace (replicate 5 0) (17 ∷ 1 ∷ 2 ∷ 18 ∷ 0 ∷ []) (all-at 0)) .card)) (numbers (17 ∷ 1 ∷ 19 ∷ 18 ∷ 0 ∷ []))
-    ∷ row (numbers (edited Z (Release 2) (showing trace (0 ∷ 0 ∷ 3 ∷ 0 ∷ 0 ∷ []) (17 ∷ 1 ∷ 19 ∷ 18 ∷ 0 ∷ []) (all-at 0)) .card)) (numbers (17 ∷ 1 ∷ 2 ∷ 18 ∷ 0 ∷ []))
-    ∷ row (numbers (edited Z (Release 2) (showing trace (0 ∷ 0 ∷ 3 ∷ 0 ∷ 0 ∷ []) (17 ∷ 1 ∷ 19 ∷ 18 ∷ 0 ∷ []) (all-at 0)) .holds)) (numbers (0 ∷ 0 ∷ 0 ∷ 0 ∷ 0 ∷ []))
+    ∷ row (numbers (edited Z (Release 2) (showing trace (0 ∷ 0 ∷ 3 ∷ 0 ∷ 0 ∷ []) (17 ∷ 1 ∷ 19 ∷ 18 ∷ 0 ∷ []) (all-at 0)) .card))
+    (numbers (17 ∷ 1 ∷ 2 ∷ 18 ∷ 0 ∷ []))
+    ∷ row (numbers (edited Z (Release 2) (showing trace (0 ∷ 0 ∷ 3 ∷ 0 ∷ 0 ∷ []) (17 ∷ 1 ∷ 19 ∷ 18 ∷ 0 ∷ []) (all-at 0)) .holds))
+    (numbers (0 ∷ 0 ∷ 0 ∷ 0 ∷ 0 ∷ []))
     ∷ row (numbers (edited Z (Release 2) (showing trace (replicate 5 0) (17 ∷ 1 ∷ 2 ∷ 18 ∷ 0 ∷ []) (all-at 0)) .card)) (numbers (17 ∷ 1 ∷ 2 ∷ 18 ∷ 0 ∷ []))
     -- holding gear 0 is refused by 7: at a moving second, a hold byte as it was; at a standing one; where an earlier second of the span is above ng, there
-    ∷ row (refusal (edit-fault Z (Hold 2 0) (showing trace (0 ∷ 0 ∷ 3 ∷ 0 ∷ 0 ∷ []) (17 ∷ 1 ∷ 19 ∷ 18 ∷ 0 ∷ []) (all-at 0)))) (refusal (some (record { no = 7; spot = 2 })))
-    ∷ row (numbers (edited Z (Hold 2 0) (showing trace (0 ∷ 0 ∷ 3 ∷ 0 ∷ 0 ∷ []) (17 ∷ 1 ∷ 19 ∷ 18 ∷ 0 ∷ []) (all-at 0)) .holds)) (numbers (0 ∷ 0 ∷ 3 ∷ 0 ∷ 0 ∷ []))
+    ∷ row (refusal (edit-fault Z (Hold 2 0) (showing trace (0 ∷ 0 ∷ 3 ∷ 0 ∷ 0 ∷ []) (17 ∷ 1 ∷ 19 ∷ 18 ∷ 0 ∷ []) (all-at 0))))
+    (refusal (some (record { no = 7; spot = 2 })))
+    ∷ row (numbers (edited Z (Hold 2 0) (showing trace (0 ∷ 0 ∷ 3 ∷ 0 ∷ 0 ∷ []) (17 ∷ 1 ∷ 19 ∷ 18 ∷ 0 ∷ []) (all-at 0)) .holds))
+    (numbers (0 ∷ 0 ∷ 3 ∷ 0 ∷ 0 ∷ []))
     ∷ row (refusal (edit-fault Z (Hold 4 0) (showing trace (replicate 5 0) (replicate 5 0) (all-at 0)))) (refusal (some (record { no = 7; spot = 4 })))
     ∷ row (refusal (edit-fault Z (Hold 2 0) (showing trace (0 ∷ 6 ∷ 0 ∷ 0 ∷ 0 ∷ []) (replicate 5 0) (all-at 0)))) (refusal (some (record { no = 7; spot = 1 })))
     -- after 4, 5 and 6 of the span
-    ∷ row (refusal (edit-fault Z (Hold 1 0) (showing (0 ∷ 50 ∷ 2001 ∷ 50 ∷ 0 ∷ []) (replicate 5 0) (replicate 5 0) (all-at 0)))) (refusal (some (record { no = 4; spot = 2 })))
-    ∷ row (refusal (edit-fault Z (Hold 1 0) (showing (0 ∷ 50 ∷ 201 ∷ 100 ∷ 0 ∷ []) (replicate 5 0) (replicate 5 0) (all-at 0)))) (refusal (some (record { no = 5; spot = 2 })))
-    ∷ row (refusal (edit-fault Z (Hold 2 0) (showing (50 ∷ 50 ∷ 50 ∷ 0 ∷ 0 ∷ []) (replicate 5 0) (replicate 5 0) (all-at 0)))) (refusal (some (record { no = 6; spot = 0 })))
+    ∷ row (refusal (edit-fault Z (Hold 1 0) (showing (0 ∷ 50 ∷ 2001 ∷ 50 ∷ 0 ∷ []) (replicate 5 0) (replicate 5 0) (all-at 0))))
+    (refusal (some (record { no = 4; spot = 2 })))
+    ∷ row (refusal (edit-fault Z (Hold 1 0) (showing (0 ∷ 50 ∷ 201 ∷ 100 ∷ 0 ∷ []) (replicate 5 0) (replicate 5 0) (all-at 0))))
+    (refusal (some (record { no = 5; spot = 2 })))
+    ∷ row (refusal (edit-fault Z (Hold 2 0) (showing (50 ∷ 50 ∷ 50 ∷ 0 ∷ 0 ∷ []) (replicate 5 0) (replicate 5 0) (all-at 0))))
+    (refusal (some (record { no = 6; spot = 0 })))
     -- request Six: derated at the points first, interpolated after that
     ∷ row (scaled (power (margins-Z 10 (0 ∷ 50 ∷ 0 ∷ 0 ∷ 0 ∷ 0 ∷ 0 ∷ [])) 500 5 .Q)) (scaled (pos 10800000000))
     -- enough power, and most power, are judged on it: 4 and 1 without a margin
@@ -131,21 +156,27 @@ rows =
     ∷ row (numbers (drop 62 (job-bytes 1 Z trace (0 ∷ 0 ∷ 3 ∷ 0 ∷ 0 ∷ [])))) (numbers (1 ∷ 2 ∷ 3 ∷ []))
     -- a sample mended, and the speeds that are left
     ∷ row (numbers (edited Z (Mend 2 110) (showing trace (replicate 5 0) (17 ∷ 1 ∷ 2 ∷ 18 ∷ 0 ∷ []) (all-at 0)) .card)) (numbers (17 ∷ 1 ∷ 18 ∷ 18 ∷ 0 ∷ []))
-    ∷ row (numbers (edited Z (Mend 2 110) (showing trace (replicate 5 0) (17 ∷ 1 ∷ 2 ∷ 18 ∷ 0 ∷ []) (all-at 0)) .speeds)) (numbers (0 ∷ 50 ∷ 110 ∷ 100 ∷ 0 ∷ []))
+    ∷ row (numbers (edited Z (Mend 2 110) (showing trace (replicate 5 0) (17 ∷ 1 ∷ 2 ∷ 18 ∷ 0 ∷ []) (all-at 0)) .speeds))
+    (numbers (0 ∷ 50 ∷ 110 ∷ 100 ∷ 0 ∷ []))
     -- a trip split, and two trips joined; a trip begun, and one ended
     ∷ row (numbers (edited Z (Mend 2 0) (showing trace (replicate 5 0) (17 ∷ 1 ∷ 2 ∷ 18 ∷ 0 ∷ []) (all-at 0)) .card)) (numbers (17 ∷ 17 ∷ 17 ∷ 1 ∷ 0 ∷ []))
     ∷ row (numbers (edited Z (Mend 2 150) (showing split (replicate 5 0) (17 ∷ 17 ∷ 17 ∷ 1 ∷ 0 ∷ []) (all-at 0)) .card)) (numbers (17 ∷ 1 ∷ 2 ∷ 18 ∷ 0 ∷ []))
     ∷ row (numbers (edited Z (Mend 2 50) (showing (replicate 4 0) (replicate 4 0) (replicate 4 0) (all-at 0)) .card)) (numbers (0 ∷ 17 ∷ 17 ∷ 0 ∷ []))
     ∷ row (numbers (edited Z (Mend 2 0) (showing (0 ∷ 0 ∷ 50 ∷ 0 ∷ []) (replicate 4 0) (0 ∷ 17 ∷ 17 ∷ 0 ∷ []) (all-at 0)) .card)) (numbers (replicate 4 0))
     -- a hold that would stand at rest is refused by 8; a step too large is found at the neighbour, an end that would move, a second outside the trace
-    ∷ row (refusal (edit-fault Z (Mend 2 9) (showing trace (0 ∷ 0 ∷ 3 ∷ 0 ∷ 0 ∷ []) (17 ∷ 1 ∷ 19 ∷ 18 ∷ 0 ∷ []) (all-at 0)))) (refusal (some (record { no = 8; spot = 2 })))
-    ∷ row (refusal (edit-fault Z (Mend 3 151) (showing trace (replicate 5 0) (17 ∷ 1 ∷ 2 ∷ 18 ∷ 0 ∷ []) (all-at 0)))) (refusal (some (record { no = 5; spot = 4 })))
-    ∷ row (refusal (edit-fault Z (Mend 4 10) (showing trace (replicate 5 0) (17 ∷ 1 ∷ 2 ∷ 18 ∷ 0 ∷ []) (all-at 0)))) (refusal (some (record { no = 6; spot = 4 })))
-    ∷ row (refusal (edit-fault Z (Mend 5 10) (showing trace (replicate 5 0) (17 ∷ 1 ∷ 2 ∷ 18 ∷ 0 ∷ []) (all-at 0)))) (refusal (some (record { no = 11; spot = 5 })))
+    ∷ row (refusal (edit-fault Z (Mend 2 9) (showing trace (0 ∷ 0 ∷ 3 ∷ 0 ∷ 0 ∷ []) (17 ∷ 1 ∷ 19 ∷ 18 ∷ 0 ∷ []) (all-at 0))))
+    (refusal (some (record { no = 8; spot = 2 })))
+    ∷ row (refusal (edit-fault Z (Mend 3 151) (showing trace (replicate 5 0) (17 ∷ 1 ∷ 2 ∷ 18 ∷ 0 ∷ []) (all-at 0))))
+    (refusal (some (record { no = 5; spot = 4 })))
+    ∷ row (refusal (edit-fault Z (Mend 4 10) (showing trace (replicate 5 0) (17 ∷ 1 ∷ 2 ∷ 18 ∷ 0 ∷ []) (all-at 0))))
+    (refusal (some (record { no = 6; spot = 4 })))
+    ∷ row (refusal (edit-fault Z (Mend 5 10) (showing trace (replicate 5 0) (17 ∷ 1 ∷ 2 ∷ 18 ∷ 0 ∷ []) (all-at 0))))
+    (refusal (some (record { no = 11; spot = 5 })))
     ∷ row (numbers (edited Z (Mend 4 10) (showing trace (replicate 5 0) (17 ∷ 1 ∷ 2 ∷ 18 ∷ 0 ∷ []) (all-at 0)) .speeds)) (numbers trace)
     -- the step into the span is not looked at, and no byte before it is written
     ∷ row (refusal (edit-fault Z (Mend 4 60) (showing (0 ∷ 100 ∷ 200 ∷ 0 ∷ 50 ∷ 0 ∷ []) (replicate 6 0) (replicate 6 0) (all-at 0)))) (refusal none)
-    ∷ row (numbers (edited Z (Mend 4 60) (showing (0 ∷ 100 ∷ 200 ∷ 0 ∷ 50 ∷ 0 ∷ []) (replicate 6 0) (replicate 6 0) (all-at 0)) .card)) (numbers (0 ∷ 0 ∷ 0 ∷ 17 ∷ 17 ∷ 0 ∷ []))
+    ∷ row (numbers (edited Z (Mend 4 60) (showing (0 ∷ 100 ∷ 200 ∷ 0 ∷ 50 ∷ 0 ∷ []) (replicate 6 0) (replicate 6 0) (all-at 0)) .card))
+    (numbers (0 ∷ 0 ∷ 0 ∷ 17 ∷ 17 ∷ 0 ∷ []))
     -- request Nine: car Z's card has two standing seconds, one in gear 1, two in gear 2, of which one with the clutch down, and one gear change
     ∷ row (counted-as of-Z) (numbers (2 ∷ 1 ∷ 2 ∷ 0 ∷ 0 ∷ 0 ∷ 0 ∷ 0 ∷ 0 ∷ 0 ∷ 0 ∷ 1 ∷ []))
     ∷ row (counted-as of-held) (numbers (2 ∷ 1 ∷ 1 ∷ 1 ∷ 0 ∷ 0 ∷ 0 ∷ 0 ∷ 0 ∷ 0 ∷ 0 ∷ 2 ∷ []))
@@ -158,9 +189,11 @@ rows =
     ∷ row (counted-as (edited Z (Hold 2 3) (showing trace (replicate 5 0) (17 ∷ 1 ∷ 2 ∷ 18 ∷ 0 ∷ []) of-Z) .summary)) (counted-as of-held)
     ∷ row (counted-as (edited Z (Release 2) (showing trace (0 ∷ 0 ∷ 3 ∷ 0 ∷ 0 ∷ []) (17 ∷ 1 ∷ 19 ∷ 18 ∷ 0 ∷ []) of-held) .summary)) (counted-as of-Z)
     -- mended: the trip is split, and a standing second is one more
-    ∷ row (counted-as (edited Z (Mend 2 0) (showing trace (replicate 5 0) (17 ∷ 1 ∷ 2 ∷ 18 ∷ 0 ∷ []) of-Z) .summary)) (numbers (3 ∷ 2 ∷ 0 ∷ 0 ∷ 0 ∷ 0 ∷ 0 ∷ 0 ∷ 0 ∷ 0 ∷ 0 ∷ 0 ∷ []))
+    ∷ row (counted-as (edited Z (Mend 2 0) (showing trace (replicate 5 0) (17 ∷ 1 ∷ 2 ∷ 18 ∷ 0 ∷ []) of-Z) .summary))
+    (numbers (3 ∷ 2 ∷ 0 ∷ 0 ∷ 0 ∷ 0 ∷ 0 ∷ 0 ∷ 0 ∷ 0 ∷ 0 ∷ 0 ∷ []))
     -- a wrong summary: each count stops at 0 and at 65,535, judged once, on the result
-    ∷ row (counted-as (edited Z (Mend 2 0) (showing trace (replicate 5 0) (17 ∷ 1 ∷ 2 ∷ 18 ∷ 0 ∷ []) (all-at 0)) .summary)) (numbers (1 ∷ 1 ∷ 0 ∷ 0 ∷ 0 ∷ 0 ∷ 0 ∷ 0 ∷ 0 ∷ 0 ∷ 0 ∷ 0 ∷ []))
+    ∷ row (counted-as (edited Z (Mend 2 0) (showing trace (replicate 5 0) (17 ∷ 1 ∷ 2 ∷ 18 ∷ 0 ∷ []) (all-at 0)) .summary))
+    (numbers (1 ∷ 1 ∷ 0 ∷ 0 ∷ 0 ∷ 0 ∷ 0 ∷ 0 ∷ 0 ∷ 0 ∷ 0 ∷ 0 ∷ []))
     ∷ row (counted-as (edited Z (Mend 2 0) (showing trace (replicate 5 0) (17 ∷ 1 ∷ 2 ∷ 18 ∷ 0 ∷ []) (all-at 65535)) .summary))
     (numbers (65535 ∷ 65535 ∷ 65533 ∷ 65535 ∷ 65535 ∷ 65535 ∷ 65535 ∷ 65535 ∷ 65535 ∷ 65535 ∷ 65535 ∷ 65534 ∷ []))
     -- a refused edit changes no count
@@ -182,16 +215,20 @@ rows =
     ∷ row (refusal (read-fault (job-read (counting (form 16384)) 16384 16384))) (refusal (some (record { no = 12; spot = 58 })))
     ∷ row (refusal (read-fault (job-read (counting (form 16385)) 65535 65535))) (refusal (some (record { no = 1; spot = 0 })))
     -- request Six: version 2 has a margin behind each p; read back, the job has its version and its margins
-    ∷ row (numbers (part (job-bytes 2 (margins-Z 10 (0 ∷ 50 ∷ 0 ∷ 1 ∷ 0 ∷ 0 ∷ 2 ∷ [])) trace (replicate 5 0)) 28 41)) (numbers (160 ∷ 6 ∷ 100 ∷ 0 ∷ 136 ∷ 14 ∷ 172 ∷ 2 ∷ 50 ∷ 240 ∷ 21 ∷ 244 ∷ 3 ∷ []))
-    ∷ row (numbers (margins-read (job-bytes 2 (margins-Z 10 (0 ∷ 50 ∷ 0 ∷ 1 ∷ 0 ∷ 0 ∷ 2 ∷ [])) trace (replicate 5 0)))) (numbers (2 ∷ 0 ∷ 50 ∷ 0 ∷ 1 ∷ 0 ∷ 0 ∷ 2 ∷ 0 ∷ []))
+    ∷ row (numbers (part (job-bytes 2 (margins-Z 10 (0 ∷ 50 ∷ 0 ∷ 1 ∷ 0 ∷ 0 ∷ 2 ∷ [])) trace (replicate 5 0)) 28 41))
+    (numbers (160 ∷ 6 ∷ 100 ∷ 0 ∷ 136 ∷ 14 ∷ 172 ∷ 2 ∷ 50 ∷ 240 ∷ 21 ∷ 244 ∷ 3 ∷ []))
+    ∷ row (numbers (margins-read (job-bytes 2 (margins-Z 10 (0 ∷ 50 ∷ 0 ∷ 1 ∷ 0 ∷ 0 ∷ 2 ∷ [])) trace (replicate 5 0))))
+    (numbers (2 ∷ 0 ∷ 50 ∷ 0 ∷ 1 ∷ 0 ∷ 0 ∷ 2 ∷ 0 ∷ []))
     ∷ row (numbers (margins-read job-Z)) (numbers (1 ∷ 0 ∷ 0 ∷ 0 ∷ 0 ∷ 0 ∷ 0 ∷ 0 ∷ 0 ∷ []))
     -- the writer: 14 before everything else; a margin in version 1 is 3 at field 12, after 11 and before 13
     ∷ row (refusal (checks-fault 4 Z [] [])) (refusal (some (record { no = 14; spot = 0 })))
     ∷ row (refusal (checks-fault 0 Z [] [])) (refusal (some (record { no = 14; spot = 0 })))
     ∷ row (refusal (checks-fault 1 (margins-Z 10 (0 ∷ 0 ∷ 0 ∷ 0 ∷ 0 ∷ 0 ∷ 1 ∷ [])) trace (replicate 5 0))) (refusal (some (record { no = 3; spot = 12 })))
     ∷ row (refusal (checks-fault 1 (margins-Z 51 (0 ∷ 0 ∷ 0 ∷ 0 ∷ 0 ∷ 0 ∷ 1 ∷ [])) trace (replicate 5 0))) (refusal (some (record { no = 3; spot = 10 })))
-    ∷ row (refusal (checks-fault 1 (vehicle-with 0 5 (five-gears 12000) 10 (1 ∷ []) 799 5600 1000) trace (replicate 5 0))) (refusal (some (record { no = 3; spot = 12 })))
-    ∷ row (refusal (checks-fault 2 (vehicle-with 0 5 (five-gears 12000) 10 (1 ∷ []) 799 5600 1000) trace (replicate 5 0))) (refusal (some (record { no = 3; spot = 13 })))
+    ∷ row (refusal (checks-fault 1 (vehicle-with 0 5 (five-gears 12000) 10 (1 ∷ []) 799 5600 1000) trace (replicate 5 0)))
+    (refusal (some (record { no = 3; spot = 12 })))
+    ∷ row (refusal (checks-fault 2 (vehicle-with 0 5 (five-gears 12000) 10 (1 ∷ []) 799 5600 1000) trace (replicate 5 0)))
+    (refusal (some (record { no = 3; spot = 13 })))
     ∷ row (refusal (checks-fault 1 (margins-Z 10 (0 ∷ 0 ∷ 0 ∷ 0 ∷ 0 ∷ 0 ∷ 0 ∷ 9 ∷ [])) trace (replicate 5 0))) (refusal none)
     ∷ row (refusal (checks-fault 2 (margins-Z 10 (0 ∷ 0 ∷ 0 ∷ 0 ∷ 0 ∷ 0 ∷ 1 ∷ [])) trace (replicate 5 0))) (refusal none)
     -- request Thirteen: version 3 has the profile behind the version; 0 or 1, and ng of a van 3 at least, as they are read; another version is 14
@@ -206,6 +243,58 @@ rows =
     ∷ row (refusal (checks-fault 2 van trace (replicate 5 0))) (refused-by 3 1)
     ∷ row (refusal (checks-fault 3 van trace (replicate 5 0))) (refusal none)
     ∷ row (refusal (checks-fault 3 van trace (0 ∷ 0 ∷ 1 ∷ 0 ∷ 0 ∷ []))) (refused-by 7 2)
+    -- two trips, both corrected: at seconds 4 and 12 the first choice is 5, the gear 2
+    ∷ row (numbers (first-at Z twice-corrected (replicate 17 0) 4 ∷ first-at Z twice-corrected (replicate 17 0) 12 ∷ [])) (numbers (5 ∷ 5 ∷ []))
+    ∷ row (numbers (card Z twice-corrected (replicate 17 0)))
+    (numbers (17 ∷ 1 ∷ 1 ∷ 1 ∷ 2 ∷ 4 ∷ 2 ∷ 2 ∷ 17 ∷ 1 ∷ 1 ∷ 1 ∷ 2 ∷ 4 ∷ 2 ∷ 2 ∷ 0 ∷ []))
+    -- the impostors: first gear everywhere; the first trip worked, at second 4, and first choices copied for the later one, at second 12
+    ∷ row (numbers (first-gear-everywhere Z trace (replicate 5 0) (replicate 5 0) .card)) (numbers (17 ∷ 1 ∷ 1 ∷ 1 ∷ 0 ∷ []))
+    ∷ row (numbers (part (first-trip-worked Z twice-corrected (replicate 17 0) (replicate 17 0) .card) 4 5)) (numbers (2 ∷ []))
+    ∷ row (numbers (part (first-trip-worked Z twice-corrected (replicate 17 0) (replicate 17 0) .card) 12 13)) (numbers (5 ∷ []))
+    -- request Two in `why`: at a trip's first second in the closing run gear 2's minimum is idle itself, and X is below it; not in the closing run nine tenths
+    ∷ row (minimum-said (0 ∷ 110 ∷ 0 ∷ []) 1 2) (numbers (800 ∷ 3 ∷ 770000 ∷ []))
+    ∷ row (test (said-of-gear (0 ∷ 110 ∷ 0 ∷ []) 1 2 .«over_minimum»)) (test false)
+    ∷ row (minimum-said (0 ∷ 110 ∷ 110 ∷ 0 ∷ []) 1 2) (numbers (720 ∷ 2 ∷ 770000 ∷ []))
+    -- gear 1 also fits when X, 600,000, is below its minimum
+    ∷ row (test (said-of-gear trace 1 1 .«over_minimum»)) (test false)
+    ∷ row (test (said-of-gear trace 1 1 .fits)) (test true)
+    -- document 01's table, and the numbers of document 02: each refusal with its number and its place; accepted is 0 at 0
+    ∷ row (numbers (told-all (Done ∷ Refused TraceLength ∷ Refused RoomLength ∷ Refused (VehicleField 7) ∷ Refused (OutsideTrace 7) ∷ Refused (SpeedOver 7) ∷
+    Refused (StepOver 7) ∷ Refused (EndMoving 7) ∷ Refused (HoldNotDriven 7) ∷ Refused (HoldStanding 7) ∷ Refused (HoldOverRev 7) ∷ Refused (NoGear 7) ∷
+    Refused (JobEndsEarly 7) ∷ Refused (BadGroup 7) ∷ Refused BadVersion ∷ Refused (BadHold 7) ∷ Refused (BytesAfter 7) ∷ Refused (RoomShort 7) ∷ Refused
+    BadPart ∷ Refused (BadKind 7) ∷ Refused (NotFinite 7) ∷ Refused (OutOfBounds 7) ∷ Refused (KindMissing 7) ∷ Refused BadFactor ∷ [])))
+    (numbers (0 ∷ 0 ∷ 1 ∷ 0 ∷ 2 ∷ 0 ∷ 3 ∷ 7 ∷ 11 ∷ 7 ∷ 4 ∷ 7 ∷ 5 ∷ 7 ∷ 6 ∷ 7 ∷ 7 ∷ 7 ∷ 8 ∷ 7 ∷ 9 ∷ 7 ∷ 10 ∷ 7 ∷ 12 ∷ 7 ∷ 13 ∷ 7 ∷ 14 ∷ 0 ∷ 15 ∷ 7 ∷ 16 ∷ 7 ∷
+    17 ∷ 7 ∷ 18 ∷ 0 ∷ 19 ∷ 7 ∷ 20 ∷ 7 ∷ 21 ∷ 7 ∷ 22 ∷ 7 ∷ 23 ∷ 0 ∷ []))
+    -- what a second is goes by the first choice before it: after gear 1, though gear 2 is chosen at the second itself
+    ∷ row (numbers (minimum Z (role-at Z (0 ∷ 50 ∷ 150 ∷ 150 ∷ 0 ∷ []) (replicate 5 0) 2) 2 ∷ [])) (numbers (920 ∷ []))
+    -- a byte after the end; a hold of gear 0, and one at the second of the hold before
+    ∷ row (refusal (read-fault (job-read (job-Z ++ (0 ∷ [])) 5 5))) (refused-by 16 63)
+    ∷ row (refusal (read-fault (job-read (take 62 job-Z ++ (1 ∷ 2 ∷ 0 ∷ [])) 5 5))) (refused-by 15 63)
+    ∷ row (refusal (read-fault (job-read (take 62 job-Z ++ (2 ∷ 2 ∷ 3 ∷ 2 ∷ 3 ∷ [])) 5 5))) (refused-by 15 65)
+    -- room beyond what is read stays; places past the gears read back as 0
+    ∷ row (numbers (filled (7 ∷ 7 ∷ 7 ∷ 7 ∷ []) (1 ∷ 2 ∷ []))) (numbers (1 ∷ 2 ∷ 7 ∷ 7 ∷ []))
+    ∷ row (numbers (drop 4 (cleared past-gears .ratio))) (numbers (2800 ∷ 0 ∷ 0 ∷ 0 ∷ 0 ∷ 0 ∷ []))
+    -- the longest job, of three bytes a group
+    ∷ row (numbers (longest-job 16384 ∷ [])) (numbers (148104 ∷ []))
+    -- pass A lowers no gear past nmax, and pass B none: at V 600 gear 1 turns too fast
+    ∷ row (numbers (pass (peak Z (replicate 4 600) free-trip) 3 (1 ∷ 2 ∷ 1 ∷ []))) (numbers (1 ∷ 2 ∷ 1 ∷ []))
+    ∷ row (numbers (pass (rising Z (400 ∷ 600 ∷ 700 ∷ []) free-trip) 2 (1 ∷ 3 ∷ []))) (numbers (1 ∷ 2 ∷ []))
+    -- the passes see gears already corrected: first choices 1, 5, 5, 5, 5, 5
+    ∷ row (numbers (gears Z (50 ∷ 500 ∷ 510 ∷ 520 ∷ 530 ∷ 540 ∷ 0 ∷ []) (replicate 6 0))) (numbers (1 ∷ 1 ∷ 2 ∷ 2 ∷ 3 ∷ 3 ∷ []))
+    -- a trace of one second is accepted
+    ∷ row (refusal (work-fault Z (0 ∷ []) (0 ∷ []) (0 ∷ []))) (refusal none)
+    -- on a wrong card: the second after the trip stays as it was, and so does every byte where a standing second is released
+    ∷ row (numbers (edited Z (Hold 2 3) (showing trace (replicate 5 0) (replicate 5 9) (all-at 0)) .card)) (numbers (17 ∷ 1 ∷ 19 ∷ 18 ∷ 9 ∷ []))
+    ∷ row (numbers (edited Z (Release 4) (showing trace (replicate 5 0) (replicate 5 9) (all-at 0)) .card)) (numbers (replicate 5 9))
+    -- where a standing second is released no other second is looked at
+    ∷ row (refusal (edit-fault Z (Release 4) (showing trace (0 ∷ 6 ∷ 0 ∷ 0 ∷ 0 ∷ []) (replicate 5 0) (all-at 0)))) (refusal none)
+    -- 17, with the length needed, after the checks
+    ∷ row (refusal (write-fault 1 Z trace (replicate 5 0) (replicate 62 0))) (refused-by 17 63)
+    ∷ row (refusal (write-fault 1 Z trace (0 ∷ 0 ∷ 6 ∷ 0 ∷ 0 ∷ []) [])) (refused-by 7 2)
+    -- most power, the higher gear on a tie: at V 500 gears 1 and 2 both have 88.0 kW less the margin
+    ∷ row (numbers (choose tied inside 500 (pos 150) ∷ [])) (numbers (2 ∷ []))
+    -- 7 before 10, though the one is found at a hold and the other after it
+    ∷ row (refusal (work-fault gap dip (0 ∷ 6 ∷ 0 ∷ 1 ∷ 0 ∷ 0 ∷ 0 ∷ []) dip)) (refused-by 7 1)
     -- what the card program prints of car Z's job
     ∷ row (numbers (printed job-Z)) (numbers (
     115 ∷ 101 ∷ 99 ∷ 111 ∷ 110 ∷ 100 ∷ 32 ∷ 115 ∷ 112 ∷ 101 ∷ 101 ∷ 100 ∷ 32 ∷ 103 ∷ 101 ∷ 97 ∷ 114 ∷ 32 ∷ 99 ∷ 108 ∷ 117 ∷ 116 ∷ 99 ∷ 104 ∷ 10 ∷
@@ -214,14 +303,19 @@ rows =
     48 ∷ 32 ∷ 48 ∷ 32 ∷ 117 ∷ 112 ∷ 10 ∷ []))
     ∷ []
 
-sums : List Row → List Value
-sums [] = []
-sums (r ∷ rs) = r .worked ∷ sums rs
-
-papers : List Row → List Value
-papers [] = []
-papers (r ∷ rs) = r .paper ∷ papers rs
-
 sums-done-on-paper : sums rows ≡ papers rows
-unfolding sums papers rows row choice vehicle-with five-gears van-with van gap-van refused-by car-of car-Z Z halves inside free-trip steady up trace two-trips job-Z _and_ _or_ within every first highest pass table patch ratio-of ratio-good point-good bounds first-failed bad-field low longest moving rise start run stop engine minimum-of minimum under-nmax over-minimum allowed fits required between on-segment reaches segment power-speed power enough more suits beats strongest choose floor closing ceiling here first-choice free is-peak peak too-high rising too-low slowing firsts after-A after-B gears trip-speeds trip-holds first-at gear-at clutch byte card-at card refuse-at _orelse_ when trace-fault room-fault vehicle-fault not-driven check-number checks bad fault-of seconds-fault span-fault work-fault left edit-fault hand-on demand early group-if group value checked bounded _then_ seen row-read in-a-row many counted whole version profile gearbox eight-numbers point curve seconds speeds hold padded vehicle-of vehicle put holds packed stages job job-read digits decimal heading pedal line lines card-text refusal-text worked-text read-text printed next-minimums firsts-of no-gear-at car-with halves-after gap dip dip-closing slow-start is-first next-minimum role-at role-of form row-write points-of parts-of gather fields job-from job-bytes split counting too-long read-fault program-room printed-fault margins-read job-of margins-Z margin-good derated known only-if checks-fault counted-as of-Z of-held all-at tally rests drives changes summary summary-fault counted-summary settled updated all-checks second asked-speeds asked-holds around hold-span span none-held fails asked-fault asked-screen edited
+unfolding sums papers rows row choice vehicle-with five-gears van-with van gap-van refused-by car-of car-Z Z halves inside free-trip steady up trace two-trips
+    job-Z _and_ _or_ within every first highest pass table patch ratio-of ratio-good point-good bounds first-failed bad-field low longest moving rise start
+    run stop engine minimum-of minimum under-nmax over-minimum allowed fits required between on-segment reaches segment power-speed power enough more suits
+    beats strongest choose floor closing ceiling here first-choice free is-peak peak too-high rising too-low slowing firsts after-A after-B gears trip-speeds
+    trip-holds first-at gear-at clutch byte card-at card refuse-at _orelse_ when trace-fault room-fault vehicle-fault not-driven check-number checks bad
+    fault-of seconds-fault span-fault work-fault left edit-fault hand-on demand early group-if group value checked bounded _then_ seen row-read in-a-row many
+    counted to-the-end version profile gearbox eight-numbers point curve seconds speeds one-hold padded vehicle-of vehicle put holds packed stages job
+    job-read digits decimal heading pedal line lines card-text refusal-text worked-text read-text printed next-minimums firsts-of no-gear-at car-with
+    halves-after gap dip dip-closing slow-start is-first next-minimum role-at role-of form row-write points-of parts-of gather fields job-from job-bytes split
+    counting too-long read-fault program-room printed-fault margins-read job-of margins-Z margin-good derated known only-if checks-fault counted-as of-Z
+    of-held all-at tally rests drives changes summary summary-fault counted-summary settled updated all-checks second asked-speeds asked-holds around
+    hold-span span none-held fails asked-fault asked-screen edited said-of-gear minimum-said kind about role-code minimum-role next-rule minimum-rule
+    listed-power driven-facts no-facts gear-facts gear-list why-lo why-end row-fault why-fault early-fault nothing said-of why told-all filled
+    cleared past-gears tied most-groups longest-job write-fault bytes-of shows-gears first-gear-everywhere one-trip-worked first-trip-worked
 sums-done-on-paper = refl

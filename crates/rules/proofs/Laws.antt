@@ -20,12 +20,16 @@ pub mod Checks
 pub mod Cards
 pub mod Geared
 pub mod GearedTrips
+pub mod GearedSpans
 pub mod GearedCards
 pub mod Want
 pub mod Window
 pub mod Reaches
 pub mod Span
 pub mod Edits
+pub mod GearedEdits
+pub mod Unused
+pub mod GearedReasons
 pub mod Buttons
 pub mod Rising
 pub mod Summary

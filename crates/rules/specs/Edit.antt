@@ -6,7 +6,8 @@ use Rattle.rules.specs.declared.Edit.{Edit}
 use Rattle.rules.specs.declared.Edit.the-variants.{Hold, Release, Mend}
 use Rattle.rules.specs.Units.{moving, start, stop}
 use Rattle.rules.specs.Corrections.{card-at}
-use Rattle.rules.specs.Refusals.{Fault, refuse-at, _orelse_, when, trace-fault, room-fault, vehicle-fault, Check, check-number, all-checks, bad, fault-of, left}
+use Rattle.rules.specs.Refusals.{Fault, refuse-at, _orelse_, when, trace-fault, room-fault, vehicle-fault, Check, check-number, all-checks, bad, fault-of}
+use Rattle.rules.specs.Refusals.{left}
 use Rattle.rules.specs.Summary.{summary, updated}
 
 -- ---- what stands on the screen, and what may be asked of it
@@ -44,7 +45,7 @@ asked-holds (Mend s v) hs = hs
 -- ---- where
 
 -- the seconds from lo up to hi are re-worked, those from lo up to end are looked at
-pub record Span : Type 0 where
+pub record Extent : Type 0 where
   pub lo : ℕ
   pub hi : ℕ
   pub end : ℕ
@@ -52,15 +53,15 @@ pub record Span : Type 0 where
 -- Eight: "the trips that hold this second or a neighbour in the new trace, the standing second before each such trip, the second itself and the second before
 -- it"; looked at are "those trips with a standing second on either side, the second itself and its neighbours". At a moving second whose speed stays this is
 -- document 01's "that second's trip and the standing second before it", looked at "from the standing one before the trip to the standing one after"
-unfoldable pub around : List ℕ → ℕ → Span
+unfoldable pub around : List ℕ → ℕ → Extent
 around ws s = record { lo = start ws s - 1; hi = stop ws (suc s); end = min (suc (stop ws (suc s))) (length ws) }
 
 -- document 01: "for a standing second only that second is looked at" and "only its hold byte is written"
-unfoldable pub hold-span : List ℕ → ℕ → Span
+unfoldable pub hold-span : List ℕ → ℕ → Extent
 hold-span vs s = if moving (at vs s) then around vs s else record { lo = s; hi = s; end = suc s }
 
 -- each edit's, on the speeds that it asks for
-unfoldable pub span : Edit → List ℕ → Span
+unfoldable pub span : Edit → List ℕ → Extent
 span (Hold s g) ws = hold-span ws s
 span (Release s) ws = hold-span ws s
 span (Mend s v) ws = around ws s

@@ -1,8 +1,11 @@
 -- Document 01, "Numbers of refusal": number and place of each, and those of the whole working.
-use Rattle.rules.specs.Words.{ℕ, suc, _+_, _-_, Bool, not, Option, none, some, List, [], _∷_, _++_, length, ltb, eqb, if_then_else_, _and_, _or_, within, at, first}
+use Rattle.rules.specs.Words.{ℕ, suc, _+_, _-_, Bool, not, Option, none, some, List, [], _∷_, _++_, length, ltb, eqb, if_then_else_, _and_, _or_, within}
+use Rattle.rules.specs.Words.{at, first}
 use Rattle.rules.specs.declared.Vehicle.{Vehicle}
 use Rattle.rules.specs.declared.Refusal.{Refusal}
-use Rattle.rules.specs.declared.Refusal.the-variants.{TraceLength, RoomLength, VehicleField, OutsideTrace, SpeedOver, StepOver, EndMoving, HoldNotDriven, HoldStanding, HoldOverRev, NoGear, JobEndsEarly, BadGroup, BadVersion, BadHold, BytesAfter, RoomShort, BadPart, BadKind, NotFinite, OutOfBounds, KindMissing, BadFactor}
+use Rattle.rules.specs.declared.Refusal.the-variants.{TraceLength, RoomLength, VehicleField, OutsideTrace, SpeedOver, StepOver, EndMoving, HoldNotDriven}
+use Rattle.rules.specs.declared.Refusal.the-variants.{HoldStanding, HoldOverRev, NoGear, JobEndsEarly, BadGroup, BadVersion, BadHold, BytesAfter}
+use Rattle.rules.specs.declared.Refusal.the-variants.{RoomShort, BadPart, BadKind, NotFinite, OutOfBounds, KindMissing, BadFactor}
 use Rattle.rules.specs.declared.Answer.{Answer}
 use Rattle.rules.specs.declared.Answer.the-variants.{Done, Refused}
 use Rattle.rules.specs.Units.{bad-field, low, longest, fastest, steepest, moving}

@@ -1,5 +1,6 @@
 -- Why this gear: what is said of one second of a trace, over the definitions that the card itself is made of.
-use Rattle.rules.specs.Words.{ℕ, zero, suc, _+_, _-_, _*_, Bool, true, false, not, Option, List, [], _∷_, length, ltb, eqb, ℤ, pos, leZ, if_then_else_, _and_, within, at}
+use Rattle.rules.specs.Words.{ℕ, zero, suc, _+_, _-_, _*_, Bool, true, false, not, Option, List, [], _∷_, length, drop, ltb, eqb, ℤ, pos, leZ}
+use Rattle.rules.specs.Words.{if_then_else_, _and_, within, at}
 use Rattle.rules.specs.declared.Vehicle.{Vehicle}
 use Rattle.rules.specs.declared.Role.{Role}
 use Rattle.rules.specs.declared.Role.the-variants.{First, Closing, AfterLow, Inner}
@@ -7,7 +8,7 @@ use Rattle.rules.specs.declared.GearFacts.{GearFacts}
 use Rattle.rules.specs.declared.Reasons.{Reasons}
 use Rattle.rules.specs.Units.{low, moving, rise, start, stop}
 use Rattle.rules.specs.Gears.{Power, is-first, engine, minimum, under-nmax, over-minimum, allowed, fits, required, power, enough}
-use Rattle.rules.specs.Corrections.{floor, ceiling, free, after-A, after-B, trip-speeds, trip-holds, first-at, gear-at, pressed}
+use Rattle.rules.specs.Corrections.{floor, closing, ceiling, free, after-A, after-B, trip-speeds, trip-holds, first-at, gear-at, pressed}
 use Rattle.rules.specs.Refusals.{Fault, refuse-at, _orelse_, when, trace-fault, room-fault, vehicle-fault, seconds-fault, span-fault, left}
 use Rattle.rules.specs.Edit.{hold-span}
 use Rattle.rules.specs.Vocabulary.Choosing.{role-at}
@@ -31,7 +32,11 @@ role-code Inner = 4
 
 -- ---- each gear
 
--- the rule of the minimum of the gear above the lowest: 2 nine tenths of idle; 3 in the closing run idle itself; 4 after the lowest gear 1.15 times idle
+-- request Two, for the minimum of the gear above the lowest: a second of the closing run counts as that, the trip's first second too
+unfoldable pub minimum-role : Role → Bool → Role
+minimum-role here closes = if closes then Closing else here
+
+-- the rule of that minimum: 2 nine tenths of idle; 3 in the closing run idle itself; 4 after the lowest gear 1.15 times idle
 unfoldable pub next-rule : Role → ℕ
 next-rule First = 2
 next-rule Closing = 3
@@ -48,20 +53,22 @@ minimum-rule here (suc (suc r)) = 5
 unfoldable pub listed-power : Vehicle → ℕ → ℕ → Power
 listed-power car v g = if under-nmax car v g then power car v g else record { Q = pos 0; w = pos 0 }
 
--- what is said of a gear that is driven, at road speed v and step d
-unfoldable pub driven-facts : Vehicle → Role → ℕ → ℤ → ℕ → GearFacts
-driven-facts car here v d g = record {
-  q = listed-power car v g .Q;
-  w = listed-power car v g .w;
-  engine = engine car g v;
-  minimum = minimum car here g;
-  rule = minimum-rule here (g - low car);
-  allowed = allowed car here g;
-  «over_minimum» = over-minimum car here v g;
-  «under_nmax» = under-nmax car v g;
-  fits = fits car here v g;
-  enough = under-nmax car v g and enough car v d g;
-}
+-- what is said of a gear that is driven, at a second that is so here and lies in the closing run or not, at road speed v and step d
+unfoldable pub driven-facts : Vehicle → Role → Bool → ℕ → ℤ → ℕ → GearFacts
+driven-facts car here closes v d g =
+    let by = minimum-role here closes in
+    record {
+      q = listed-power car v g .Q;
+      w = listed-power car v g .w;
+      engine = engine car g v;
+      minimum = minimum car by g;
+      rule = minimum-rule by (g - low car);
+      allowed = allowed car here g;
+      «over_minimum» = over-minimum car by v g;
+      «under_nmax» = under-nmax car v g;
+      fits = fits car here v g;
+      enough = under-nmax car v g and enough car v d g;
+    }
 
 -- of one that is not
 unfoldable pub no-facts : GearFacts
@@ -79,13 +86,13 @@ no-facts = record {
 }
 
 -- of gear g: driven are those from the lowest to ng
-unfoldable pub gear-facts : Vehicle → Role → ℕ → ℤ → ℕ → GearFacts
-gear-facts car here v d g = if within (low car) (car .ng) g then driven-facts car here v d g else no-facts
+unfoldable pub gear-facts : Vehicle → Role → Bool → ℕ → ℤ → ℕ → GearFacts
+gear-facts car here closes v d g = if within (low car) (car .ng) g then driven-facts car here closes v d g else no-facts
 
 -- of gears 1 to 10
-unfoldable pub gear-list : Vehicle → Role → ℕ → ℤ → List GearFacts
-gear-list car here v d =
-    let f = gear-facts car here v d in
+unfoldable pub gear-list : Vehicle → Role → Bool → ℕ → ℤ → List GearFacts
+gear-list car here closes v d =
+    let f = gear-facts car here closes v d in
     f 1 ∷ f 2 ∷ f 3 ∷ f 4 ∷ f 5 ∷ f 6 ∷ f 7 ∷ f 8 ∷ f 9 ∷ f 10 ∷ []
 
 -- ---- the first choice c, listed with enough power or not, and which sentence gave it
@@ -187,18 +194,19 @@ nothing = record {
 unfoldable pub said-of : Vehicle → List ℕ → List ℕ → ℕ → ℕ → Option Fault → Reasons
 said-of car vs hs s i f =
     let here = role-at car vs hs i in
+    let closes = closing (drop i vs) in
     let g = gear-at car vs hs i in
     record {
       about = i;
       first = start vs i;
       last = stop vs i - 1;
       required = required car (at vs i) (rise vs i);
-      gears = gear-list car here (at vs i) (rise vs i);
+      gears = gear-list car here closes (at vs i) (rise vs i);
       kind = kind vs s;
       role = role-code here;
       held = at hs i;
       choice = first-at car vs hs i;
-      sentence = sentence here (at hs i) (first-at car vs hs i) (gear-facts car here (at vs i) (rise vs i) (first-at car vs hs i) .enough);
+      sentence = sentence here (at hs i) (first-at car vs hs i) (gear-facts car here closes (at vs i) (rise vs i) (first-at car vs hs i) .enough);
       «after_a» = left f 0 (A-at car vs hs i);
       «after_b» = left f 0 (B-at car vs hs i);
       «after_c» = left f 0 g;

@@ -1,5 +1,5 @@
 // The functions of the other crates, each called for a line.
-use crate::lines::Job;
+use crate::lines::Draft;
 use crate::lines::Line;
 use crate::lines::at_most;
 use crate::lines::begun;
@@ -164,7 +164,7 @@ fn of_cycle(asked: Asked, line: Line) {
     say_places(line, room);
 }
 
-pub fn run_line(line: Line, job: Job) {
+pub fn run_line(line: Line, job: Draft) {
     let bytes = job.bytes;
     let part = begun(&bytes, job.end);
     let verb = line.verb;

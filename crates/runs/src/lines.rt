@@ -8,7 +8,7 @@ pub struct Line {
     pub last: usize,
 }
 
-pub struct Job {
+pub struct Draft {
     pub bytes: [u8; 256],
     pub car: usize,
     pub end: usize,
@@ -72,8 +72,8 @@ pub fn parse(text: &[u8]) -> Line {
     line
 }
 
-impl Job {
-    fn with_byte(mut self, byte: u8) -> Job {
+impl Draft {
+    fn with_byte(mut self, byte: u8) -> Draft {
         let at = self.end;
         if 256 <= at {
             return self;
@@ -83,7 +83,7 @@ impl Job {
         self
     }
 
-    fn with_group(self, number: u16) -> Job {
+    fn with_group(self, number: u16) -> Draft {
         let mut job = self;
         let mut left = number;
         while 128 <= left {
@@ -94,7 +94,7 @@ impl Job {
     }
 
     // Byte by byte, or as groups.
-    fn with_number(self, verb: u8, number: u16) -> Job {
+    fn with_number(self, verb: u8, number: u16) -> Draft {
         if verb == b'b' {
             return self.with_byte((number % 256) as u8);
         }
@@ -102,7 +102,7 @@ impl Job {
     }
 
     // The line's numbers from where the car ends.
-    pub fn with_rest(self, line: Line) -> Job {
+    pub fn with_rest(self, line: Line) -> Draft {
         let mut job = self;
         job.end = job.car;
         let last = at_most(line.last, 127);
@@ -114,7 +114,7 @@ impl Job {
         job
     }
 
-    pub fn with_car(mut self, line: Line) -> Job {
+    pub fn with_car(mut self, line: Line) -> Draft {
         self.car = 0;
         let mut job = self.with_rest(line);
         job.car = job.end;

@@ -14,13 +14,13 @@ mod lines;
 mod says;
 
 use cases::run_line;
-use lines::Job;
+use lines::Draft;
 use lines::begun;
 use lines::parse;
 use says::say;
 
 // The job after this line, and what was answered.
-fn after(text: &[u8], job: Job) -> Job {
+fn after(text: &[u8], job: Draft) -> Draft {
     say(text);
     let line = parse(text);
     let verb = line.verb;
@@ -36,7 +36,7 @@ fn after(text: &[u8], job: Job) -> Job {
 
 // Line by line.
 fn run_all(text: &[u8]) {
-    let mut job = Job {
+    let mut job = Draft {
         bytes: [0u8; 256],
         car: 0,
         end: 0,

@@ -1,7 +1,10 @@
 -- Counting: the seconds of a stretch, each at its place, and the changes between them.
-use Rattle.rules.proofs.Offered.{ℕ, suc, _+_, _-_, _≤_, _<_, _%_, add-zero, zero-add, sub-self, mod-lt, add-one, arith, _≡_, refl, sym, ap, _∙_, Bool, false, not, List, eqb, length, set, length-set, replicate, getD-replicate, getD-set-same, getD-set-other, ext-getD, eqb-true, eqb-false, eq-eqb, ne-eqb, if_then_else_, _and_, at, table, moving, tally, rests, drives, changes, shown, by-test, by-order, at-table, table-ext, length-table, tally-add, tally-shift, tally-le, same-counts, counts}
+use Rattle.rules.proofs.Offered.{ℕ, suc, _+_, _-_, _≤_, _<_, _%_, add-zero, zero-add, sub-self, mod-lt, add-one, arith, _≡_, refl, sym, ap, _∙_, Bool, false}
+use Rattle.rules.proofs.Offered.{not, List, eqb, length, set, length-set, replicate, getD-replicate, getD-set-same, getD-set-other, ext-getD, eqb-true}
+use Rattle.rules.proofs.Offered.{eqb-false, eq-eqb, ne-eqb, if_then_else_, _and_, at, table, moving, tally, rests, drives, changes, shown, by-test, by-order}
+use Rattle.rules.proofs.Offered.{at-table, table-ext, length-table, tally-add, tally-shift, tally-le, same-counts, counts}
 use Rattle.summaries.specs.declared.Tally.{Tally}
-use Rattle.summaries.specs.Tallies.{tallied, in-ten, placed, counts-at, Countable}
+use Rattle.summaries.specs.Tallies.{tallied, in-ten, place-of, counts-at, Countable}
 
 -- one place more
 tally-end : (p : ℕ → Bool) (lo k : ℕ) → tally p lo (suc k) ≡ tally p lo k + (if p (lo + k) then 1 else 0)
@@ -11,9 +14,9 @@ tally-end p lo k = ap (λ (n : ℕ). tally p lo n) (sym (add-one k)) ∙ tally-a
 -- ---- a second at its place
 
 -- there are 17
-pub placed-to : (v byte : ℕ) → placed v byte ≤ 16
-unfolding placed
-placed-to v byte = by-test (moving v) (λ t. let l : byte % 16 < 16 = mod-lt byte (omega arith) in rw t (omega arith)) (λ t. rw t (omega arith))
+pub place-to : (v byte : ℕ) → place-of v byte ≤ 16
+unfolding place-of
+place-to v byte = by-test (moving v) (λ t. let l : byte % 16 < 16 = mod-lt byte (omega arith) in rw t (omega arith)) (λ t. rw t (omega arith))
 
 module _ (vs bs : List ℕ) (lo : ℕ) where
   -- the seconds from lo up to i are counted
@@ -27,7 +30,7 @@ module _ (vs bs : List ℕ) (lo : ℕ) where
   fill-none = record { since = omega arith; size = refl; each = λ g h. rw (sub-self lo) (getD-replicate 17 g 0 0 h) }
 
   module _ {places : List ℕ} {i : ℕ} (F : Filled places i) where
-    pub fill-more : {x : ℕ} → x ≡ placed (at vs i) (at bs i) → x ≤ 16 → Filled (set places x (at places x + 1)) (i + 1)
+    pub fill-more : {x : ℕ} → x ≡ place-of (at vs i) (at bs i) → x ≤ 16 → Filled (set places x (at places x + 1)) (i + 1)
     unfolding counts-at
     fill-more {x} here small = record {
       since = omega (arith, F .since);
@@ -35,7 +38,8 @@ module _ (vs bs : List ℕ) (lo : ℕ) where
       each = λ g h.
           let a : i + 1 - lo ≡ suc (i - lo) = omega (arith, F .since) in
           let b : lo + (i - lo) ≡ i = omega (arith, F .since) in
-          let e : tally (counts-at g vs bs) lo (i + 1 - lo) ≡ tally (counts-at g vs bs) lo (i - lo) + (if eqb x g then 1 else 0) = rw a (tally-end (counts-at g vs bs) lo (i - lo) ∙ rw (b, here)) in
+          let e : tally (counts-at g vs bs) lo (i + 1 - lo) ≡ tally (counts-at g vs bs) lo (i - lo) + (if eqb x g then 1 else 0) =
+          rw a (tally-end (counts-at g vs bs) lo (i - lo) ∙ rw (b, here)) in
           by-test (eqb x g)
           (λ q. let y : x ≡ g = eqb-true x g q in
           let z : at (set places x (at places x + 1)) x ≡ at places x + 1 = getD-set-same places x _ 0 (omega (arith, F .size)) in
@@ -50,7 +54,8 @@ module _ (vs bs : List ℕ) (lo : ℕ) where
     pub fill-done : (hi : ℕ) → i ≡ hi → places ≡ table (λ g. tally (counts-at g vs bs) lo (hi - lo)) 0 17
     fill-done hi e =
         ext-getD 0 places _ (F .size ∙ sym (length-table _ 0 17))
-        (λ g h. let l : g < 17 = omega (arith, F .size) in F .each g l ∙ rw e (sym (at-table (λ g. tally (counts-at g vs bs) lo (hi - lo)) 0 17 g l ∙ rw (zero-add g))))
+        (λ g h. let l : g < 17 = omega (arith, F .size) in
+        F .each g l ∙ rw e (sym (at-table (λ g. tally (counts-at g vs bs) lo (hi - lo)) 0 17 g l ∙ rw (zero-add g))))
 
   -- ---- the changes
 
@@ -72,7 +77,8 @@ module _ (vs bs : List ℕ) (lo : ℕ) where
     pub changes-to : (n ≤ i - 1 - lo) × (x ≤ 1)
     changes-to = (
       rw so-far (tally-le (changes vs bs) (i - 1 - lo) lo),
-      rw here (by-test (moving (at vs (i - 1)) and (moving (at vs i) and not (eqb (shown (at bs (i - 1))) (shown (at bs i))))) (λ t. rw t (omega arith)) (λ t. rw t (omega arith))),
+      rw here (by-test (moving (at vs (i - 1)) and (moving (at vs i) and not (eqb (shown (at bs (i - 1))) (shown (at bs i))))) (λ t. rw t (omega arith))
+          (λ t. rw t (omega arith))),
     )
 
   -- ---- the whole stretch
@@ -101,11 +107,13 @@ module _ (vs bs : List ℕ) (lo : ℕ) where
 module _ (vs bs : List ℕ) (lo k : ℕ) where
   -- a moving second's byte shows a gear below 16
   rests-at : (i : ℕ) → counts-at 16 vs bs i ≡ rests vs i
-  unfolding counts-at placed rests
-  rests-at i = by-test (moving (at vs i)) (λ t. let l : at bs i % 16 < 16 = mod-lt (at bs i) (omega arith) in rw t (ne-eqb (at bs i % 16) 16 (λ z. omega arith))) (λ t. rw t (eq-eqb 16 16 refl))
+  unfolding counts-at place-of rests
+  rests-at i =
+      by-test (moving (at vs i)) (λ t. let l : at bs i % 16 < 16 = mod-lt (at bs i) (omega arith) in rw t (ne-eqb (at bs i % 16) 16 (λ z. omega arith)))
+      (λ t. rw t (eq-eqb 16 16 refl))
 
   drives-at : (g : ℕ) → g < 16 → (i : ℕ) → counts-at g vs bs i ≡ drives g vs bs i
-  unfolding counts-at placed drives _and_
+  unfolding counts-at place-of drives _and_
   drives-at g h i = by-test (moving (at vs i)) (λ t. rw t) (λ t. rw t (ne-eqb 16 g (λ z. omega arith)))
 
   pub ten-of : in-ten (tallied vs bs lo k) ≡ counts vs bs lo k
@@ -114,5 +122,6 @@ module _ (vs bs : List ℕ) (lo k : ℕ) where
       same-counts
       (at-table (λ g. tally (counts-at g vs bs) lo k) 0 17 16 (omega arith) ∙ tally-shift (counts-at 16 vs bs) (rests vs) k lo lo (λ j h. rests-at (lo + j)))
       (table-ext _ _ 1 10 (λ g p q.
-      at-table (λ g. tally (counts-at g vs bs) lo k) 0 17 g (omega arith) ∙ rw (zero-add g) (tally-shift (counts-at g vs bs) (drives g vs bs) k lo lo (λ j h. drives-at g (omega arith) (lo + j)))))
+      at-table (λ g. tally (counts-at g vs bs) lo k) 0 17 g (omega arith)
+      ∙ rw (zero-add g) (tally-shift (counts-at g vs bs) (drives g vs bs) k lo lo (λ j h. drives-at g (omega arith) (lo + j)))))
       refl

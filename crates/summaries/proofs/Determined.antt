@@ -6,8 +6,8 @@ use Rattle.summaries.proofs.whole.summary_of.Kinds as summary-of-kinds
 use Rattle.summaries.proofs.whole.summary_of.Reads as summary-of-reads
 use Rattle.summaries.proofs.stretch.count.Kinds as count-kinds
 use Rattle.summaries.proofs.stretch.count.Reads as count-reads
-use Rattle.summaries.proofs.stretch.nothing.Kinds as nothing-kinds
-use Rattle.summaries.proofs.stretch.nothing.Reads as nothing-reads
+use Rattle.summaries.proofs.stretch.none_counted.Kinds as none-counted-kinds
+use Rattle.summaries.proofs.stretch.none_counted.Reads as none-counted-reads
 use Rattle.summaries.proofs.settle.updated.Kinds as updated-kinds
 use Rattle.summaries.proofs.settle.updated.Reads as updated-reads
 
@@ -21,8 +21,8 @@ summary-of κs a asked z z′ ws ws′ p q = (counted-once z z′ (p .0 ∙ sym 
 pub count : Determined count-kinds.ps count-kinds.r count-reads.Asked count-reads.Learnt
 count κs a asked z z′ ws ws′ p q = (p ∙ sym q, refl)
 
-pub nothing : Determined nothing-kinds.ps nothing-kinds.r nothing-reads.Asked nothing-reads.Learnt
-nothing κs a asked z z′ ws ws′ p q = (p ∙ sym q, refl)
+pub none-counted : Determined none-counted-kinds.ps none-counted-kinds.r none-counted-reads.Asked none-counted-reads.Learnt
+none-counted κs a asked z z′ ws ws′ p q = (p ∙ sym q, refl)
 
 pub updated : Determined updated-kinds.ps updated-kinds.r updated-reads.Asked updated-reads.Learnt
 updated κs a asked z z′ ws ws′ p q = (p ∙ sym q, refl)

@@ -1,5 +1,6 @@
 -- A count, and the counts of a summary, brought up to date.
-use Rattle.rules.proofs.Offered.{ℕ, _+_, _-_, _≤_, _<_, zero-add, add-one, one-add, arith, _≡_, sym, _∙_, List, length, set, length-set, getD-set-same, getD-set-other, ext-getD, at, table, settled, updated, by-eq, at-table, table-ext, length-table, same-counts}
+use Rattle.rules.proofs.Offered.{ℕ, _+_, _-_, _≤_, _<_, zero-add, add-one, one-add, arith, _≡_, sym, _∙_, List, length, set, length-set, getD-set-same}
+use Rattle.rules.proofs.Offered.{getD-set-other, ext-getD, at, table, settled, updated, by-eq, at-table, table-ext, length-table, same-counts}
 use Rattle.rules.specs.declared.Summary.{Summary}
 use Rattle.summaries.specs.declared.Tally.{Tally}
 use Rattle.summaries.specs.Tallies.{in-ten}

@@ -1,5 +1,7 @@
 -- A whole card counted: what counting it asks, and that the counts are its summary.
-use Rattle.rules.proofs.Offered.{ℕ, _-_, _≤_, arith, _≡_, sym, ap, _∙_, Option, none, List, [], length, moving, longest, Fault, said, _orelse_, trace-fault, room-fault, summary, summary-fault, counted-summary, updated, standing-past, trace-in, rooms-in, left-none, orelse-none, counts, updated-right}
+use Rattle.rules.proofs.Offered.{ℕ, _-_, _≤_, arith, _≡_, sym, ap, _∙_, Option, none, List, [], length, moving, longest, Fault, said, _orelse_, trace-fault}
+use Rattle.rules.proofs.Offered.{room-fault, summary, summary-fault, counted-summary, updated, standing-past, trace-in, rooms-in, left-none, orelse-none}
+use Rattle.rules.proofs.Offered.{counts, updated-right}
 use Rattle.rules.specs.declared.Summary.{Summary}
 use Rattle.rules.specs.declared.Answer.{Answer}
 use Rattle.rules.specs.declared.Answer.the-variants.{Done}

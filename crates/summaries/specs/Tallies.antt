@@ -7,12 +7,12 @@ use Rattle.rules.specs.Corrections.{shown}
 use Rattle.summaries.specs.declared.Tally.{Tally}
 
 -- where a second of speed v is counted: in the gear that its byte shows, or, standing, at place 16
-unfoldable pub placed : ℕ → ℕ → ℕ
-placed v byte = if moving v then shown byte else 16
+unfoldable pub place-of : ℕ → ℕ → ℕ
+place-of v byte = if moving v then shown byte else 16
 
 -- second i is counted at place g
 unfoldable pub counts-at : ℕ → List ℕ → List ℕ → ℕ → Bool
-counts-at g vs bs i = eqb (placed (at vs i) (at bs i)) g
+counts-at g vs bs i = eqb (place-of (at vs i) (at bs i)) g
 
 -- the counts over the k seconds from lo on
 unfoldable pub tallied : List ℕ → List ℕ → ℕ → ℕ → Tally

@@ -7,7 +7,7 @@ use rules::Answer;
 use rules::Summary;
 pub use settle::updated;
 pub use stretch::count;
-pub use stretch::nothing;
+pub use stretch::none_counted;
 pub use whole::summary_of;
 
 // An answer, and the summary that goes with it.

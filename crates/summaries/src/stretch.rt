@@ -3,13 +3,13 @@ ghost use Rattle.rules.specs.Words.{_≡_, not, [], _-_, _≤_, eqb, if_then_el
 ghost use Rattle.rules.specs.Units.{moving};
 ghost use Rattle.rules.specs.Summary.{tally, changes};
 ghost use Rattle.rules.specs.Corrections.{shown};
-ghost use Rattle.summaries.specs.Tallies.{tallied, placed, counts-at, Countable};
+ghost use Rattle.summaries.specs.Tallies.{tallied, place-of, counts-at, Countable};
 use crate::Tally;
 use checks::Span;
 use rules::moving;
 
 // Nothing counted yet.
-pub fn nothing() -> Tally
+pub fn none_counted() -> Tally
     ensures { λ r. ⌜ r ≡ tallied [] [] 0 0 ⌝ }
 {
     Tally {
@@ -20,7 +20,7 @@ pub fn nothing() -> Tally
 
 // Where a second is counted: in the gear that its byte shows, or, standing, at place 16.
 fn place_of(v: u16, byte: u8) -> usize
-    ensures { λ r. ⌜ r ≡ placed v byte ⌝ }
+    ensures { λ r. ⌜ r ≡ place-of v byte ⌝ }
     ensures few { λ r. ⌜ r ≤ 16 ⌝ }
 {
     if moving(v) { (byte % 16) as usize } else { 16 }

@@ -5,7 +5,7 @@ ghost use Rattle.rules.specs.Summary.{summary, summary-fault, counted-summary};
 use crate::Summarized;
 use crate::settle::updated;
 use crate::stretch::count;
-use crate::stretch::nothing;
+use crate::stretch::none_counted;
 use checks::Span;
 use checks::check_lengths;
 use rules::Answer;
@@ -39,6 +39,6 @@ pub fn summary_of<'a>(speeds: &'a [u16], card: &'a [u8]) -> Summarized
     let all = count(speeds, card, Span { lo: 0, hi: seconds });
     Summarized {
         answer: Answer::Done,
-        summary: updated(none, nothing(), all),
+        summary: updated(none, none_counted(), all),
     }
 }

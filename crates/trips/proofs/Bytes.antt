@@ -1,5 +1,7 @@
 -- A trip's bytes, worked from its parts, are those of the card.
-use Rattle.rules.proofs.Offered.{ℕ, zero, suc, _+_, _-_, _≤_, _<_, _%_, zero-add, arith, _≡_, refl, sym, ap, _∙_, _≢_, _⊎_, inl, inr, Bool, true, false, List, [], _∷_, _++_, leb, ltb, length, set, take, drop, length-set, length-drop, List·getD-eq-default, ext-getD, take-all, getD-set-same, getD-set-other, lt-leb, le-leb, lt-ltb, le-ltb, if_then_else_, _and_, at, part, table, patch, moving, rise, start, stop, gears, trip-speeds, trip-holds, gear-at, clutch, byte, card-at, card, IsTrip, by-order, at-part, length-part, at-table, length-table, table-ext, table-add, table-at, patch-in, patch-out, trip-start, trip-stop}
+use Rattle.rules.proofs.Offered.{ℕ, suc, _+_, _-_, _<_, zero-add, arith, _≡_, sym, ap, _∙_, List, length, ext-getD, lt-ltb, at, part, table, rise, gears}
+use Rattle.rules.proofs.Offered.{trip-speeds, trip-holds, gear-at, clutch, byte, card-at, IsTrip, at-part, length-part, at-table, length-table, trip-start}
+use Rattle.rules.proofs.Offered.{trip-stop}
 use Rattle.rules.specs.declared.Vehicle.{Vehicle}
 use Rattle.trips.specs.Trip.{trip-bytes}
 
@@ -34,11 +36,18 @@ module _ (car : Vehicle) (vs hs : List ℕ) {a b : ℕ} (T : IsTrip vs a b) (n :
       let x = T .some-second in
       let k : length (part hs a b) ≡ b - a = length-part hs a b (omega arith) in
       let F : ℕ → ℕ = λ j. byte car (part vs a (suc b)) j (at (gears car (part vs a (suc b)) (part hs a b)) j) in
-      ext-getD 0 (table F 0 (length (part hs a b))) (table (card-at car vs hs) a (b - a)) (length-table F 0 (length (part hs a b)) ∙ k ∙ sym (length-table (card-at car vs hs) a (b - a)))
+      ext-getD 0 (table F 0 (length (part hs a b))) (table (card-at car vs hs) a (b - a))
+      (length-table F 0 (length (part hs a b)) ∙ k ∙ sym (length-table (card-at car vs hs) a (b - a)))
       (λ j h.
       let i : j < b - a = omega (arith, length-table F 0 (length (part hs a b)), k) in
       let z : a + j - a ≡ j = omega arith in
       at-table F 0 (length (part hs a b)) j (omega (arith, k)) ∙ ap F (zero-add j)
       ∙ byte-part j (at (gears car (part vs a (suc b)) (part hs a b)) j) (omega arith)
       ∙ sym (at-table (card-at car vs hs) a (b - a) j i
-      ∙ rw (T .inside (a + j) (omega arith) (omega arith), trip-start vs T (a + j) (omega arith) (omega arith), trip-stop vs T (a + j) (omega arith) (omega arith), z)))
+      ∙ rw (
+        T .inside (a + j) (omega arith) (omega arith),
+        trip-start vs T (a + j) (omega arith) (omega arith),
+        trip-stop vs T (a + j) (omega arith)
+            (omega arith),
+        z,
+      )))

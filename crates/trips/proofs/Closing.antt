@@ -1,5 +1,6 @@
 -- Where the closing run of a trip begins, as a scan back from its end finds it.
-use Rattle.rules.proofs.Offered.{ℕ, zero, suc, _-_, _≤_, _<_, arith, _≡_, refl, sym, _∙_, Bool, true, false, not, List, leb, ltb, length, drop, drop-of-length-le, drop-cons, le-leb, lt-leb, le-ltb, lt-ltb, _and_, _or_, at, moving, closing, closing-here, closing-end, clash, by-eq, by-order, and-no}
+use Rattle.rules.proofs.Offered.{ℕ, zero, suc, _-_, _≤_, _<_, arith, _≡_, refl, sym, _∙_, Bool, true, false, not, List, length, drop, le-leb, lt-leb, le-ltb}
+use Rattle.rules.proofs.Offered.{lt-ltb, _or_, at, moving, closing, closing-here, closing-end, clash, by-eq, by-order, and-no, _and_}
 use Rattle.trips.specs.Trip.{RunFrom, AllMoving}
 
 -- one of two tests holds, if the second does
@@ -15,12 +16,14 @@ module _ (us : List ℕ) where
   closing-flat i h l = closing-here us i h ∙ rw (le-ltb (at us (suc i)) (at us i) l)
 
   -- a second at which V falls to one that is standing or in the run is in the run
-  closing-falls : (i : ℕ) → suc i < length us → at us (suc i) < at us i → (not (moving (at us (suc i))) or closing (drop (suc i) us)) ≡ true → closing (drop i us) ≡ true
+  closing-falls : (i : ℕ) → suc i < length us → at us (suc i) < at us i → (not (moving (at us (suc i))) or closing (drop (suc i) us)) ≡ true
+      → closing (drop i us) ≡ true
   unfolding _and_
   closing-falls i h l e = closing-here us i h ∙ rw (lt-ltb (at us (suc i)) (at us i) l, e)
 
   -- a moving second that is not in the run: none before it is
-  open-before : (j : ℕ) → j < length us → ((i : ℕ) → i ≤ j → moving (at us i) ≡ true) → closing (drop j us) ≡ false → (i : ℕ) → i ≤ j → closing (drop i us) ≡ false
+  open-before : (j : ℕ) → j < length us → ((i : ℕ) → i ≤ j → moving (at us i) ≡ true) → closing (drop j us) ≡ false → (i : ℕ) → i ≤ j
+      → closing (drop i us) ≡ false
   unfolding _or_
   open-before zero l m e i h = let z : i ≡ 0 = omega arith in rw z e
   open-before (suc j) l m e i h =

@@ -1,5 +1,6 @@
 -- D at a second of a trip, and the card's byte: an answer for each way through the code.
-use Rattle.rules.proofs.Offered.{ℕ, zero, suc, _+_, _-_, _*_, _≤_, _<_, add-one, arith, _≡_, true, false, List, pos, _-ℤ_, length, leZ, le-leb, lt-leb, le-ltb, lt-ltb, at, rise, engine, clutch, byte, by-order, both, and-no, pos-sub}
+use Rattle.rules.proofs.Offered.{ℕ, zero, suc, _+_, _-_, _*_, _≤_, _<_, add-one, arith, _≡_, true, false, List, pos, _-ℤ_, length, leZ, le-leb, lt-leb, le-ltb}
+use Rattle.rules.proofs.Offered.{lt-ltb, at, rise, engine, clutch, byte, by-order, both, and-no, pos-sub}
 use Rattle.rules.specs.declared.Vehicle.{Vehicle}
 use Rattle.trips.proofs.Seconds.{no-and}
 
@@ -40,4 +41,8 @@ module _ (car : Vehicle) (us : List ℕ) (j g : ℕ) where
   pub byte-down : j + 1 < length us → at us (j + 1) ≤ at us j → engine car g (at us j) < 1000 * car .idle → g + 16 ≡ byte car us j g
   unfolding byte clutch rise
   byte-down l h e =
-      rw (lt-ltb (suc j) (length us) (omega arith), both (fall-yes (at us j) (at us (suc j)) (rw (add-one j) at h)) (lt-ltb (engine car g (at us j)) (1000 * car .idle) e))
+      rw (
+        lt-ltb (suc j) (length us) (omega arith),
+        both (fall-yes (at us j) (at us (suc j)) (rw (add-one j) at h))
+            (lt-ltb (engine car g (at us j)) (1000 * car .idle) e),
+      )

@@ -30,11 +30,13 @@ bytes κs a asked z z′ ws ws′ p q = let H = built-has (a .0) (now (a .1 .0))
 
 -- pass A
 pub pass-a : Determined pass-a-kinds.ps pass-a-kinds.r pass-a-reads.Asked pass-a-reads.Learnt
-pass-a κs a asked z z′ ws ws′ p q = let H = built-has (a .0) (now (a .1 .0)) in (refl, ap (λ (x : List ℕ). (tt, (tt, (tt, (tt, (x, tt)))))) (p _ H ∙ sym (q _ H)))
+pass-a κs a asked z z′ ws ws′ p q =
+    let H = built-has (a .0) (now (a .1 .0)) in (refl, ap (λ (x : List ℕ). (tt, (tt, (tt, (tt, (x, tt)))))) (p _ H ∙ sym (q _ H)))
 
 -- pass B
 pub pass-b : Determined pass-b-kinds.ps pass-b-kinds.r pass-b-reads.Asked pass-b-reads.Learnt
-pass-b κs a asked z z′ ws ws′ p q = let H = built-has (a .0) (now (a .1 .0)) in (refl, ap (λ (x : List ℕ). (tt, (tt, (tt, (tt, (x, tt)))))) (p _ H ∙ sym (q _ H)))
+pass-b κs a asked z z′ ws ws′ p q =
+    let H = built-has (a .0) (now (a .1 .0)) in (refl, ap (λ (x : List ℕ). (tt, (tt, (tt, (tt, (x, tt)))))) (p _ H ∙ sym (q _ H)))
 
 -- where the closing run begins
 pub closing-from : Determined closing-from-kinds.ps closing-from-kinds.r closing-from-reads.Asked closing-from-reads.Learnt
@@ -50,8 +52,12 @@ pass-c κs a asked z z′ ws ws′ p q =
 
 -- the first choices of a trip
 pub first-choices : Determined first-choices-kinds.ps first-choices-kinds.r first-choices-reads.Asked first-choices-reads.Learnt
-first-choices κs a asked z z′ ws ws′ p q = let car = asked .0 .car in let L = asked .0 .lent in (refl, ap (λ (x : List ℕ). (tt, (tt, (tt, (tt, (tt, (tt, (tt, (tt, (tt, (x, tt))))))))))) (p car L ∙ sym (q car L)))
+first-choices κs a asked z z′ ws ws′ p q =
+    let car = asked .0 .car in
+    let L = asked .0 .lent in
+    (refl, ap (λ (x : List ℕ). (tt, (tt, (tt, (tt, (tt, (tt, (tt, (tt, (tt, (x, tt))))))))))) (p car L ∙ sym (q car L)))
 
 -- the work on a trip
 pub work-trip : Determined work-trip-kinds.ps work-trip-kinds.r work-trip-reads.Asked work-trip-reads.Learnt
-work-trip κs a asked z z′ ws ws′ p q = let car = asked .0 .car in let L = asked .0 .lent in (refl, ap (λ (x : List ℕ). (tt, (tt, (tt, (tt, (tt, (tt, (x, tt)))))))) (p car L ∙ sym (q car L)))
+work-trip κs a asked z z′ ws ws′ p q =
+    let car = asked .0 .car in let L = asked .0 .lent in (refl, ap (λ (x : List ℕ). (tt, (tt, (tt, (tt, (tt, (tt, (x, tt)))))))) (p car L ∙ sym (q car L)))

@@ -1,5 +1,10 @@
--- A pass as a loop meets it: one turn further, places that it leaves alone, places that it writes without having looked at them. And no gear of a trip is above ng + 1.
-use Rattle.rules.proofs.Offered.{ℕ, zero, suc, _+_, _-_, _≤_, _<_, zero-add, le-refl, not-suc-le-zero, add-one, arith, _≡_, refl, sym, ap, _∙_, Option, none, some, Option·getD, List, eqb, length, set, replicate, length-replicate, getD-set-same, getD-set-other, set-getD, ext-getD, ltb-true, at, first, pass, table, low, rise, under-nmax, floor, ceiling, role-of, here, first-choice, is-peak, peak, too-high, rising, too-low, slowing, firsts, after-A, after-B, gears, InBounds, by-eq, by-order, if-ind, and-right, length-pass, pass-at, pass-later, pass-holds, length-table, at-table, Found, first-found, length-firsts, length-A, length-B, first-is, choose-to}
+-- A pass as a loop meets it: one turn further, places that it leaves alone, places that it writes without having looked at them.
+-- And no gear of a trip is above ng + 1.
+use Rattle.rules.proofs.Offered.{ℕ, zero, suc, _+_, _-_, _≤_, _<_, zero-add, le-refl, not-suc-le-zero, add-one, arith, _≡_, refl, sym, ap, _∙_, Option, none}
+use Rattle.rules.proofs.Offered.{some, Option·getD, List, eqb, length, set, replicate, length-replicate, getD-set-same, getD-set-other, set-getD, ext-getD}
+use Rattle.rules.proofs.Offered.{ltb-true, at, first, pass, table, low, rise, under-nmax, floor, ceiling, role-of, here, first-choice, is-peak, peak, too-high}
+use Rattle.rules.proofs.Offered.{rising, too-low, slowing, firsts, after-A, after-B, gears, InBounds, by-eq, by-order, if-ind, and-right, length-pass, pass-at}
+use Rattle.rules.proofs.Offered.{pass-later, pass-holds, length-table, at-table, Found, first-found, length-firsts, length-A, length-B, first-is, choose-to}
 use Rattle.rules.specs.declared.Vehicle.{Vehicle}
 use Rattle.gears.specs.declared.Numbers.{Numbers}
 use Rattle.gears.proofs.Parts.{built}
@@ -15,6 +20,11 @@ pass-start f gs = refl
 pub pass-more : (f : ℕ → List ℕ → ℕ) (gs l : List ℕ) (k v : ℕ) → l ≡ pass f k gs → v ≡ f k l → set l k v ≡ pass f (k + 1) gs
 unfolding pass
 pass-more f gs l k v e h = rw (h, e, add-one)
+
+-- a place that the rule leaves as it stands
+pub pass-still : (f : ℕ → List ℕ → ℕ) (gs : List ℕ) (k : ℕ) {l : List ℕ} → l ≡ pass f k gs → f k l ≡ at l k → pass f (suc k) gs ≡ pass f k gs
+unfolding pass
+pass-still f gs k {l} e h = let same : f k (pass f k gs) ≡ at (pass f k gs) k = rw e at h in rw same (set-getD (pass f k gs) k 0)
 
 -- places that the rule leaves alone may be passed over
 pub pass-skip : (f : ℕ → List ℕ → ℕ) (gs : List ℕ) (k : ℕ) → ((j : ℕ) → j < k → f j gs ≡ at gs j) → pass f k gs ≡ gs
@@ -98,7 +108,8 @@ floor-to car v = go (first (under-nmax car v) (low car) (suc (car .ng) - low car
     go : (o : Option ℕ) → first (under-nmax car v) (low car) (suc (car .ng) - low car) ≡ o → Option·getD o (suc (car .ng)) ≤ suc (car .ng)
     go none e = omega arith
     go (some i) e =
-        let f : Found (under-nmax car v) (low car) (low car + (suc (car .ng) - low car)) i = first-found (under-nmax car v) (suc (car .ng) - low car) (low car) i e in
+        let n = suc (car .ng) - low car in
+        let f : Found (under-nmax car v) (low car) (low car + n) i = first-found (under-nmax car v) n (low car) i e in
         omega (arith, f .from, f .below)
 
 -- of a vehicle of these parts

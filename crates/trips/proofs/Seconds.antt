@@ -1,5 +1,7 @@
 -- What passes A, B and C make of one second: an answer for each way through the code.
-use Rattle.rules.proofs.Offered.{ℕ, suc, _+_, _-_, _≤_, _<_, max, min, arith, _≡_, refl, sym, Bool, true, false, List, leb, ltb, eqb, length, drop, le-leb, lt-leb, le-ltb, lt-ltb, eq-eqb, ne-eqb, _and_, _or_, at, low, floor, closing, ceiling, free, is-peak, peak, too-high, rising, too-low, slowing, by-order, if-ind, both, and-no}
+use Rattle.rules.proofs.Offered.{ℕ, suc, _+_, _-_, _≤_, _<_, max, min, arith, _≡_, refl, sym, _∙_, Bool, true, false, List, leb, ltb, eqb, length, drop, le-leb}
+use Rattle.rules.proofs.Offered.{lt-leb, le-ltb, lt-ltb, eq-eqb, ne-eqb, _and_, _or_, at, low, floor, closing, ceiling, free, is-peak, peak, too-high, rising}
+use Rattle.rules.proofs.Offered.{too-low, slowing, by-order, if-ind, both, and-no}
 use Rattle.rules.specs.declared.Vehicle.{Vehicle}
 use Rattle.trips.specs.Second.{is-peaked, peaked, is-risen, risen, slowed}
 use Rattle.trips.specs.Trip.{one-above}
@@ -114,7 +116,7 @@ module _ (car : Vehicle) (us hs : List ℕ) (j : ℕ) where
     peaked-still e = peaked-no (no-and _ _ (no-and _ _ (no-and _ _ e)))
 
     -- the trip's last second
-    pub peaked-last : size ≤ suc j → g ≡ peaked car us hs size j p g q
+    peaked-last : size ≤ suc j → g ≡ peaked car us hs size j p g q
     unfolding is-peaked
     peaked-last e = peaked-no (no-and _ _ (no-and _ _ (and-no _ _ (le-ltb (suc j) size e))))
 
@@ -136,6 +138,10 @@ module _ (car : Vehicle) (us hs : List ℕ) (j : ℕ) where
     pub peaked-cut : free car us hs j ≡ true → suc j < size → one-above p g q ≡ true → floor car (at us j) ≤ g - 1 → g - 1 ≡ peaked car us hs size j p g q
     unfolding peaked is-peaked
     peaked-cut f l o e = rw (both (both (both f (lt-ltb (suc j) size l)) o) (le-leb (floor car (at us j)) (g - 1) e))
+
+  -- the trip's last second is no peak
+  pub peak-last : (gs : List ℕ) → length gs ≤ suc j → peak car us hs j gs ≡ at gs j
+  peak-last gs l = peak-is gs ∙ sym (peaked-last (length gs) (at gs (j - 1)) (at gs j) (at gs (suc j)) l)
 
   -- ---- pass B
 

@@ -20,7 +20,7 @@ pub record Later (gs : List ℕ) (j last : ℕ) : Type 0 where
   pub last-is : last ≡ at gs (j - 1)
 
 -- gears that the ratios have places for, and one speed more than gears
-pub record Geared (us gs : List ℕ) : Type 0 where
+pub record WithGears (us gs : List ℕ) : Type 0 where
   pub speeds : length us ≡ suc (length gs)
   pub gear : (j : ℕ) → j < length gs → Gear (at gs j)
 
@@ -30,7 +30,7 @@ pub record Paced (us hs : List ℕ) : Type 0 where
   pub step : (j : ℕ) → j < length hs → natAbs (rise us j) ≤ steepest
 
 -- a trip that the checks have passed: of the refusals it takes 3, 4, 5 and 7
-pub record Ready (k : Numbers) (us hs gs : List ℕ) : Type 0 where
+pub record ReadyTrip (k : Numbers) (us hs gs : List ℕ) : Type 0 where
   pub lists : Aligned us hs gs
   pub pace : Paced us hs
   pub hold : (j : ℕ) → j < length hs → at hs j ≤ k .ng

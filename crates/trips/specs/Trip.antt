@@ -1,5 +1,6 @@
 -- What the functions of one trip promise, in the words of their contracts.
-use Rattle.rules.specs.Words.{ℕ, suc, _+_, _-_, _<_, max, min, _≡_, Bool, true, List, leb, eqb, length, drop, if_then_else_, _and_, _or_, at, table}
+use Rattle.rules.specs.Words.{ℕ, suc, _+_, _-_, _<_, max, min, _≡_, Bool, true, false, List, leb, eqb, length, drop, if_then_else_, _and_, _or_, at, pass}
+use Rattle.rules.specs.Words.{table}
 use Rattle.rules.specs.declared.Vehicle.{Vehicle}
 use Rattle.rules.specs.Units.{moving, rise}
 use Rattle.rules.specs.Corrections.{closing, role-of, gears, byte}
@@ -19,6 +20,12 @@ pub record RunFrom (us : List ℕ) (r : ℕ) : Type 0 where
 unfoldable pub on-way : Vehicle → List ℕ → List ℕ → Bool → ℕ → ℕ → ℕ → List ℕ → ℕ
 on-way car us hs begins run last j gs =
     first-of car (role-of car (begins and eqb j 0) (leb run j) (if eqb j 0 then last else at gs (j - 1))) (at us j) (rise us j) (at hs j)
+
+-- gs holds the first choices up to second j, which is not the trip's first, and last is the first choice before it
+pub record WayTo (car : Vehicle) (us hs : List ℕ) (run : ℕ) (begins : Bool) (before : ℕ) (base gs : List ℕ) (last j : ℕ) : Type 0 where
+  pub not-first : (begins and eqb j 0) ≡ false
+  pub last-is : last ≡ (if eqb j 0 then before else at gs (j - 1))
+  pub so-far : gs ≡ pass (on-way car us hs begins run before) j base
 
 -- a trip with these holds and gears whose closing run begins at second r
 pub record Closes (r : ℕ) (hs gs : List ℕ) : Type 0 where

@@ -4,7 +4,7 @@ ghost use Rattle.rules.specs.Corrections.{byte};
 ghost use Rattle.rules.specs.declared.Vehicle.{Vehicle};
 ghost use Rattle.gears.specs.Parts.{Has};
 ghost use Rattle.gears.specs.Second.{Gear};
-ghost use Rattle.trips.specs.Ready.{Geared};
+ghost use Rattle.trips.specs.Ready.{WithGears};
 use gears::Numbers;
 use gears::engine;
 
@@ -37,7 +37,7 @@ fn bottom(k: Numbers) -> u64
 }
 
 // The byte of second j, whose gear is g: plus 16 with the clutch down.
-fn byte_at(k: Numbers, ratio: &[u16; 10], us: &[u16], j: usize, g: u8) -> u8
+fn trip_byte(k: Numbers, ratio: &[u16; 10], us: &[u16], j: usize, g: u8) -> u8
     requires { ⌜ (j + 1 < length (now us)) × Gear g ⌝ }
     ensures { λ r. ⌜ ((car : Vehicle) → Has car k (now (ratio .entry)) → r ≡ byte car (now (us .entry)) j g) ⌝ }
 {
@@ -54,13 +54,14 @@ fn byte_at(k: Numbers, ratio: &[u16; 10], us: &[u16], j: usize, g: u8) -> u8
 
 // The gears of a trip become its bytes.
 pub fn bytes(k: Numbers, ratio: &[u16; 10], us: &[u16], gs: &mut [u8])
-    requires { ⌜ Geared (now us) (now gs) ⌝ }
-    ensures { λ r. ⌜ ((car : Vehicle) → Has car k (now (ratio .entry)) → now (gs .exit) ≡ table (λ j. byte car (now (us .entry)) j (at (now (gs .entry)) j)) 0 (length (now (gs .entry)))) ⌝ }
+    requires { ⌜ WithGears (now us) (now gs) ⌝ }
+    ensures { λ r. ⌜ ((car : Vehicle) → Has car k (now (ratio .entry))
+        → now (gs .exit) ≡ table (λ j. byte car (now (us .entry)) j (at (now (gs .entry)) j)) 0 (length (now (gs .entry)))) ⌝ }
 {
     let mut j = 0;
     while j < gs.len() {
         let g = gs[j];
-        gs[j] = byte_at(k, ratio, us, j, g);
+        gs[j] = trip_byte(k, ratio, us, j, g);
         j += 1;
     }
 }

@@ -34,7 +34,7 @@ fn one_above(p: u8, g: u8, q: u8) -> bool
 
 // What pass A makes of second j, whose gear is g, after gear last, as corrected. The slice holds the gear after it, not yet corrected. Most gears are no higher
 // than the one before, and stay.
-fn peak_at(
+fn peaked(
     k: Numbers,
     ratio: &[u16; 10],
     us: &[u16],
@@ -44,16 +44,14 @@ fn peak_at(
     g: u8,
     last: u8,
 ) -> u8
-    requires { ⌜ Driven k × Aligned (now us) (now hs) (now gs) × (1 ≤ j) × (j < length (now gs)) ⌝ }
-    ensures { λ r. ⌜ ((car : Vehicle) → Has car k (now (ratio .entry)) → r ≡ peaked car (now (us .entry)) (now (hs .entry)) (length (now (gs .entry))) j last g (at (now (gs .entry)) (j + 1))) ⌝ }
+    requires { ⌜ Driven k × Aligned (now us) (now hs) (now gs) × (1 ≤ j) × (j + 1 < length (now gs)) ⌝ }
+    ensures { λ r. ⌜ ((car : Vehicle) → Has car k (now (ratio .entry))
+        → r ≡ peaked car (now (us .entry)) (now (hs .entry)) (length (now (gs .entry))) j last g (at (now (gs .entry)) (j + 1))) ⌝ }
 {
     if g <= last {
         return g;
     }
     if hs[j] != 0 {
-        return g;
-    }
-    if gs.len() <= j + 1 {
         return g;
     }
     let next = gs[j + 1];
@@ -68,19 +66,21 @@ fn peak_at(
     g
 }
 
-// Pass A, one-second peaks. The trip's first second stays, and the gear before goes along, as corrected.
+// Pass A, one-second peaks. The trip's first second and its last stay, and the gear before goes along, as corrected.
 pub fn pass_a(k: Numbers, ratio: &[u16; 10], us: &[u16], hs: &[u8], gs: &mut [u8])
     requires { ⌜ Driven k × Aligned (now us) (now hs) (now gs) ⌝ }
-    ensures { λ r. ⌜ ((car : Vehicle) → Has car k (now (ratio .entry)) → now (gs .exit) ≡ pass (peak car (now (us .entry)) (now (hs .entry))) (length (now (hs .entry))) (now (gs .entry))) ⌝ }
+    ensures { λ r. ⌜ ((car : Vehicle) → Has car k (now (ratio .entry))
+        → now (gs .exit) ≡ pass (peak car (now (us .entry)) (now (hs .entry))) (length (now (hs .entry))) (now (gs .entry))) ⌝ }
 {
     if gs.len() < 2 {
         return;
     }
+    let end = gs.len() - 1;
     let mut j = 1;
     let mut last = gs[0];
-    while j < gs.len() {
+    while j < end {
         let g = gs[j];
-        last = peak_at(k, ratio, us, hs, gs, j, g, last);
+        last = peaked(k, ratio, us, hs, gs, j, g, last);
         gs[j] = last;
         j += 1;
     }

@@ -10,7 +10,7 @@ use gears::Numbers;
 use gears::floor;
 
 // The ceiling of second j after gear last, as corrected: one more where the two seconds before lie in the trip with equal gears.
-fn ceiling_at(gs: &[u8], j: usize, last: u8) -> usize
+fn ceiling_after(gs: &[u8], j: usize, last: u8) -> usize
     requires { ⌜ Later (now gs) j last × (j < length (now gs)) ⌝ }
     ensures { λ r. ⌜ r ≡ ceiling j (now (gs .entry)) ⌝ }
 {
@@ -25,7 +25,7 @@ fn ceiling_at(gs: &[u8], j: usize, last: u8) -> usize
 
 // What pass B makes of second j, whose gear is g, after gear last, as corrected. Most gears are no higher than the one before, so no higher than the ceiling,
 // and stay.
-fn rising_at(
+fn risen(
     k: Numbers,
     ratio: &[u16; 10],
     us: &[u16],
@@ -36,7 +36,8 @@ fn rising_at(
     last: u8,
 ) -> u8
     requires { ⌜ Driven k × TripSecond (now us) (now hs) j × Later (now gs) j last × (1 ≤ j) × (j < length (now gs)) ⌝ }
-    ensures { λ r. ⌜ ((car : Vehicle) → Has car k (now (ratio .entry)) → r ≡ risen car (now (us .entry)) (now (hs .entry)) j (ceiling j (now (gs .entry))) g) ⌝ }
+    ensures { λ r. ⌜ ((car : Vehicle) → Has car k (now (ratio .entry))
+        → r ≡ risen car (now (us .entry)) (now (hs .entry)) j (ceiling j (now (gs .entry))) g) ⌝ }
 {
     if g <= last {
         return g;
@@ -48,7 +49,7 @@ fn rising_at(
     if v <= us[j - 1] {
         return g;
     }
-    let ceiling = ceiling_at(gs, j, last);
+    let ceiling = ceiling_after(gs, j, last);
     if g as usize <= ceiling {
         return g;
     }
@@ -62,7 +63,8 @@ fn rising_at(
 // Pass B, rising speed. The trip's first second stays, and the gear before goes along, as corrected.
 pub fn pass_b(k: Numbers, ratio: &[u16; 10], us: &[u16], hs: &[u8], gs: &mut [u8])
     requires { ⌜ Driven k × Aligned (now us) (now hs) (now gs) ⌝ }
-    ensures { λ r. ⌜ ((car : Vehicle) → Has car k (now (ratio .entry)) → now (gs .exit) ≡ pass (rising car (now (us .entry)) (now (hs .entry))) (length (now (hs .entry))) (now (gs .entry))) ⌝ }
+    ensures { λ r. ⌜ ((car : Vehicle) → Has car k (now (ratio .entry))
+        → now (gs .exit) ≡ pass (rising car (now (us .entry)) (now (hs .entry))) (length (now (hs .entry))) (now (gs .entry))) ⌝ }
 {
     if gs.len() < 2 {
         return;
@@ -71,7 +73,7 @@ pub fn pass_b(k: Numbers, ratio: &[u16; 10], us: &[u16], hs: &[u8], gs: &mut [u8
     let mut last = gs[0];
     while j < gs.len() {
         let g = gs[j];
-        last = rising_at(k, ratio, us, hs, gs, j, g, last);
+        last = risen(k, ratio, us, hs, gs, j, g, last);
         gs[j] = last;
         j += 1;
     }

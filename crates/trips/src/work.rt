@@ -1,15 +1,15 @@
 // The work on one trip: first choices, the three passes, the bytes.
-ghost use Rattle.rules.specs.Words.{_≡_, Bool, false, List, ℕ, _+_, _-_, _≤_, _<_, leb, eqb, ℤ, length, if_then_else_, _and_, at, pass};
+ghost use Rattle.rules.specs.Words.{_≡_, Bool, false, List, ℕ, _+_, _-_, _≤_, _<_, leb, ℤ, length, at, pass};
 ghost use Rattle.rules.specs.Units.{rise};
 ghost use Rattle.rules.specs.Corrections.{role-of};
 ghost use Rattle.rules.specs.declared.Vehicle.{Vehicle};
 ghost use Rattle.gears.specs.Choosing.{first-of};
 ghost use Rattle.rules.specs.declared.Role.the-variants.{First};
 ghost use Rattle.rules.specs.Inside.{InBounds};
-ghost use Rattle.gears.specs.Parts.{Has, Lent, Parts};
+ghost use Rattle.gears.specs.Parts.{Has, Parts, OfLent};
 ghost use Rattle.gears.specs.Second.{Driven};
-ghost use Rattle.trips.specs.Ready.{Aligned, TripSecond, Paced, Ready};
-ghost use Rattle.trips.specs.Trip.{on-way, AllGeared, trip-bytes};
+ghost use Rattle.trips.specs.Ready.{Aligned, TripSecond, Paced, ReadyTrip};
+ghost use Rattle.trips.specs.Trip.{on-way, WayTo, AllGeared, trip-bytes};
 use crate::byte::bytes;
 use crate::peak::pass_a;
 use crate::rising::pass_b;
@@ -50,7 +50,8 @@ fn choice_at<'a>(
     j: usize,
 ) -> Chosen
     requires { ⌜ Parts k (now ratio) (now n) (now p) × Paced (now us) (now hs) × TripSecond (now us) (now hs) j × (before .segment + 1 < k .points) ⌝ }
-    ensures gear { λ r. ⌜ ((car : Vehicle) → Lent car k (now (ratio .entry)) (now (n .entry)) (now (p .entry)) → r .gear ≡ first-of car (role-of car false (leb run j) (before .gear)) (at (now (us .entry)) j) (rise (now (us .entry)) j) (at (now (hs .entry)) j)) ⌝ }
+    ensures gear { λ r. ⌜ OfLent k (now (ratio .entry)) (now (n .entry)) (now (p .entry)) (λ car.
+        r .gear ≡ first-of car (role-of car false (leb run j) (before .gear)) (at (now (us .entry)) j) (rise (now (us .entry)) j) (at (now (hs .entry)) j)) ⌝ }
     ensures segment { λ r. ⌜ r .segment + 1 < k .points ⌝ }
 {
     let v = us[j];
@@ -73,7 +74,9 @@ fn later_choices<'a>(
     gs: &mut [u8],
 )
     requires { ⌜ Parts k (now ratio) (now n) (now p) × Paced (now us) (now hs) × Aligned (now us) (now hs) (now gs) × (from ≤ length (now gs)) ⌝ }
-    ensures { λ r. ⌜ ((car : Vehicle) → Lent car k (now (ratio .entry)) (now (n .entry)) (now (p .entry)) → (begins : Bool) (before : ℕ) (base : List ℕ) → (begins and eqb from 0) ≡ false → last ≡ (if eqb from 0 then before else at (now (gs .entry)) (from - 1)) → now (gs .entry) ≡ pass (on-way car (now (us .entry)) (now (hs .entry)) begins run before) from base → now (gs .exit) ≡ pass (on-way car (now (us .entry)) (now (hs .entry)) begins run before) (length (now (hs .entry))) base) ⌝ }
+    ensures { λ r. ⌜ OfLent k (now (ratio .entry)) (now (n .entry)) (now (p .entry)) (λ car. (begins : Bool) (before : ℕ) (base : List ℕ)
+        → WayTo car (now (us .entry)) (now (hs .entry)) run begins before base (now (gs .entry)) last from
+        → now (gs .exit) ≡ pass (on-way car (now (us .entry)) (now (hs .entry)) begins run before) (length (now (hs .entry))) base) ⌝ }
 {
     let mut j = from;
     // the first search starts from the curve's first segment
@@ -104,7 +107,8 @@ pub fn first_choices<'a>(
     gs: &mut [u8],
 )
     requires { ⌜ Parts k (now ratio) (now n) (now p) × Paced (now us) (now hs) × Aligned (now us) (now hs) (now gs) ⌝ }
-    ensures { λ r. ⌜ ((car : Vehicle) → Lent car k (now (ratio .entry)) (now (n .entry)) (now (p .entry)) → now (gs .exit) ≡ pass (on-way car (now (us .entry)) (now (hs .entry)) begins run last) (length (now (hs .entry))) (now (gs .entry))) ⌝ }
+    ensures { λ r. ⌜ OfLent k (now (ratio .entry)) (now (n .entry)) (now (p .entry)) (λ car.
+        now (gs .exit) ≡ pass (on-way car (now (us .entry)) (now (hs .entry)) begins run last) (length (now (hs .entry))) (now (gs .entry))) ⌝ }
 {
     if gs.len() < 1 {
         return;
@@ -128,8 +132,10 @@ pub fn work_trip<'a>(
     hs: &[u8],
     gs: &mut [u8],
 )
-    requires { ⌜ Parts k (now ratio) (now n) (now p) × Ready k (now us) (now hs) (now gs) × ((car : Vehicle) → Lent car k (now ratio) (now n) (now p) → AllGeared car (now us) (now hs)) ⌝ }
-    ensures { λ r. ⌜ ((car : Vehicle) → Lent car k (now (ratio .entry)) (now (n .entry)) (now (p .entry)) → now (gs .exit) ≡ trip-bytes car (now (us .entry)) (now (hs .entry))) ⌝ }
+    requires { ⌜ Parts k (now ratio) (now n) (now p) × ReadyTrip k (now us) (now hs) (now gs)
+        × OfLent k (now ratio) (now n) (now p) (λ car. AllGeared car (now us) (now hs)) ⌝ }
+    ensures { λ r. ⌜ OfLent k (now (ratio .entry)) (now (n .entry)) (now (p .entry))
+        (λ car. now (gs .exit) ≡ trip-bytes car (now (us .entry)) (now (hs .entry))) ⌝ }
 {
     let run = closing_from(us);
     first_choices(k, ratio, n, p, us, hs, true, run, 0, gs);

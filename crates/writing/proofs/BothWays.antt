@@ -1,5 +1,6 @@
 -- Request One, over the contracts of the reader and of the writer themselves: demand 2 in both directions.
-use Rattle.rules.proofs.Offered.{ℕ, _≤_, arith, _≡_, refl, ap, _∙_, none, List, length, take, said, Read, got, refused, Job, job-read, read-fault, job-of, filled, Bytes, job-from, job-fault, cleared, job-bytes, write-fault, write-room, left-none, said-once}
+use Rattle.rules.proofs.Offered.{ℕ, _≤_, arith, _≡_, refl, ap, _∙_, none, List, length, take, said, Read, got, refused, Job, job-read, read-fault, job-of}
+use Rattle.rules.proofs.Offered.{filled, Bytes, job-from, job-fault, cleared, job-bytes, write-fault, write-room, left-none, said-once}
 use Rattle.rules.proofs.Theorems.Jobs.{written-reads-back, read-writes-back}
 use Rattle.rules.specs.declared.Vehicle.{Vehicle}
 use Rattle.rules.specs.declared.Answer.{Answer}
@@ -21,7 +22,8 @@ record PutWhole (bytes room : List ℕ) (w : Written) (room′ : List ℕ) : Typ
   count : w .length ≡ length bytes
   start : room′ ≡ filled room bytes
 
-put-whole : {v : ℕ} {car : Vehicle} {vs hs room : List ℕ} {w : Written} {room′ : List ℕ} → WriteAs v car vs hs room w room′ → write-fault v car vs hs room ≡ none
+put-whole : {v : ℕ} {car : Vehicle} {vs hs room : List ℕ} {w : Written} {room′ : List ℕ} → WriteAs v car vs hs room w room′
+    → write-fault v car vs hs room ≡ none
     → PutWhole (job-bytes v car vs hs) room w room′
 unfolding write-room
 put-whole a e = record { count = a .the-length ∙ left-none _ _ e; start = a .room-left ∙ left-none _ _ e }
@@ -71,7 +73,8 @@ pub record SameBytes (bytes room : List ℕ) (w : Written) (room′ : List ℕ) 
 
 pub read-then-written : {bytes s₀ h₀ s h : List ℕ} {r : Reading} → Bytes bytes → ReadAs bytes s₀ h₀ r s h → r .answer ≡ Done
     → job-fault (r .vehicle) (take (r .count) s) (take (r .count) h) ≡ none
-    → {room : List ℕ} {w : Written} {room′ : List ℕ} → length bytes ≤ length room → WriteAs (r .version) (r .vehicle) (take (r .count) s) (take (r .count) h) room w room′
+    → {room : List ℕ} {w : Written} {room′ : List ℕ} → length bytes ≤ length room
+    → WriteAs (r .version) (r .vehicle) (take (r .count) s) (take (r .count) h) room w room′
     → SameBytes bytes room w room′
 unfolding reading
 read-then-written {bytes} {s₀} {h₀} {s} {h} {r} all-bytes a d ok {room} {w} {room′} l b =

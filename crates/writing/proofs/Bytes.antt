@@ -1,8 +1,12 @@
 -- What the stages of a job are written as, in the pieces that the code puts.
-use Rattle.rules.proofs.Offered.{ℕ, zero, suc, _+_, _-_, _*_, _≤_, _<_, arith, _≡_, refl, ap, _∙_, List, [], _∷_, _++_, length, length-append, take-length, leb, at, table, form, value, only-if, checked, bounded, _then_, seen, row-write, row, many, counted, version, profile, gearbox, numbers, point, curve, seconds, trace, hold, points-of, parts-of, vehicle, gather, holds, fields, stages, job, job-bytes, job-from, InBounds, by-test, length-table, table-at, form-one, form-size, points-many}
+use Rattle.rules.proofs.Offered.{ℕ, zero, suc, _+_, _-_, _*_, _≤_, _<_, arith, _≡_, refl, ap, _∙_, List, [], _∷_, _++_, length, length-append, take-length, leb}
+use Rattle.rules.proofs.Offered.{at, table, form, value, only-if, checked, bounded, _then_, seen, row-write, row, many, counted, version, profile, gearbox}
+use Rattle.rules.proofs.Offered.{numbers, curve, seconds, trace, one-hold, points-of, parts-of, vehicle, gather, holds, fields, stages, job, job-bytes}
+use Rattle.rules.proofs.Offered.{job-from, InBounds, by-test, length-table, table-at, form-one, form-size, points-many}
 use Rattle.rules.specs.declared.Vehicle.{Vehicle}
 use Rattle.writing.specs.Writing.{values-bytes, pair, pairs-bytes, since, margin, margins-bytes, points-bytes}
-use Rattle.writing.proofs.BytesLeft.{values-left, values-more, values-none, values-all, points-left, points-more, points-none, margins-left, margins-more, margins-none, margins-all, margins-late, margins-early, since-late, since-early, pair-more, pair-none}
+use Rattle.writing.proofs.BytesLeft.{values-left, values-more, values-none, values-all, points-left, points-more, points-none, margins-left}
+use Rattle.writing.proofs.BytesLeft.{margins-more, margins-none, margins-all, margins-late, margins-early, since-late, since-early, pair-more, pair-none}
 
 -- the profile is written as a value
 profile-bytes : (v x : ℕ) → profile v .write x ≡ since 3 v .write x
@@ -26,8 +30,8 @@ all-values : (vs : List ℕ) → table (at vs) 0 (length vs) ≡ vs
 all-values vs = table-at vs (length vs) 0 (omega arith) ∙ take-length vs
 
 -- holds are written as pairs
-rising-pairs : (count s : ℕ) (l : List (ℕ × ℕ)) → row-write (hold count) (λ next h. suc (h .0)) s l ≡ pairs-bytes l
-unfolding row-write hold checked _then_ value many row pair
+rising-pairs : (count s : ℕ) (l : List (ℕ × ℕ)) → row-write (one-hold count) (λ next h. suc (h .0)) s l ≡ pairs-bytes l
+unfolding row-write one-hold checked _then_ value many row pair
 rising-pairs count s [] = refl
 rising-pairs count s (h ∷ l) = ap (λ (m : List ℕ). (form (h .0) ++ form (h .1)) ++ m) (rising-pairs count (suc (h .0)) l)
 
@@ -42,7 +46,13 @@ job-pieces v car vs hs = rw (all-values vs, rising-pairs (length vs) 0 (gather 0
 values-short-from : (m : ℕ) (vs : List ℕ) (k i : ℕ) → k - i ≡ m → length (values-left vs k i) ≤ 3 * m
 values-short-from zero vs k i e = omega (arith, ap length (values-none vs k i (omega arith)))
 values-short-from (suc m) vs k i e =
-    omega (arith, ap length (values-more vs k i (omega arith)), length-append (form (at vs i)) (values-left vs k (suc i)), form-size (at vs i) .1, values-short-from m vs k (suc i) (omega arith))
+    omega (
+      arith,
+      ap length (values-more vs k i (omega arith)),
+      length-append (form (at vs i)) (values-left vs k (suc i)),
+      form-size (at vs i) .1,
+      values-short-from m vs k (suc i) (omega arith),
+    )
 
 -- three bytes a value at most
 pub values-short : (vs : List ℕ) (k : ℕ) → length (values-bytes vs k) ≤ 3 * k
@@ -51,7 +61,13 @@ values-short vs k = let z : k - 0 ≡ k = omega arith in rw (values-all vs k) at
 points-size-from : (m v : ℕ) (ns ps ms : List ℕ) (k i : ℕ) → k - i ≡ m
     → length (points-left v ns ps ms k i) ≡ length (values-left ns k i) + length (values-left ps k i) + length (margins-left v ms k i)
 points-size-from zero v ns ps ms k i e =
-    omega (arith, ap length (points-none v ns ps ms k i (omega arith)), ap length (values-none ns k i (omega arith)), ap length (values-none ps k i (omega arith)), ap length (margins-none v ms k i (omega arith)))
+    omega (
+      arith,
+      ap length (points-none v ns ps ms k i (omega arith)),
+      ap length (values-none ns k i (omega arith)),
+      ap length (values-none ps k i (omega arith)),
+      ap length (margins-none v ms k i (omega arith)),
+    )
 points-size-from (suc m) v ns ps ms k i e =
     let h : i < k = omega arith in
     let a = form (at ns i) in
@@ -73,18 +89,22 @@ points-size-from (suc m) v ns ps ms k i e =
     )
 
 -- points are as long as their columns
-points-size : (v : ℕ) (ns ps ms : List ℕ) (k : ℕ) → length (points-bytes v (points-of k ns ps ms)) ≡ length (values-bytes ns k) + length (values-bytes ps k) + length (margins-bytes v ms k)
-points-size v ns ps ms k = let z : k - 0 ≡ k = omega arith in rw (values-all ns k, values-all ps k, margins-all v ms k, z) at (points-size-from k v ns ps ms k 0 z)
+points-size : (v : ℕ) (ns ps ms : List ℕ) (k : ℕ)
+    → length (points-bytes v (points-of k ns ps ms)) ≡ length (values-bytes ns k) + length (values-bytes ps k) + length (margins-bytes v ms k)
+points-size v ns ps ms k = let z : k - 0 ≡ k = omega arith in
+    rw (values-all ns k, values-all ps k, margins-all v ms k, z) at (points-size-from k v ns ps ms k 0 z)
 
 -- three bytes a margin at most
 pub margins-short : (v : ℕ) (ms : List ℕ) (k : ℕ) → length (margins-bytes v ms k) ≤ 3 * k
 margins-short v ms k =
-    by-test (leb 2 v) (λ e. rw (margins-late v ms k e) (values-short ms k)) (λ e. let n : length (margins-bytes v ms k) ≡ 0 = ap length (margins-early v ms k e) in omega arith)
+    by-test (leb 2 v) (λ e. rw (margins-late v ms k e) (values-short ms k))
+    (λ e. let n : length (margins-bytes v ms k) ≡ 0 = ap length (margins-early v ms k e) in omega arith)
 
 -- and of a value that not every version has
 pub since-short : (first v m : ℕ) → length (since first v .write m) ≤ 3
 since-short first v m =
-    by-test (leb first v) (λ e. rw (since-late first v m e) (form-size m .1)) (λ e. let n : length (since first v .write m) ≡ 0 = ap length (since-early first v m e) in omega arith)
+    by-test (leb first v) (λ e. rw (since-late first v m e) (form-size m .1))
+    (λ e. let n : length (since first v .write m) ≡ 0 = ap length (since-early first v m e) in omega arith)
 
 pub vehicle-length : (v : ℕ) (car : Vehicle) → length (vehicle v .write car)
     ≡ length (since 3 v .write (car .profile))
@@ -98,23 +118,50 @@ vehicle-length v car =
     let d = form (car .points) in
     let e = points-bytes v (points-of (car .points) (car .n) (car .p) (car .m)) in
     let f = since 3 v .write (car .profile) in
-    omega (arith, ap length (vehicle-bytes v car), length-append f ((a ++ b) ++ (c ++ (d ++ e))), length-append (a ++ b) (c ++ (d ++ e)), length-append a b, length-append c (d ++ e), length-append d e, points-size v (car .n) (car .p) (car .m) (car .points))
+    omega (
+      arith,
+      ap length (vehicle-bytes v car),
+      length-append f ((a ++ b) ++ (c ++ (d ++ e))),
+      length-append (a ++ b) (c ++ (d ++ e)),
+      length-append a b,
+      length-append c (d ++ e),
+      length-append d e,
+      points-size v (car .n) (car .p) (car .m) (car .points),
+    )
 
 -- pairs are six bytes at most
 pub pairs-short : (l : List (ℕ × ℕ)) → length (pairs-bytes l) ≤ 6 * length l
 pairs-short [] = omega (arith, ap length pair-none)
 pairs-short (x ∷ l) =
-    omega (arith, ap length (pair-more x l), length-append (form (x .0)) (form (x .1) ++ pairs-bytes l), length-append (form (x .1)) (pairs-bytes l), form-size (x .0) .1, form-size (x .1) .1, pairs-short l)
+    omega (
+      arith,
+      ap length (pair-more x l),
+      length-append (form (x .0)) (form (x .1) ++ pairs-bytes l),
+      length-append (form (x .1)) (pairs-bytes l),
+      form-size (x .0) .1,
+      form-size (x .1) .1,
+      pairs-short l,
+    )
 
 pub job-length : (v : ℕ) (car : Vehicle) (vs hs : List ℕ) → v ≤ 3 → length (job-bytes v car vs hs)
-    ≡ 1 + length (vehicle v .write car) + (length (form (length vs)) + length (values-bytes vs (length vs))) + length (form (length (gather 0 hs))) + length (pairs-bytes (gather 0 hs))
+    ≡ 1 + length (vehicle v .write car) + (length (form (length vs)) + length (values-bytes vs (length vs))) + length (form (length (gather 0 hs))) + length
+    (pairs-bytes (gather 0 hs))
 job-length v car vs hs small =
     let a = vehicle v .write car in
     let b = form (length vs) in
     let c = values-bytes vs (length vs) in
     let d = form (length (gather 0 hs)) in
     let e = pairs-bytes (gather 0 hs) in
-    omega (arith, ap length (job-pieces v car vs hs), length-append (form v) (a ++ ((b ++ c) ++ (d ++ e))), length-append a ((b ++ c) ++ (d ++ e)), length-append (b ++ c) (d ++ e), length-append b c, length-append d e, ap length (form-one v (omega arith)))
+    omega (
+      arith,
+      ap length (job-pieces v car vs hs),
+      length-append (form v) (a ++ ((b ++ c) ++ (d ++ e))),
+      length-append a ((b ++ c) ++ (d ++ e)),
+      length-append (b ++ c) (d ++ e),
+      length-append b c,
+      length-append d e,
+      ap length (form-one v (omega arith)),
+    )
 
 -- the parts of a vehicle in bounds are short, and so are eight numbers
 pub record ShortVehicle (v : ℕ) (car : Vehicle) (eight : List ℕ) : Type 0 where

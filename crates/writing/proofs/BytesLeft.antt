@@ -1,8 +1,10 @@
 -- The bytes of values, pairs, points, margins and holds in a row, of which some are put or measured: what is left of them.
-use Rattle.rules.proofs.Offered.{ℕ, suc, _+_, _-_, _≤_, _<_, arith, true, false, _≡_, refl, sym, ap, List, [], _∷_, _++_, append-assoc, length, drop, length-append, drop-of-length-le, drop-cons, getD-drop, drop-drop, leb, eqb, at, table, form, value, known, only-if, _then_, row-write, row, many, point, points-of, gather, by-test}
+use Rattle.rules.proofs.Offered.{ℕ, suc, _+_, _-_, _≤_, _<_, arith, true, false, _≡_, refl, sym, ap, List, [], _∷_, _++_, append-assoc, length, drop}
+use Rattle.rules.proofs.Offered.{length-append, drop-of-length-le, drop-cons, getD-drop, drop-drop, leb, eqb, at, table, form, value, known, only-if, _then_}
+use Rattle.rules.proofs.Offered.{row-write, row, many, point, points-of, gather, by-test}
 use Prim.{Unit, tt}
 use Rattle.writing.specs.Writing.{values-bytes, pair, pairs-bytes, since, margin, margins-bytes, points-bytes, hold-bytes, held-one}
-use Rattle.reading.proofs.PutInTurn.{Left, all-left, said-as}
+use Rattle.reading.proofs.PutInTurn.{LeftToPut, all-left, said-as}
 
 -- ---- values in a row, of which i are put
 
@@ -21,7 +23,7 @@ pub values-all : (vs : List ℕ) (k : ℕ) → values-left vs k 0 ≡ values-byt
 values-all vs k = let z : k - 0 ≡ k = omega arith in ap (λ (m : ℕ). many value k .write (table (at vs) 0 m)) z
 
 pub values-begin : (room : List ℕ) (start : ℕ) (vs : List ℕ) (k : ℕ) → start + length (values-bytes vs k) ≤ length room
-    → Left room start (values-bytes vs k) room start (values-left vs k 0)
+    → LeftToPut room start (values-bytes vs k) room start (values-left vs k 0)
 values-begin room start vs k h = said-as (sym (values-all vs k)) (all-left room start (values-bytes vs k) h)
 
 -- ---- pairs in a row
@@ -35,7 +37,8 @@ unfolding many row row-write
 pair-none = refl
 
 -- points, of which i are put
-point-more : (v : ℕ) (x : ℕ × (ℕ × ℕ)) (l : List (ℕ × (ℕ × ℕ))) → points-bytes v (x ∷ l) ≡ form (x .0) ++ (form (x .1 .0) ++ (margin v .write (x .1 .1) ++ points-bytes v l))
+point-more : (v : ℕ) (x : ℕ × (ℕ × ℕ)) (l : List (ℕ × (ℕ × ℕ)))
+    → points-bytes v (x ∷ l) ≡ form (x .0) ++ (form (x .1 .0) ++ (margin v .write (x .1 .1) ++ points-bytes v l))
 unfolding many row row-write point _then_ value
 point-more v x l = rw (append-assoc, append-assoc)
 
@@ -60,7 +63,7 @@ unfolding points-of
 points-none v ns ps ms k i h = let z : k - i ≡ 0 = omega arith in rw z (point-none v)
 
 pub points-begin : (v : ℕ) (room : List ℕ) (start : ℕ) (ns ps ms : List ℕ) (k : ℕ) → start + length (points-bytes v (points-of k ns ps ms)) ≤ length room
-    → Left room start (points-bytes v (points-of k ns ps ms)) room start (points-left v ns ps ms k 0)
+    → LeftToPut room start (points-bytes v (points-of k ns ps ms)) room start (points-left v ns ps ms k 0)
 points-begin v room start ns ps ms k h =
     let z : k - 0 ≡ k = omega arith in
     said-as (ap (λ (j : ℕ). points-bytes v (points-of j ns ps ms)) (sym z)) (all-left room start (points-bytes v (points-of k ns ps ms)) h)
@@ -148,7 +151,8 @@ one-short g = by-test (eqb g 0) (λ z. rw z (omega arith)) (λ z. rw z (omega ar
 pub record Measured (all : List ℕ) (size : ℕ) (left : List ℕ) : Type 0 where
   pub sum : size + length left ≡ length all
 
-pub measured-more : {all : List ℕ} {size : ℕ} (piece left : List ℕ) {before : List ℕ} → before ≡ piece ++ left → Measured all size before → Measured all (size + length piece) left
+pub measured-more : {all : List ℕ} {size : ℕ} (piece left : List ℕ) {before : List ℕ} → before ≡ piece ++ left → Measured all size before
+    → Measured all (size + length piece) left
 measured-more piece left e m = record { sum = omega (arith, m .sum, ap length e, length-append piece left) }
 
 pub measured-all : {all : List ℕ} {size : ℕ} {left : List ℕ} → left ≡ [] → Measured all size left → size ≡ length all

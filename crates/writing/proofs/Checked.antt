@@ -1,11 +1,14 @@
 -- 14, and checks 1 to 9 of a job that is to be written: each way out of them. There is no card, and the holds stand for one.
-use Rattle.rules.proofs.Offered.{ℕ, arith, _≡_, refl, sym, ap, _∙_, true, false, not, Option, none, List, length, set, set-out, if_then_else_, _and_, _or_, within, newest, bounds, first-failed, bad-field, Fault, said, refuse-at, _orelse_, when, trace-fault, room-fault, vehicle-fault, seconds-fault, checks-fault, orelse-none, none-orelse, orelse-assoc, refuse-none, none-when, no-profile, no-margins, same-bounds}
+use Rattle.rules.proofs.Offered.{ℕ, arith, _≡_, refl, sym, ap, _∙_, true, false, not, Option, none, List, length, set, set-out, if_then_else_, _and_, _or_}
+use Rattle.rules.proofs.Offered.{within, newest, bounds, first-failed, bad-field, Fault, said, refuse-at, _orelse_, when, trace-fault, room-fault}
+use Rattle.rules.proofs.Offered.{vehicle-fault, seconds-fault, checks-fault, orelse-none, none-orelse, orelse-assoc, refuse-none, none-when, no-profile}
+use Rattle.rules.proofs.Offered.{no-margins, same-bounds}
 use Rattle.rules.specs.declared.Vehicle.{Vehicle}
 use Rattle.rules.specs.declared.Refusal.{Refusal}
 use Rattle.rules.specs.declared.Refusal.the-variants.{BadVersion}
 use Rattle.rules.specs.declared.Answer.{Answer}
 use Rattle.rules.specs.declared.Answer.the-variants.{Done, Refused}
-use Rattle.checks.proofs.Rows.{opening, Opened, opened, said-first, said-none}
+use Rattle.checks.proofs.Rows.{Opened, opened, said-first, said-none}
 use Rattle.writing.specs.Writing.{told-fault}
 
 -- ---- 14, and 1 to 3
@@ -55,7 +58,8 @@ module _ (v : ℕ) (car : Vehicle) (vs hs : List ℕ) where
         opened {x = Done} (sym (none-orelse _ _ (b .0) ∙ none-orelse _ _ (c .0) ∙ f)) refl
 
     -- then 4 to 9 decide, and no hold is replaced
-    pub job-seconds : (u g : ℕ) (f : Option Fault) → f ≡ seconds-fault car (set vs (length vs) u) (set hs (length vs) g) 0 (length vs) → f ≡ checks-fault v car vs hs
+    pub job-seconds : (u g : ℕ) (f : Option Fault) → f ≡ seconds-fault car (set vs (length vs) u) (set hs (length vs) g) 0 (length vs)
+        → f ≡ checks-fault v car vs hs
     job-seconds u g f s =
         s ∙ ap (λ (us : List ℕ). seconds-fault car us (set hs (length vs) g) 0 (length vs)) (set-out vs (length vs) u (omega arith))
         ∙ ap (λ (ks : List ℕ). seconds-fault car vs ks 0 (length vs)) (set-out hs (length vs) g (omega (arith, told-opened .holds-long)))

@@ -25,12 +25,14 @@ module _ {v : ℕ} {car : Vehicle} {vs hs room : List ℕ} {w : Written} {room�
 -- checks is written as the same bytes; from request Six on of each version
 
 module _ {v : ℕ} {car : Vehicle} {vs hs room : List ℕ} {w : Written} {room′ : List ℕ} (W : WriteAs v car vs hs room w room′) where
-  pub demand-2-reads-back : w .answer ≡ Done → {s₀ h₀ s h : List ℕ} {r : Reading} → length vs ≤ length s₀ → length vs ≤ length h₀ → ReadAs (take (w .length) room′) s₀ h₀ r s h
+  pub demand-2-reads-back : w .answer ≡ Done → {s₀ h₀ s h : List ℕ} {r : Reading} → length vs ≤ length s₀ → length vs ≤ length h₀
+      → ReadAs (take (w .length) room′) s₀ h₀ r s h
       → SameJob v car vs hs s₀ h₀ r s h
   demand-2-reads-back = written-then-read W
 
 module _ {bytes s₀ h₀ s h : List ℕ} {r : Reading} (R : ReadAs bytes s₀ h₀ r s h) where
   pub demand-2-writes-back : Bytes bytes → r .answer ≡ Done → job-fault (r .vehicle) (take (r .count) s) (take (r .count) h) ≡ none
-      → {room : List ℕ} {w : Written} {room′ : List ℕ} → length bytes ≤ length room → WriteAs (r .version) (r .vehicle) (take (r .count) s) (take (r .count) h) room w room′
+      → {room : List ℕ} {w : Written} {room′ : List ℕ} → length bytes ≤ length room
+      → WriteAs (r .version) (r .vehicle) (take (r .count) s) (take (r .count) h) room w room′
       → SameBytes bytes room w room′
   demand-2-writes-back all-bytes = read-then-written all-bytes R

@@ -1,5 +1,6 @@
 -- How many bytes holds have whose gears have one each, at seconds of at most two.
-use Rattle.rules.proofs.Offered.{ℕ, zero, suc, _+_, _-_, _*_, _≤_, _<_, arith, _≡_, refl, ap, List, length, length-append, eqb, at, gather, by-test, by-order, form-one, form-two}
+use Rattle.rules.proofs.Offered.{ℕ, zero, suc, _+_, _-_, _*_, _≤_, _<_, arith, _≡_, refl, ap, List, length, length-append, eqb, at, gather, by-test, by-order}
+use Rattle.rules.proofs.Offered.{form-one, form-two}
 use Rattle.writing.specs.Writing.{pairs-bytes, hold-bytes, held-one, Light}
 use Rattle.writing.proofs.BytesLeft.{held-left, held-more, held-count, held-end, held-nought}
 
@@ -17,13 +18,27 @@ module _ (hs : List ℕ) (light : Light hs) where
   far-from zero i e h = omega (arith, ap length (held-end hs i (omega arith)), held-nought hs i (omega arith))
   far-from (suc m) i e h =
       let k : i < length hs = omega arith in
-      omega (arith, ap length (held-more hs i k), length-append (hold-bytes i (at hs i)) (pairs-bytes (held-left hs (suc i))), held-count hs i k, far i (at hs i) h (omega (arith, light .seconds)) (light .gears i k), far-from m (suc i) (omega arith) (omega arith))
+      omega (
+        arith,
+        ap length (held-more hs i k),
+        length-append (hold-bytes i (at hs i)) (pairs-bytes (held-left hs (suc i))),
+        held-count hs i k,
+        far i (at hs i) h (omega (arith, light .seconds)) (light .gears i k),
+        far-from m (suc i) (omega arith) (omega arith),
+      )
 
   near-from : (m i : ℕ) → 128 - i ≡ m → i ≤ 128 → length (pairs-bytes (held-left hs i)) ≡ 2 * length (held-left hs i) + length (held-left hs 128)
   near-from zero i e h = let z : i ≡ 128 = omega arith in rw z (omega (arith, far-from (length hs - 128) 128 refl (omega arith)))
   near-from (suc m) i e h =
       by-order i (length hs)
-      (λ k. omega (arith, ap length (held-more hs i k), length-append (hold-bytes i (at hs i)) (pairs-bytes (held-left hs (suc i))), held-count hs i k, near i (at hs i) (omega arith) (light .gears i k), near-from m (suc i) (omega arith) (omega arith)))
+      (λ k. omega (
+        arith,
+        ap length (held-more hs i k),
+        length-append (hold-bytes i (at hs i)) (pairs-bytes (held-left hs (suc i))),
+        held-count hs i k,
+        near i (at hs i) (omega arith) (light .gears i k),
+        near-from m (suc i) (omega arith) (omega arith),
+      ))
       (λ k. omega (arith, ap length (held-end hs i k), held-nought hs i k, held-nought hs 128 (omega arith)))
 
   -- two bytes a hold, and one more for each from second 128 on

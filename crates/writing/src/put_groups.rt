@@ -90,8 +90,10 @@ fn put_speeds(room: &mut [u8], at: usize, speeds: &[u16]) -> usize
 
 // Sample count and speeds.
 pub fn put_trace(room: &mut [u8], at: usize, speeds: &[u16]) -> usize
-    requires { ⌜ Short (now speeds) × (length (now speeds) ≤ 65535) × (at + length (form (length (now speeds)) ++ values-bytes (now speeds) (length (now speeds))) ≤ length (now room)) ⌝ }
-    ensures { λ r. ⌜ Put (form (length (now (speeds .entry))) ++ values-bytes (now (speeds .entry)) (length (now (speeds .entry)))) (now (room .entry)) at r (now (room .exit)) ⌝ }
+    requires { ⌜ Short (now speeds) × (length (now speeds) ≤ 65535)
+        × (at + length (form (length (now speeds)) ++ values-bytes (now speeds) (length (now speeds))) ≤ length (now room)) ⌝ }
+    ensures { λ r. ⌜ Put (form (length (now (speeds .entry))) ++ values-bytes (now (speeds .entry)) (length (now (speeds .entry)))) (now (room .entry)) at r
+        (now (room .exit)) ⌝ }
 {
     let first = put_group(room, at, speeds.len() as u16);
     put_speeds(room, first, speeds)
@@ -118,8 +120,10 @@ fn put_points<'a>(
     ps: &'a [u16],
     ms: &'a [u16],
 ) -> usize
-    requires { ⌜ (count ≤ length (now ns)) × (count ≤ length (now ps)) × (count ≤ length (now ms)) × (at + length (points-bytes version (points-of count (now ns) (now ps) (now ms))) ≤ length (now room)) ⌝ }
-    ensures { λ r. ⌜ Put (points-bytes version (points-of count (now (ns .entry)) (now (ps .entry)) (now (ms .entry)))) (now (room .entry)) at r (now (room .exit)) ⌝ }
+    requires { ⌜ (count ≤ length (now ns)) × (count ≤ length (now ps)) × (count ≤ length (now ms))
+        × (at + length (points-bytes version (points-of count (now ns) (now ps) (now ms))) ≤ length (now room)) ⌝ }
+    ensures { λ r. ⌜ Put (points-bytes version (points-of count (now (ns .entry)) (now (ps .entry)) (now (ms .entry)))) (now (room .entry)) at r
+        (now (room .exit)) ⌝ }
 {
     let mut next = at;
     let mut i = 0;

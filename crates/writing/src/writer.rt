@@ -30,7 +30,9 @@ use rules::Vehicle;
 // The bytes of the whole job: the version, which is one byte, the vehicle, the trace and the holds.
 fn job_size(version: u16, car: Vehicle, speeds: &[u16], held: HoldSizes) -> usize
     requires { ⌜ InBounds car × (length (now speeds) ≤ 16384) × (held .bytes ≤ 6 * 65535) ⌝ }
-    ensures { λ r. ⌜ r ≡ 1 + length (vehicle version .write car) + (length (form (length (now (speeds .entry)))) + length (values-bytes (now (speeds .entry)) (length (now (speeds .entry))))) + length (form (held .count)) + held .bytes ⌝ }
+    ensures { λ r. ⌜ r ≡ 1 + length (vehicle version .write car)
+        + (length (form (length (now (speeds .entry)))) + length (values-bytes (now (speeds .entry)) (length (now (speeds .entry)))))
+        + length (form (held .count)) + held .bytes ⌝ }
 {
     let trace = group_size(speeds.len() as u16) + values_size(speeds, speeds.len());
     1 + vehicle_size(version, car) + trace + group_size(held.count) + held.bytes
@@ -45,7 +47,8 @@ fn put_job<'a>(
     holds: &'a [u8],
     count: u16,
 ) -> usize
-    requires { ⌜ (checks-fault version car (now speeds) (now holds) ≡ none) × (count ≡ length (gather 0 (now holds))) × (length (job-bytes version car (now speeds) (now holds)) ≤ length (now room)) ⌝ }
+    requires { ⌜ (checks-fault version car (now speeds) (now holds) ≡ none) × (count ≡ length (gather 0 (now holds)))
+        × (length (job-bytes version car (now speeds) (now holds)) ≤ length (now room)) ⌝ }
     ensures { λ r. ⌜ Put (job-bytes version car (now (speeds .entry)) (now (holds .entry))) (now (room .entry)) 0 r (now (room .exit)) ⌝ }
 {
     let at = put_group(room, 0, version);

@@ -5,4 +5,6 @@ use Rattle.capi.proofs.gearcard_downscale.Statement.{statement}
 use Rattle.capi.proofs.gearcard_downscale.Tie as tie
 
 pub gearcard-downscale-spec : {M : Type 1} → statement M
-gearcard-downscale-spec = let answers = tie.spec (λ c κs. search needs) (λ c κs. search needs) (λ c. search needs) (λ c. (c .verdict-of .ensures ∙ says-told _ _ (c .before .before .before .downscale .ensures .0), search needs)) in tie.close answers
+gearcard-downscale-spec =
+    let answers = tie.spec (λ c κs. search needs) (λ c κs. search needs) (λ c. search needs)
+    (λ c. (c .verdict-of .ensures ∙ says-told _ _ (c .before .before .before .downscale .ensures .0), search needs)) in tie.close answers

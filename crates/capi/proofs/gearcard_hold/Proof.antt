@@ -6,7 +6,8 @@ use Rattle.capi.proofs.gearcard_hold.Tie as tie
 
 returns : tie.Need-returns
 returns c =
-    let r = c .before .before .before .before .before .hold .ensures in
+    let at-hold : tie.After-hold = search in
+    let r = at-hold .hold .ensures in
     (c .counted-of .ensures .0 ∙ says-told _ _ (r .0), (c .counted-of .ensures .1 ∙ r .1 .0, (search needs, search needs)))
 
 pub gearcard-hold-spec : {M : Type 1} → statement M

@@ -6,7 +6,8 @@ use Rattle.capi.proofs.gearcard_mend.Tie as tie
 
 returns : tie.Need-returns
 returns c =
-    let r = c .before .before .before .before .before .mend .ensures in
+    let at-mend : tie.After-mend = search in
+    let r = at-mend .mend .ensures in
     (c .counted-of .ensures .0 ∙ says-told _ _ (r .0), (c .counted-of .ensures .1 ∙ r .1 .0, (search needs, search needs)))
 
 pub gearcard-mend-spec : {M : Type 1} → statement M

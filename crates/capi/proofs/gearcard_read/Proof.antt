@@ -8,7 +8,8 @@ use Rattle.capi.proofs.gearcard_read.Tie as tie
 returns : tie.Need-returns
 unfolding reading
 returns c =
-    let r = c .before .before .before .before .before .before .read .ensures in
+    let at-read : tie.After-read = search in
+    let r = at-read .read .ensures in
     record {
       answered = c .verdict-of .ensures ∙ says-told _ _ (r .answered);
       the-version = search needs;

@@ -6,8 +6,10 @@ use Rattle.capi.proofs.gearcard_release.Tie as tie
 
 returns : tie.Need-returns
 returns c =
-    let r = c .before .before .before .before .before .release .ensures in
+    let at-release : tie.After-release = search in
+    let r = at-release .release .ensures in
     (c .counted-of .ensures .0 ∙ says-told _ _ (r .0), (c .counted-of .ensures .1 ∙ r .1 .0, (search needs, search needs)))
 
 pub gearcard-release-spec : {M : Type 1} → statement M
-gearcard-release-spec = let answers = tie.spec (λ c κs. search needs) (λ c κs. search needs) (λ c. search needs) (λ c. search needs) returns in tie.close answers
+gearcard-release-spec = let answers = tie.spec (λ c κs. search needs) (λ c κs. search needs) (λ c. search needs) (λ c. search needs) returns in
+    tie.close answers

@@ -5,4 +5,5 @@ use Rattle.capi.proofs.gearcard_why.Statement.{statement}
 use Rattle.capi.proofs.gearcard_why.Tie as tie
 
 pub gearcard-why-spec : {M : Type 1} → statement M
-gearcard-why-spec = let answers = tie.spec (λ c κs. search needs) (λ c κs. search needs) (λ c. (c .verdict-of .ensures ∙ says-told _ _ (c .before .before .why .ensures .0), c .before .before .why .ensures .1)) in tie.close answers
+gearcard-why-spec = let answers = tie.spec (λ c κs. search needs) (λ c κs. search needs)
+    (λ c. (c .verdict-of .ensures ∙ says-told _ _ (c .before .before .why .ensures .0), c .before .before .why .ensures .1)) in tie.close answers

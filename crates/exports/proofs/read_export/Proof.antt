@@ -10,63 +10,100 @@ use Rattle.exports.proofs.read_export.Tie as tie
 
 -- ---- what was read
 
-first : (c : tie.After-first) → RecordCame (c .before .before .before .before .before .args .bytes .now) none-yet 0 (c .first .given .0 .0) (c .first .given .0 .1 .0)
-first c = let r = rw (c .first .given .1, c .before .before .before .none-yet .ensures) at (c .before .before .record-at .ensures) in record { reads = r .0; fresh = r .1 .0; good = r .1 .1 }
+abbrev first→start : tie.After-first → tie.Start
+first→start c = c .before .before .before .before .before
 
-half : (c : tie.After-second) → c .before .before .before .and .result ≡ with-record none-yet (c .before .before .before .before .before .first .given .0 .0)
-half c = rw (c .before .before .before .before .before .before .before .before .none-yet .ensures) at (c .before .before .before .and .ensures)
+abbrev second→first : tie.After-second → tie.After-first
+second→first c = c .before .before .before .before .before
 
-second : (c : tie.After-second) → let f = c .before .before .before .before .before in
-    RecordCame (f .before .before .before .before .before .args .bytes .now) (with-record none-yet (f .first .given .0 .0)) (f .first .given .0 .1 .0) (c .second .given .0 .0) (c .second .given .0 .1 .0)
-second c = let r = rw (c .second .given .1, half c) at (c .before .before .record-at2 .ensures) in record { reads = r .0; fresh = r .1 .0; good = r .1 .1 }
+abbrev third→second : tie.After-third → tie.After-second
+third→second c = c .before .before .before .before .before
 
-both : (c : tie.After-third) → c .before .before .before .and2 .result ≡ with-record (with-record none-yet (c .before .before .before .before .before .before .before .before .before .before .first .given .0 .0)) (c .before .before .before .before .before .second .given .0 .0)
-both c = rw (half (c .before .before .before .before .before)) at (c .before .before .before .and2 .ensures)
+first : (c : tie.After-first) → RecordCame (first→start c .args .bytes .now) none-yet 0 (c .first .given .0 .0) (c .first .given .0 .1 .0)
+first c =
+    let r = rw (c .first .given .1, c .before .before .before .none-yet .ensures) at (c .before .before .record-at .ensures) in
+    record { reads = r .0; fresh = r .1 .0; good = r .1 .1 }
 
-third : (c : tie.After-third) → got (c .third .given .0 .0) (c .third .given .0 .1 .0) ≡ record-read (c .before .before .before .before .before .before .before .before .before .before .before .before .before .before .before .args .bytes .now) (c .before .before .before .and2 .result) (c .before .before .before .before .before .second .given .0 .1 .0)
-third c = rw (c .third .given .1) at (c .before .before .record-at3 .ensures .0)
+half : (c : tie.After-second) → c .before .before .before .and .result ≡ with-record none-yet (second→first c .first .given .0 .0)
+half c =
+    let n : tie.After-none-yet = search in
+    rw (n .none-yet .ensures) at (c .before .before .before .and .ensures)
 
-judged : (c : tie.After-third) → Bounded (c .before .before .before .and2 .result .coefficients) × InField TM (c .before .before .before .and2 .result .mass)
-judged c = let h = c .before .before .before .before .before in let f = h .before .before .before .before .before in rw (both c) (both-judged (f .first .given .0 .0) (h .second .given .0 .0) (first f .fresh) (second h .fresh) (first f .good) (second h .good))
+second : (c : tie.After-second) → let f = second→first c in
+    RecordCame (first→start f .args .bytes .now) (with-record none-yet (f .first .given .0 .0)) (f .first .given .0 .1 .0)
+    (c .second .given .0 .0) (c .second .given .0 .1 .0)
+second c =
+    let r = rw (c .second .given .1, half c) at (c .before .before .record-at2 .ensures) in
+    record { reads = r .0; fresh = r .1 .0; good = r .1 .1 }
+
+both : (c : tie.After-third) → let h = third→second c in let f = second→first h in
+    c .before .before .before .and2 .result ≡ with-record (with-record none-yet (f .first .given .0 .0)) (h .second .given .0 .0)
+both c = rw (half (search)) at (c .before .before .before .and2 .ensures)
+
+third : (c : tie.After-third) → let h = third→second c in let f = second→first h in
+    got (c .third .given .0 .0) (c .third .given .0 .1 .0)
+    ≡ record-read (first→start f .args .bytes .now) (with-record (with-record none-yet (f .first .given .0 .0)) (h .second .given .0 .0))
+    (h .second .given .0 .1 .0)
+third c = rw (c .third .given .1, both c) at (c .before .before .record-at3 .ensures .0)
+
+judged : (c : tie.After-third) → let found = c .before .before .before .and2 .result in Bounded (found .coefficients) × InField TM (found .mass)
+judged c =
+    let h : tie.After-second = search in
+    let f : tie.After-first = search in
+    rw (both c) (both-judged (f .first .given .0 .0) (h .second .given .0 .0) (first f .fresh) (second h .fresh) (first f .good) (second h .good))
 
 -- ---- the returns
 
 returns : tie.Need-returns
 returns c =
+    let r : tie.After-record-at = search in
+    let n : tie.After-none-yet = search in
     let e = c .before .before .enum-told .given .1 in
-    rw (c .nothing .ensures, c .before .answer .ensures, e) (refused-as _ (first-stops _ (rw (e, c .before .before .before .before .before .none-yet .ensures) at (c .before .before .before .before .record-at .ensures .0))))
+    let stops = first-stops _ (rw (e, n .none-yet .ensures) at (r .record-at .ensures .0)) in
+    rw (c .no-export .ensures, c .before .answer .ensures, e) (refused-as _ stops)
 
 returns-2 : tie.Need-returns-2
 returns-2 c =
+    let r : tie.After-record-at2 = search in
+    let a : tie.After-and = search in
+    let f : tie.After-first = search in
     let e = c .before .before .enum-told2 .given .1 in
-    let f = c .before .before .before .before .before .before .before in
-    let h = rw (f .before .before .before .none-yet .ensures) at (c .before .before .before .before .before .and .ensures) in
-    rw (c .nothing2 .ensures, c .before .answer2 .ensures, e) (refused-as _ (second-stops _ (first f .reads) (rw (e, h) at (c .before .before .before .before .record-at2 .ensures .0))))
+    let h = rw (f .before .before .before .none-yet .ensures) at (a .and .ensures) in
+    let stops = second-stops _ (first f .reads) (rw (e, h) at (r .record-at2 .ensures .0)) in
+    rw (c .no-export2 .ensures, c .before .answer2 .ensures, e) (refused-as _ stops)
 
 returns-3 : tie.Need-returns-3
 returns-3 c =
+    let r : tie.After-record-at3 = search in
+    let a : tie.After-and2 = search in
+    let h : tie.After-second = search in
+    let f : tie.After-first = search in
     let e = c .before .before .enum-told3 .given .1 in
-    let h = c .before .before .before .before .before .before .before in
-    let w = rw (half h) at (c .before .before .before .before .before .and2 .ensures) in
-    rw (c .nothing3 .ensures, c .before .answer3 .ensures, e) (refused-as _ (third-stops _ (first (h .before .before .before .before .before) .reads) (second h .reads) (rw (e, w) at (c .before .before .before .before .record-at3 .ensures .0))))
+    let w = rw (half h) at (a .and2 .ensures) in
+    let stops = third-stops _ (first f .reads) (second h .reads) (rw (e, w) at (r .record-at3 .ensures .0)) in
+    rw (c .no-export3 .ensures, c .before .answer3 .ensures, e) (refused-as _ stops)
 
 returns-4 : tie.Need-returns-4
 returns-4 c =
-    let t = c .before .before .before in
-    rw (c .nothing4 .ensures) (refused-as _ (more-bytes _ (first (t .before .before .before .before .before .before .before .before .before .before) .reads) (second (t .before .before .before .before .before) .reads) (rw (both t) at (third t)) (c .before .if1 .taken)))
+    let h : tie.After-second = search in
+    let f : tie.After-first = search in
+    rw (c .no-export4 .ensures) (refused-as _ (more-bytes _ (first f .reads) (second h .reads) (third (search)) (c .before .if1 .taken)))
 
-whole-requires : tie.Need-whole-requires
+whole-requires : tie.Need-whole-number-requires
 unfolding TM
-whole-requires c κs = (judged (c .before .before .before .before) .1, tm-plain)
+whole-requires c κs = (judged (search) .1, tm-plain)
 
 returns-5 : tie.Need-returns-5
 unfolding TM
 returns-5 c =
-    let t = c .before .before .before .before .before .before in
+    let else1 : tie.Else1 = search in
+    let t : tie.After-third = search in
+    let h : tie.After-second = search in
+    let f : tie.After-first = search in
     let u = c .before .before .in-units .ensures in
-    let f : SFits w32 (c .before .before .in-units .result .f1) = rw (u .f1-is) (f1-short _ (judged t .0 .f1-in)) in
-    let all = rw (← both t) at (all-read _ (first (t .before .before .before .before .before .before .before .before .before .before) .reads) (second (t .before .before .before .before .before) .reads) (rw (both t) at (third t)) (c .before .before .before .before .if1 .left)) in
-    rw (toZ-ofZ f) (read-as-found _ all u (c .before .whole .ensures))
+    let short : SFits w32 (c .before .before .in-units .result .f1) = rw (u .f1-is) (f1-short _ (judged t .0 .f1-in)) in
+    let all = rw (← both t) at (all-read _ (first f .reads) (second h .reads) (third t) (else1 .if1 .left)) in
+    rw (toZ-ofZ short) (read-as-found _ all u (c .before .whole-number .ensures))
 
 pub read-export-spec : {M : Type 1} → statement M
 read-export-spec =
@@ -74,5 +111,6 @@ read-export-spec =
     (λ c κs. search needs) (λ c κs. search needs) returns (λ c κs. search needs) (λ c κs. search needs)
     (λ c. search needs) (λ c. search needs) (λ c κs. search needs) (λ c κs. search needs) returns-2
     (λ c κs. search needs) (λ c κs. search needs) (λ c. search needs) (λ c. search needs) (λ c κs. search needs)
-    (λ c κs. search needs) returns-3 (λ c κs. search needs) returns-4 (λ c κs. judged (c .before .before .before) .0) whole-requires returns-5 in
+    (λ c κs. search needs) returns-3 (λ c κs. search needs) returns-4
+    (λ c κs. judged (search) .0) whole-requires returns-5 in
     tie.close answers

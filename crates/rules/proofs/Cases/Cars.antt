@@ -1,12 +1,15 @@
--- What the rows of the table are about: car Z and its kin, their traces and jobs, and the values that stand in a row.
-use Rattle.rules.proofs.Base.{ℕ, Bool, Option, some, List, [], _∷_, _++_, ℤ, pos, replicate, take, Vehicle, Role, Summary, Closing, AfterLow, Inner}
+-- What the rows of the table are about: car Z and its kin, their traces and jobs, and what is said of them.
+use Rattle.rules.proofs.Base.{ℕ, Bool, Option, some, List, [], _∷_, _++_, ℤ, pos, _-_, replicate, take, length, getD, Vehicle, Role, Summary, Closing}
+use Rattle.rules.proofs.Base.{AfterLow, Inner, Answer}
 use Rattle.rules.specs.Words.{table}
 use Rattle.rules.specs.Gears.{minimum, choose}
 use Rattle.rules.specs.Corrections.{gears, first-at}
-use Rattle.rules.specs.Refusals.{Fault}
-use Rattle.rules.specs.Groups.{Read}
+use Rattle.rules.specs.Refusals.{told}
 use Rattle.rules.specs.Job.{version, profile, vehicle, job-read, job-of}
 use Rattle.rules.specs.Summary.{changes, summary}
+use Rattle.rules.specs.declared.GearFacts.{GearFacts}
+use Rattle.rules.specs.Why.{no-facts, why}
+use Rattle.rules.proofs.Cases.Rows.{Value, numbers, refused-by}
 
 -- car Z, with its profile, gears and ratios, its margins, its idle and rated speeds and its F0
 unfoldable pub vehicle-with : ℕ → ℕ → List ℕ → ℕ → List ℕ → ℕ → ℕ → ℕ → Vehicle
@@ -121,25 +124,9 @@ job-Z =
 unfoldable pub counting : List ℕ → List ℕ
 counting count = take 55 job-Z ++ count
 
--- what a row is about: numbers, a power, a test, a group that is read, a refusal or none
-pub data Value : Type 0 where
-  numbers : List ℕ → Value
-  scaled : ℤ → Value
-  test : Bool → Value
-  reading : Read ℕ → Value
-  refusal : Option Fault → Value
-
 -- "refused 1 at 0" and a line's end
 unfoldable pub too-long : List ℕ
 too-long = 114 ∷ 101 ∷ 102 ∷ 117 ∷ 115 ∷ 101 ∷ 100 ∷ 32 ∷ 49 ∷ 32 ∷ 97 ∷ 116 ∷ 32 ∷ 48 ∷ 10 ∷ []
-
--- what the definitions work out, beside what the paper prints
-pub record Row : Type 0 where
-  pub worked : Value
-  pub paper : Value
-
-unfoldable pub row : Value → Value → Row
-row w p = record { worked = w; paper = p }
 
 -- the first choice of car Z inside a trip
 unfoldable pub choice : ℕ → ℤ → Value
@@ -152,10 +139,6 @@ next-minimums car = numbers (minimum car Inner 2 ∷ minimum car Closing 2 ∷ m
 -- the first choices of the moving seconds 1 to n
 unfoldable pub firsts-of : Vehicle → List ℕ → List ℕ → ℕ → Value
 firsts-of car vs hs n = numbers (table (first-at car vs hs) 1 n)
-
--- a refusal, by number and place
-unfoldable pub refused-by : ℕ → ℕ → Value
-refused-by n i = refusal (some (record { no = n; spot = i }))
 
 -- refused for want of a gear
 unfoldable pub no-gear-at : ℕ → Value
@@ -176,6 +159,31 @@ of-Z = summary trace (17 ∷ 1 ∷ 2 ∷ 18 ∷ 0 ∷ [])
 unfoldable pub of-held : Summary
 of-held = summary trace (17 ∷ 1 ∷ 19 ∷ 18 ∷ 0 ∷ [])
 
+-- what is said of gear g of car Z at second s, without holds
+unfoldable pub said-of-gear : List ℕ → ℕ → ℕ → GearFacts
+said-of-gear vs s g = getD (why Z vs (replicate (length vs) 0) s .gears) (g - 1) no-facts
+
+-- its minimum speed, the rule of that, and X
+unfoldable pub minimum-said : List ℕ → ℕ → ℕ → Value
+minimum-said vs s g = let f = said-of-gear vs s g in numbers (f .minimum ∷ f .rule ∷ f .engine ∷ [])
+
 -- every count at one number
 unfoldable pub all-at : ℕ → Summary
 all-at n = record { standing = n; gears = replicate 10 n; changes = n }
+
+-- two trips, each with first choices that are corrected
+abbrev pub twice-corrected : List ℕ
+twice-corrected = 0 ∷ 150 ∷ 300 ∷ 450 ∷ 600 ∷ 450 ∷ 300 ∷ 150 ∷ 0 ∷ 150 ∷ 300 ∷ 450 ∷ 600 ∷ 450 ∷ 300 ∷ 150 ∷ 0 ∷ []
+
+-- answers as they are told, by number and place
+unfoldable pub told-all : List Answer → List ℕ
+told-all [] = []
+told-all (a ∷ more) = told a .no ∷ told a .spot ∷ told-all more
+
+-- car Z with something at a place past its gears
+unfoldable pub past-gears : Vehicle
+past-gears = vehicle-with 0 5 (12000 ∷ 7000 ∷ 4500 ∷ 3500 ∷ 2800 ∷ 9 ∷ 0 ∷ 0 ∷ 0 ∷ 0 ∷ []) 10 (replicate 64 0) 800 5600 1000
+
+-- car Z with a second gear that has at V 500 the power of its first
+unfoldable pub tied : Vehicle
+tied = vehicle-with 0 5 (12000 ∷ 10560 ∷ 4500 ∷ 3500 ∷ 2800 ∷ 0 ∷ 0 ∷ 0 ∷ 0 ∷ 0 ∷ []) 10 (replicate 64 0) 800 5600 1000

@@ -1,16 +1,20 @@
 -- What each button does: a held gear is shown, a hold stays in force, nothing asked changes nothing; a hold at a standing second, and of gear 0;
 -- what mending may change.
-use Rattle.rules.proofs.Base.{ℕ, zero, suc, _+_, _-_, _≤_, _<_, _%_, arith, _≡_, refl, sym, ap, _∙_, _≢_, inl, inr, Bool, true, false, not, Option, none, some, List, [], _∷_, eqb, length, set, length-set, getD-set-other, getD-set-same, le-ltb, leb-false, eqb-true, eqb-false, ne-eqb, eq-eqb, not-false, Vehicle, Edit, Hold, Release, Mend}
+use Rattle.rules.proofs.Base.{ℕ, zero, suc, _+_, _-_, _≤_, _<_, _%_, arith, _≡_, refl, sym, ap, _∙_, _≢_, inl, inr, Bool, true, false, not, Option, none}
+use Rattle.rules.proofs.Base.{some, List, [], _∷_, eqb, length, set, length-set, getD-set-other, getD-set-same, le-ltb, leb-false, eqb-true, eqb-false}
+use Rattle.rules.proofs.Base.{ne-eqb, eq-eqb, not-false, Vehicle, Edit, Hold, Release, Mend}
 use Rattle.rules.specs.Words.{if_then_else_, _and_, _or_, at, first}
 use Rattle.rules.specs.Units.{moving, start, stop}
 use Rattle.rules.specs.Corrections.{gear-at, card-at, card}
-use Rattle.rules.specs.Refusals.{Fault, refuse-at, _orelse_, not-driven, Check, speed, step, ends, over-ng, at-rest, over-rev, no-gear, check-number, checks, all-checks, bad, fault-of, span-fault, work-card}
+use Rattle.rules.specs.Refusals.{Fault, refuse-at, _orelse_, not-driven, Check, speed, step, ends, over-ng, at-rest, over-rev, no-gear, check-number}
+use Rattle.rules.specs.Refusals.{checks, all-checks, bad, fault-of, span-fault, work-card}
 use Rattle.rules.specs.Edit.{Screen, second, asked-speeds, asked-holds, around, hold-span, span, fails, asked-fault, edit-fault, asked-screen, edited}
 use Rattle.rules.specs.Vocabulary.{Right, InNear, MayChange, itself, just-before, in-near, before-near, none-held}
 use Rattle.rules.proofs.Laws.Words.{clash, by-test, by-order, and-fails, patch-in, of₃}
 use Rattle.rules.proofs.Laws.Searches.{none-first, first-ext, first-skip}
 use Rattle.rules.proofs.Laws.Trips.{trip-of, start-le, start-before, start-inside, stop-le, stop-standing}
-use Rattle.rules.proofs.Laws.Checks.{accepted, edit-is, Taken, taken, driven, passed, pass-all, fault-append, none-orelse, rooms-in, vehicle-in, left-none}
+use Rattle.rules.proofs.Laws.Checks.{accepted, edit-is, Taken, taken, driven, passed, pass-all, fault-append, none-orelse, rooms-in, vehicle-in}
+use Rattle.rules.proofs.Laws.Checks.{left-none}
 use Rattle.rules.proofs.Laws.Window.{fault-window}
 use Rattle.rules.proofs.Laws.Cards.{held-shows, card-mod}
 use Rattle.rules.proofs.Laws.Reaches.{reach-of}
@@ -58,7 +62,12 @@ module _ (car : Vehicle) (s g : ℕ) (x : Screen) (ok : edit-fault car (Hold s g
       let y : g ≤ car .ng = rw here at (driven car (at (set (x .holds) s g) s) (pass-here over-ng) .0) in
       let a = start-le (x .speeds) s in
       let c = stop-le (x .speeds) (suc s) in
-      rw (taken-asked car (Hold s g) x ok, m, of₃ (patch-in (x .card) (start (x .speeds) s - 1) (stop (x .speeds) (suc s)) (card-at car (x .speeds) (set (x .holds) s g)) s) (omega (arith, r .1, in-trace)))
+      rw (
+        taken-asked car (Hold s g) x ok,
+        m,
+        of₃ (patch-in (x .card) (start (x .speeds) s - 1) (stop (x .speeds) (suc s)) (card-at car (x .speeds) (set (x .holds) s g)) s)
+            (omega (arith, r .1, in-trace)),
+      )
       (card-mod car (x .speeds) (set (x .holds) s g) s m (rw k (omega arith)) ∙ k)
 
 -- a hold stays in force: where the mended second is held, it moves
@@ -69,7 +78,8 @@ hold-wins car s v x ok h =
     let ws = set (x .speeds) s v in
     let H = around-holds ws s (rw (length-set (x .speeds) s v) (T .in-trace)) in
     let z : at ws s ≡ v = getD-set-same (x .speeds) s v 0 (T .in-trace) in
-    let p = passed car ws (x .holds) (around ws s .lo) (around ws s .end) (span-passes car (Mend s v) (x .speeds) (x .holds) (T .in-trace) (T .own)) at-rest s (H .from) (H .below) in
+    let p = passed car ws (x .holds) (around ws s .lo) (around ws s .end) (span-passes car (Mend s v) (x .speeds) (x .holds) (T .in-trace) (T .own)) at-rest s
+    (H .from) (H .below) in
     by-test (moving v) (λ m. m)
     (λ m. let rest : not (moving (at ws s)) ≡ true = rw (z, m) in
     absurd (h (eqb-true (at (x .holds) s) 0 (not-false _ (and-fails _ (not (eqb (at (x .holds) s) 0)) rest p)))))
@@ -87,7 +97,8 @@ nothing-asked car e x R l h a b = (
 -- ---- a hold at a standing second: 7 where that gear is not driven, else 8; a release is accepted
 
 module _ (car : Vehicle) (vs hs : List ℕ) (s : ℕ) (r : moving (at vs s) ≡ false) (l : s < length hs) where
-  hold-alone : (g : ℕ) → fault-of (fails (Hold s g) car vs (set hs s g) s) s (suc s) all-checks ≡ some (record { no = if eqb g 0 or not-driven car g then 7 else 8; spot = s })
+  hold-alone : (g : ℕ) → fault-of (fails (Hold s g) car vs (set hs s g) s) s (suc s) all-checks
+      ≡ some (record { no = if eqb g 0 or not-driven car g then 7 else 8; spot = s })
   unfolding fails none-held second all-checks checks fault-of check-number bad first refuse-at _orelse_ _and_ _or_ moving
   hold-alone g =
       let e : suc s - s ≡ 1 = omega arith in
@@ -196,7 +207,8 @@ module _ (car : Vehicle) (vs hs : List ℕ) (s g : ℕ) (l : s < length vs) (n :
       fault-append p lo end before-7 (over-ng ∷ after-7)
       ∙ ap (λ (f : Option Fault). f orelse fault-of p lo end (over-ng ∷ after-7)) (zero-early car vs hs s lo (set hs s g) end)
       ∙ ap (λ (f : Option Fault). fault-of q lo end before-7 orelse f)
-      (ap (λ (o : Option ℕ). refuse-at 7 o orelse fault-of p lo end after-7) same ∙ stops 7 (first (q over-ng) lo (end - lo)) (fault-of p lo end after-7) (fault-of q lo end after-7) some-found)
+      (ap (λ (o : Option ℕ). refuse-at 7 o orelse fault-of p lo end after-7) same ∙ stops 7 (first (q over-ng) lo (end - lo)) (fault-of p lo end after-7)
+      (fault-of q lo end after-7) some-found)
       ∙ sym (fault-append q lo end before-7 (over-ng ∷ after-7))
 
 -- ---- what mending may change
@@ -217,7 +229,13 @@ module _ (ws : List ℕ) (s : ℕ) where
   near-after i a b =
       by-test (moving (at ws (suc s)))
       (λ t. let T = trip-of ws (suc s) t in
-      record { a = start ws (suc s); b = stop ws (suc s); near = record { trip = T .0; k = suc s; one-of = inr (inr refl); from = T .1; below = T .2 }; from = omega arith; below = b })
+      record {
+        a = start ws (suc s);
+        b = stop ws (suc s);
+        near = record { trip = T .0; k = suc s; one-of = inr (inr refl); from = T .1; below = T .2 };
+        from = omega arith;
+        below = b;
+      })
       (λ t. let e : stop ws (suc s) ≡ suc s = stop-standing ws (suc s) t in absurd (omega arith))
 
   -- what is re-worked is what the request allows

@@ -1,6 +1,7 @@
 -- A moving second in its trip, and on the finished card of a trace that passes its checks: a held second shows its hold, and no gear turns the
 -- engine past nmax.
-use Rattle.rules.proofs.Base.{ℕ, suc, _+_, _-_, _≤_, _<_, _%_, mod-eq-of-lt, add-mod-right, arith, _≡_, _∙_, _≢_, true, not, none, List, eqb, length, replicate, length-take, length-drop, length-replicate, eqb-false, not-false, ne-eqb, eq-eqb, lt-ltb, le-ltb, Vehicle}
+use Rattle.rules.proofs.Base.{ℕ, suc, _+_, _-_, _≤_, _<_, _%_, mod-eq-of-lt, add-mod-right, arith, _≡_, _∙_, _≢_, true, not, none, List, eqb, length}
+use Rattle.rules.proofs.Base.{replicate, length-take, length-drop, length-replicate, eqb-false, not-false, ne-eqb, eq-eqb, lt-ltb, le-ltb, Vehicle}
 use Rattle.rules.specs.Inside.{InBounds, Fit}
 use Rattle.rules.specs.Words.{if_then_else_, at, part, pass}
 use Rattle.rules.specs.Units.{moving, rise, start, stop}

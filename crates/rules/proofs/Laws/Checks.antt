@@ -1,8 +1,11 @@
 -- Checks in a row: what it says that none refuses, and when the checks of a window find what those of the whole find.
-use Rattle.rules.proofs.Base.{ℕ, zero, suc, _-_, _≤_, _<_, not-suc-le-zero, le-of-suc-le-suc, arith, _≡_, refl, sym, ap, _∙_, _≢_, Bool, false, not, Option, none, some, List, [], _∷_, _++_, ltb, lit<, ltb-false, lt-ltb, le-ltb, ltb-true, eqb-true, not-false, length, getD, Vehicle, Edit}
+use Rattle.rules.proofs.Base.{ℕ, zero, suc, _-_, _≤_, _<_, not-suc-le-zero, le-of-suc-le-suc, arith, _≡_, refl, sym, ap, _∙_, _≢_, Bool, false, not}
+use Rattle.rules.proofs.Base.{Option, none, some, List, [], _∷_, _++_, ltb, lit<, ltb-false, lt-ltb, le-ltb, ltb-true, eqb-true, not-false, length, getD}
+use Rattle.rules.proofs.Base.{Vehicle, Edit}
 use Rattle.rules.specs.Inside.{InBounds, gear-fault}
 use Rattle.rules.specs.Words.{_and_, first}
-use Rattle.rules.specs.Refusals.{Fault, refuse-at, _orelse_, when, trace-fault, room-fault, vehicle-fault, not-driven, Check, speed, step, ends, over-ng, at-rest, over-rev, no-gear, check-number, checks, all-checks, bad, fault-of, seconds-fault, span-fault, work-fault, left}
+use Rattle.rules.specs.Refusals.{Fault, refuse-at, _orelse_, when, trace-fault, room-fault, vehicle-fault, not-driven, Check, speed, step, ends, over-ng}
+use Rattle.rules.specs.Refusals.{at-rest, over-rev, no-gear, check-number, checks, all-checks, bad, fault-of, seconds-fault, span-fault, work-fault, left}
 use Rattle.rules.specs.Edit.{Screen, second, asked-fault, edit-fault}
 use Rattle.rules.specs.Units.{bad-field, low, longest}
 use Rattle.rules.proofs.Laws.Vehicle.{in-bounds, within-lo, within-hi}
@@ -30,7 +33,8 @@ refuse-none n (some i) e = let z : _≡_ {A = ℕ} 0 1 = cc in absurd (omega ari
 -- where a test does not refuse, it fails
 pub when-none : (n : ℕ) (t : Bool) (i : ℕ) → refuse-at n (when t i) ≡ none → t ≡ false
 unfolding when
-when-none n t i e = by-test t (λ x. let y : when t i ≡ none = refuse-none n (when t i) e in let z : _≡_ {A = Option ℕ} (some i) none = rw x at y in let w : _≡_ {A = ℕ} 0 1 = cc in absurd (omega arith)) (λ x. x)
+when-none n t i e = by-test t (λ x. let y : when t i ≡ none = refuse-none n (when t i) e in let z : _≡_ {A = Option ℕ} (some i) none = rw x at y in
+    let w : _≡_ {A = ℕ} 0 1 = cc in absurd (omega arith)) (λ x. x)
 
 pub none-when : (n : ℕ) (t : Bool) (i : ℕ) → t ≡ false → refuse-at n (when t i) ≡ none
 unfolding when refuse-at
@@ -85,7 +89,8 @@ accepted car vs hs old e =
     record { trace = a .0; room = b .0; vehicle = c .0; span = c .1 }
 
 -- where the working accepted, an edit of a second of the trace is refused by its own checks alone
-pub edit-is : (car : Vehicle) (e : Edit) (x : Screen) → Accepted car (x .speeds) (x .holds) (x .card) → second e < length (x .speeds) → edit-fault car e x ≡ asked-fault car e (x .speeds) (x .holds)
+pub edit-is : (car : Vehicle) (e : Edit) (x : Screen) → Accepted car (x .speeds) (x .holds) (x .card) → second e < length (x .speeds)
+    → edit-fault car e x ≡ asked-fault car e (x .speeds) (x .holds)
 unfolding edit-fault
 edit-is car e x A l =
     none-orelse _ _ (A .trace) ∙ none-orelse _ _ (A .room) ∙ none-orelse _ _ (A .vehicle)
@@ -190,7 +195,8 @@ step-first car vs hs lo = rw (le-ltb lo lo (omega arith))
 
 -- ---- two lists of checks, one after the other
 
-pub fault-append : (fails : Check → ℕ → Bool) (lo hi : ℕ) (cs ds : List Check) → fault-of fails lo hi (cs ++ ds) ≡ fault-of fails lo hi cs orelse fault-of fails lo hi ds
+pub fault-append : (fails : Check → ℕ → Bool) (lo hi : ℕ) (cs ds : List Check)
+    → fault-of fails lo hi (cs ++ ds) ≡ fault-of fails lo hi cs orelse fault-of fails lo hi ds
 unfolding fault-of _orelse_
 fault-append fails lo hi [] ds = refl
 fault-append fails lo hi (c ∷ cs) ds =
@@ -202,11 +208,13 @@ pub gears-last : (car : Vehicle) (vs hs : List ℕ) (lo hi : ℕ) → span-fault
 unfolding span-fault seconds-fault all-checks gear-fault fault-of check-number
 gears-last car vs hs lo hi =
     fault-append (λ c. bad c car vs hs lo) lo hi checks (no-gear ∷ [])
-    ∙ ap (λ (r : Option Fault). fault-of (λ c. bad c car vs hs lo) lo hi checks orelse r) (orelse-nothing (refuse-at 10 (first (bad no-gear car vs hs lo) lo (hi - lo))))
+    ∙ ap (λ (r : Option Fault). fault-of (λ c. bad c car vs hs lo) lo hi checks orelse r)
+    (orelse-nothing (refuse-at 10 (first (bad no-gear car vs hs lo) lo (hi - lo))))
 
 -- ---- two rows of which each check says the same
 
-pub fault-ext : (p q : Check → ℕ → Bool) (lo hi : ℕ) → ((c : Check) (i : ℕ) → lo ≤ i → i < hi → p c i ≡ q c i) → (cs : List Check) → fault-of p lo hi cs ≡ fault-of q lo hi cs
+pub fault-ext : (p q : Check → ℕ → Bool) (lo hi : ℕ) → ((c : Check) (i : ℕ) → lo ≤ i → i < hi → p c i ≡ q c i) → (cs : List Check)
+    → fault-of p lo hi cs ≡ fault-of q lo hi cs
 unfolding fault-of
 fault-ext p q lo hi same [] = refl
 fault-ext p q lo hi same (c ∷ cs) = rw (fault-ext p q lo hi same cs, first-ext (p c) (q c) (hi - lo) lo (λ i x y. same c i x (omega arith)))

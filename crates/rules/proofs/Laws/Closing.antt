@@ -1,5 +1,6 @@
 -- The closing run, one second further, and of a trip seen from the whole trace.
-use Rattle.rules.proofs.Base.{ℕ, zero, suc, _+_, _-_, _≤_, _<_, arith, _≡_, sym, _∙_, true, false, not, List, ltb, length, drop, drop-of-length-le, length-take, length-drop, drop-cons, lt-ltb, ltb-true, _↔_}
+use Rattle.rules.proofs.Base.{ℕ, zero, suc, _+_, _-_, _≤_, _<_, arith, _≡_, sym, _∙_, true, false, not, List, ltb, length, drop, drop-of-length-le}
+use Rattle.rules.proofs.Base.{length-take, length-drop, drop-cons, lt-ltb, ltb-true, _↔_}
 use Rattle.rules.specs.Words.{_and_, _or_, at, part}
 use Rattle.rules.specs.Units.{moving, stop}
 use Rattle.rules.specs.Corrections.{closing}

@@ -1,9 +1,10 @@
 -- Request Nine: an edit brings the summary up to date from the seconds that it re-works, and each second of a right card is counted once.
-use Rattle.rules.proofs.Base.{ℕ, zero, suc, _+_, _-_, _≤_, _<_, _%_, zero-add, arith, _≡_, refl, sym, ap, _∙_, inl, inr, true, false, none, List, [], _∷_, eqb, length, eq-eqb, ne-eqb, eqb-true, eqb-false, Vehicle, Summary, Edit, Hold, Release, Mend}
+use Rattle.rules.proofs.Base.{ℕ, zero, suc, _+_, _-_, _≤_, _<_, _%_, zero-add, arith, _≡_, refl, sym, ap, _∙_, inl, inr, true, false, none, List, []}
+use Rattle.rules.proofs.Base.{_∷_, eqb, length, eq-eqb, ne-eqb, eqb-true, eqb-false, Vehicle, Summary, Edit, Hold, Release, Mend}
 use Rattle.rules.specs.Words.{_and_, at, part, table, patch}
 use Rattle.rules.specs.Units.{low, moving, start, stop, longest}
 use Rattle.rules.specs.Corrections.{gear-at, card-at, card, shown}
-use Rattle.rules.specs.Edit.{Screen, Span, second, asked-speeds, asked-holds, around, span, edit-fault, asked-screen, edited, after}
+use Rattle.rules.specs.Edit.{Screen, Extent, second, asked-speeds, asked-holds, around, span, edit-fault, asked-screen, edited, after}
 use Rattle.rules.specs.Summary.{tally, rests, drives, summary, updated}
 use Rattle.rules.specs.Vocabulary.{Counted, total, seconds-in}
 use Rattle.rules.proofs.Laws.Words.{by-test, by-order, by-eq, patch-none, at-table}
@@ -24,7 +25,8 @@ module _ (car : Vehicle) (e : Edit) (x : Screen) where
   short ok = let n = trace-in (x .speeds) (taken car e x ok .trace) in omega arith
 
   -- the stretch that it may change: the trips next to the second
-  edit-changed : second e < length (x .speeds) → Changed (x .speeds) (x .card) (edited car e x .speeds) (edited car e x .card) (start (x .speeds) (second e)) (stop (x .speeds) (suc (second e)))
+  edit-changed : second e < length (x .speeds)
+      → Changed (x .speeds) (x .card) (edited car e x .speeds) (edited car e x .card) (start (x .speeds) (second e)) (stop (x .speeds) (suc (second e)))
   edit-changed l =
       let a = start-le (x .speeds) (second e) in
       let b = stop-le (x .speeds) (suc (second e)) in
@@ -43,7 +45,8 @@ module _ (car : Vehicle) (e : Edit) (x : Screen) where
       rw (speeds-frame car e x (stop (x .speeds) (suc (second e))) (omega arith)) (stop-after (x .speeds) (suc (second e)))
 
   -- where it is not refused
-  whole-counts : edit-fault car e x ≡ none → edited car e x .summary ≡ updated (x .summary) (summary (x .speeds) (x .card)) (summary (edited car e x .speeds) (edited car e x .card))
+  whole-counts : edit-fault car e x ≡ none
+      → edited car e x .summary ≡ updated (x .summary) (summary (x .speeds) (x .card)) (summary (edited car e x .speeds) (edited car e x .card))
   unfolding asked-screen
   whole-counts ok = rw (taken-asked car e x ok)
 
@@ -51,7 +54,8 @@ module _ (car : Vehicle) (e : Edit) (x : Screen) where
   pub counts-by-part : edit-fault car e x ≡ none
       → let lo = start (x .speeds) (second e) in let hi = stop (x .speeds) (suc (second e)) in
       edited car e x .summary
-      ≡ updated (x .summary) (summary (part (x .speeds) lo hi) (part (x .card) lo hi)) (summary (part (edited car e x .speeds) lo hi) (part (edited car e x .card) lo hi))
+      ≡ updated (x .summary) (summary (part (x .speeds) lo hi) (part (x .card) lo hi))
+      (summary (part (edited car e x .speeds) lo hi) (part (edited car e x .card) lo hi))
   counts-by-part ok =
       let l = taken car e x ok .in-trace in
       let lo = start (x .speeds) (second e) in
@@ -64,9 +68,11 @@ module _ (car : Vehicle) (e : Edit) (x : Screen) where
       )
 
   -- and so from the counts of the seconds that the edit re-works
-  around-counts : second e < length (x .speeds) → edited car e x .summary ≡ updated (x .summary) (summary (x .speeds) (x .card)) (summary (edited car e x .speeds) (edited car e x .card))
+  around-counts : second e < length (x .speeds)
+      → edited car e x .summary ≡ updated (x .summary) (summary (x .speeds) (x .card)) (summary (edited car e x .speeds) (edited car e x .card))
       → let r = around (x .speeds) (second e) in
-      edited car e x .summary ≡ updated (x .summary) (counts (x .speeds) (x .card) (r .lo) (r .hi - r .lo)) (counts (edited car e x .speeds) (edited car e x .card) (r .lo) (r .hi - r .lo))
+      edited car e x .summary ≡ updated (x .summary) (counts (x .speeds) (x .card) (r .lo) (r .hi - r .lo))
+      (counts (edited car e x .speeds) (edited car e x .card) (r .lo) (r .hi - r .lo))
   unfolding around
   around-counts l w =
       let a = start (x .speeds) (second e) in
@@ -77,9 +83,14 @@ module _ (car : Vehicle) (e : Edit) (x : Screen) where
       let k : a ≡ suc (a - 1) = omega arith in
       let n : b - (a - 1) ≡ suc (b - a) = let y = stop-le (x .speeds) (suc (second e)) in let z = start-le (x .speeds) (second e) in omega arith in
       w ∙ updated-span C (x .summary)
-      ∙ rw n (sym (skips (x .summary) (x .speeds) (x .card) (edited car e x .speeds) (edited car e x .card) (a - 1) (b - a) (C .rest .before (a - 1) (sym k)) (C .speed-at (a - 1) (inl (omega arith)))
-      ∙ ap (λ (i : ℕ). updated (x .summary) (counts (x .speeds) (x .card) i (b - a)) (counts (edited car e x .speeds) (edited car e x .card) i (b - a))) (sym k))))
-      (λ p. let k : a - 1 ≡ a = omega arith in w ∙ updated-span C (x .summary) ∙ ap (λ (i : ℕ). updated (x .summary) (counts (x .speeds) (x .card) i (b - i)) (counts (edited car e x .speeds) (edited car e x .card) i (b - i))) (sym k))
+      ∙ rw n (sym (skips (x .summary) (x .speeds) (x .card) (edited car e x .speeds) (edited car e x .card) (a - 1) (b - a) (C .rest .before (a - 1) (sym k))
+      (C .speed-at (a - 1) (inl (omega arith)))
+      ∙ ap (λ (i : ℕ). updated (x .summary) (counts (x .speeds) (x .card) i (b - a)) (counts (edited car e x .speeds) (edited car e x .card) i (b - a)))
+      (sym k))))
+      (λ p. let k : a - 1 ≡ a = omega arith in
+      w ∙ updated-span C (x .summary)
+      ∙ ap (λ (i : ℕ). updated (x .summary) (counts (x .speeds) (x .card) i (b - i)) (counts (edited car e x .speeds) (edited car e x .card) i (b - i)))
+      (sym k))
 
   pub counts-right : Counted x → Counted (edited car e x)
   counts-right right =
@@ -100,13 +111,14 @@ card-still : (car : Vehicle) (e : Edit) (x : Screen) → span e (x .speeds) .lo 
 unfolding asked-screen
 card-still car e x k =
     let f = card-at car (asked-speeds e (x .speeds)) (asked-holds e (x .holds)) in
-    ap (λ (r : Span). patch (x .card) (r .lo) (r .hi) f) (span-kept e (x .speeds))
+    ap (λ (r : Extent). patch (x .card) (r .lo) (r .hi) f) (span-kept e (x .speeds))
     ∙ ap (λ (b : ℕ). patch (x .card) (span e (x .speeds) .lo) b f) (sym k)
     ∙ patch-none (x .card) (span e (x .speeds) .lo) f
 
 pub counts-by-range : (car : Vehicle) (e : Edit) (x : Screen) → edit-fault car e x ≡ none
     → let r = span e (x .speeds) in
-    edited car e x .summary ≡ updated (x .summary) (counts (x .speeds) (x .card) (r .lo) (r .hi - r .lo)) (counts (edited car e x .speeds) (edited car e x .card) (r .lo) (r .hi - r .lo))
+    edited car e x .summary ≡ updated (x .summary) (counts (x .speeds) (x .card) (r .lo) (r .hi - r .lo))
+    (counts (edited car e x .speeds) (edited car e x .card) (r .lo) (r .hi - r .lo))
 unfolding asked-screen
 counts-by-range car e x ok =
     by-kind e (x .speeds)
@@ -146,11 +158,13 @@ unfolding total
 total-one x zero lo a b = absurd (omega arith)
 total-one x (suc k) lo a b =
     by-eq a
-    (λ e. rw (← e, eq-eqb lo lo refl) (ap (λ (n : ℕ). 1 + n) (total-ext (λ i. one (eqb lo i)) (λ i. 0) k (suc lo) (λ i c d. rw (ne-eqb lo i (omega arith))) ∙ total-none k (suc lo))))
+    (λ e. rw (← e, eq-eqb lo lo refl)
+    (ap (λ (n : ℕ). 1 + n) (total-ext (λ i. one (eqb lo i)) (λ i. 0) k (suc lo) (λ i c d. rw (ne-eqb lo i (omega arith))) ∙ total-none k (suc lo))))
     (λ l. rw (ne-eqb x lo (omega arith), total-one x k (suc lo) l (omega arith)))
 
 same-place : (x g : ℕ) → 1 ≤ x → one (eqb x (suc g)) ≡ one (eqb (x - 1) g)
-same-place x g h = by-test (eqb (x - 1) g) (λ t. let e : x - 1 ≡ g = eqb-true _ _ t in rw (t, eq-eqb x (suc g) (omega arith))) (λ t. rw (t, ne-eqb x (suc g) (λ z. eqb-false (x - 1) g t (omega arith))))
+same-place x g h = by-test (eqb (x - 1) g) (λ t. let e : x - 1 ≡ g = eqb-true _ _ t in rw (t, eq-eqb x (suc g) (omega arith)))
+    (λ t. rw (t, ne-eqb x (suc g) (λ z. eqb-false (x - 1) g t (omega arith))))
 
 module _ (vs bs : List ℕ) where
   -- a second with a gear from 1 to 10, if it moves, is counted once
@@ -164,7 +178,8 @@ module _ (vs bs : List ℕ) where
       (λ m. let x = shown (at bs i) in
       let r = h m in
       rw m (zero-add _ ∙
-      (total-ext (λ g. one (eqb x (suc g))) (λ g. one (eqb (x - 1) g)) 10 0 (λ g a b. same-place x g (r .0)) ∙ total-one (x - 1) 10 0 (omega arith) (omega arith))))
+      (total-ext (λ g. one (eqb x (suc g))) (λ g. one (eqb (x - 1) g)) 10 0 (λ g a b. same-place x g (r .0))
+      ∙ total-one (x - 1) 10 0 (omega arith) (omega arith))))
       (λ m. rw m (ap (λ (n : ℕ). 1 + n) (total-none 10 0)))
 
   -- so each of n seconds
@@ -180,7 +195,8 @@ module _ (vs bs : List ℕ) where
   unfolding summary counts seconds-in
   seconds-of h =
       ap (λ (n : ℕ). tally (rests vs) 0 (length vs) + n)
-      (total-ext (at (table (λ g. tally (drives g vs bs) 0 (length vs)) 1 10)) (λ g. tally (drives (suc g) vs bs) 0 (length vs)) 10 0 (λ g a b. at-gears vs bs 0 (length vs) g (omega arith)))
+      (total-ext (at (table (λ g. tally (drives g vs bs) 0 (length vs)) 1 10)) (λ g. tally (drives (suc g) vs bs) 0 (length vs)) 10 0
+      (λ g a b. at-gears vs bs 0 (length vs) g (omega arith)))
       ∙ adds-up (length vs) 0 (λ i a b. h i (omega arith))
 
 -- so of a right card

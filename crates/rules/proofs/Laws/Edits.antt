@@ -1,14 +1,17 @@
 -- One edit of the screen: where its span lies; against the whole working; what it leaves alone; and a right card stays right under edits one after the other.
-use Rattle.rules.proofs.Base.{ℕ, suc, _-_, _≤_, _<_, arith, _≡_, refl, sym, ap, _∙_, _≢_, inl, inr, true, false, Option, none, some, List, [], _∷_, length, length-set, getD-set-other, eq-eqb, Vehicle, Edit, Hold, Release, Mend}
+use Rattle.rules.proofs.Base.{ℕ, suc, _-_, _≤_, _<_, arith, _≡_, refl, sym, ap, _∙_, _≢_, inl, inr, true, false, Option, none, some, List, [], _∷_}
+use Rattle.rules.proofs.Base.{length, length-set, getD-set-other, eq-eqb, Vehicle, Edit, Hold, Release, Mend}
 use Rattle.rules.specs.Words.{_and_, _or_, at, patch}
 use Rattle.rules.specs.Units.{moving, start, stop}
 use Rattle.rules.specs.Corrections.{card-at, card}
 use Rattle.rules.specs.Refusals.{Fault, room-fault, Check, over-ng, check-number, all-checks, bad, span-fault, work-fault, left, work-card}
-use Rattle.rules.specs.Edit.{Screen, second, asked-speeds, asked-holds, Span, around, hold-span, span, fails, asked-fault, edit-fault, asked-screen, edited, after}
+use Rattle.rules.specs.Edit.{Screen, second, asked-speeds, asked-holds, Extent, around, hold-span, span, fails, asked-fault, edit-fault, asked-screen}
+use Rattle.rules.specs.Edit.{edited, after}
 use Rattle.rules.specs.Vocabulary.{Out, Right, none-held}
 use Rattle.rules.proofs.Laws.Words.{clash, by-test, by-order, or-left, length-table, patch-out}
 use Rattle.rules.proofs.Laws.Trips.{start-le, stop-le, stop-to}
-use Rattle.rules.proofs.Laws.Checks.{accepted, edit-is, Taken, taken, all-pass, fault-ext, rooms-in, by-fault, left-none, left-some, left-same, left-part, left-by}
+use Rattle.rules.proofs.Laws.Checks.{accepted, edit-is, Taken, taken, all-pass, fault-ext, rooms-in, by-fault, left-none, left-some, left-same}
+use Rattle.rules.proofs.Laws.Checks.{left-part, left-by}
 use Rattle.rules.proofs.Laws.Reaches.{reach-of}
 use Rattle.rules.proofs.Laws.Window.{fault-anew, card-anew, whole-is}
 use Rattle.rules.proofs.Laws.Span.{span-kept, fails-is}
@@ -16,7 +19,7 @@ use Rattle.rules.proofs.Laws.Span.{span-kept, fails-is}
 -- ---- where the span lies
 
 -- the second is looked at, and what is re-worked lies in the trace
-pub record Holds-second (r : Span) (s n : ℕ) : Type 0 where
+pub record Holds-second (r : Extent) (s n : ℕ) : Type 0 where
   pub from : r .lo ≤ s
   pub below : s < r .end
   pub in-order : r .hi ≤ n
@@ -80,7 +83,8 @@ pub own-checks : (car : Vehicle) (e : Edit) (vs hs : List ℕ) → none-held e �
 unfolding asked-fault span-fault _and_ _or_
 own-checks car e vs hs h =
     let r = span e (asked-speeds e vs) in
-    fault-ext (fails e car (asked-speeds e vs) (asked-holds e hs) (r .lo)) (λ c. bad c car (asked-speeds e vs) (asked-holds e hs) (r .lo)) (r .lo) (r .end) (λ c i x y. fails-is e car _ _ (r .lo) c i ∙ rw h) all-checks
+    fault-ext (fails e car (asked-speeds e vs) (asked-holds e hs) (r .lo)) (λ c. bad c car (asked-speeds e vs) (asked-holds e hs) (r .lo)) (r .lo) (r .end)
+    (λ c i x y. fails-is e car _ _ (r .lo) c i ∙ rw h) all-checks
 
 module _ (car : Vehicle) (e : Edit) (x : Screen) (R : Right car x) (l : second e < length (x .speeds)) (h : none-held e ≡ false) where
   -- from a right card the very refusal, or the very card, of the whole working on the new speeds and holds
@@ -99,7 +103,8 @@ module _ (car : Vehicle) (e : Edit) (x : Screen) (R : Right car x) (l : second e
       let ks = asked-holds e (x .holds) in
       left-part (λ (y : Screen). y .card) (edit-fault car e x) x (asked-screen car e x)
       ∙ ap (λ (q : Option Fault). left q (x .card) (patch (x .card) (r .lo) (r .hi) (card-at car ws ks))) whole-fault
-      ∙ left-same (work-fault car ws ks (x .card)) (x .card) (λ z. ap (λ (c : List ℕ). patch c (r .lo) (r .hi) (card-at car ws ks)) (R .its-card) ∙ card-anew car reach)
+      ∙ left-same (work-fault car ws ks (x .card)) (x .card)
+      (λ z. ap (λ (c : List ℕ). patch c (r .lo) (r .hi) (card-at car ws ks)) (R .its-card) ∙ card-anew car reach)
 
 -- ---- what is left alone, whether the card was right or not
 
@@ -151,7 +156,8 @@ unfolding asked-screen asked-holds
 mend-no-hold car s v x = by-edit car (Mend s v) x (λ y. y .holds ≡ x .holds) refl (λ z. refl)
 
 -- nor, of any edit, outside the trips next to its second and the one second before
-pub card-around : (car : Vehicle) (e : Edit) (x : Screen) (i : ℕ) → Out (start (x .speeds) (second e) - 1) (stop (x .speeds) (suc (second e))) i → at (edited car e x .card) i ≡ at (x .card) i
+pub card-around : (car : Vehicle) (e : Edit) (x : Screen) (i : ℕ) → Out (start (x .speeds) (second e) - 1) (stop (x .speeds) (suc (second e))) i
+    → at (edited car e x .card) i ≡ at (x .card) i
 unfolding around
 card-around car e x i o =
     card-frame car e x i (by-kind e (x .speeds) (λ k. rw k o) (λ k. by-order i (span e (x .speeds) .lo) (λ h. inl h) (λ h. inr (rw (← k) h))))
@@ -163,7 +169,8 @@ module _ (car : Vehicle) (e : Edit) (vs hs : List ℕ) (l : second e < length vs
   each-passes : (c : Check) (i : ℕ) → span e (asked-speeds e vs) .lo ≤ i → i < span e (asked-speeds e vs) .end
       → fails e car (asked-speeds e vs) (asked-holds e hs) (span e (asked-speeds e vs) .lo) c i ≡ false
   unfolding asked-fault
-  each-passes = all-pass (fails e car (asked-speeds e vs) (asked-holds e hs) (span e (asked-speeds e vs) .lo)) (span e (asked-speeds e vs) .lo) (span e (asked-speeds e vs) .end) ok
+  each-passes = all-pass (fails e car (asked-speeds e vs) (asked-holds e hs) (span e (asked-speeds e vs) .lo)) (span e (asked-speeds e vs) .lo)
+      (span e (asked-speeds e vs) .end) ok
 
   -- no gear 0 is held
   pub gear-held : none-held e ≡ false
@@ -171,7 +178,9 @@ module _ (car : Vehicle) (e : Edit) (vs hs : List ℕ) (l : second e < length vs
   gear-held =
       let H = span-holds e (asked-speeds e vs) (rw (length-asked e vs) l) in
       by-test (none-held e)
-      (λ t. let z = or-left _ _ (sym (fails-is e car (asked-speeds e vs) (asked-holds e hs) (span e (asked-speeds e vs) .lo) over-ng (second e)) ∙ each-passes over-ng (second e) (H .from) (H .below)) in
+      (λ t. let z = or-left _ _
+      (sym (fails-is e car (asked-speeds e vs) (asked-holds e hs) (span e (asked-speeds e vs) .lo) over-ng (second e))
+      ∙ each-passes over-ng (second e) (H .from) (H .below)) in
       let y : true ≡ false = rw (t, eq-eqb (second e) (second e) refl) at z in clash refl y)
       (λ t. t)
 
@@ -190,7 +199,8 @@ passes-on car vs hs old e =
     rw l e
 
 -- what the whole working leaves of an accepted trace is right
-pub anew : (car : Vehicle) (old : List ℕ) (y : Screen) → work-fault car (y .speeds) (y .holds) old ≡ none → y .card ≡ work-card car (y .speeds) (y .holds) old → Right car y
+pub anew : (car : Vehicle) (old : List ℕ) (y : Screen) → work-fault car (y .speeds) (y .holds) old ≡ none → y .card ≡ work-card car (y .speeds) (y .holds) old
+    → Right car y
 unfolding work-card
 anew car old y e c =
     let r : y .card ≡ card car (y .speeds) (y .holds) = c ∙ left-none old (card car (y .speeds) (y .holds)) e in
@@ -206,10 +216,12 @@ stays-right car e x R =
     rw y (anew car (x .card) (asked-screen car e x) (told z T h) (rw y at (left-card z T h))))
     (λ q z. rw (refused-alone car e x q z) R)
   where
-    told : edit-fault car e x ≡ none → Taken car e x → none-held e ≡ false → work-fault car (asked-screen car e x .speeds) (asked-screen car e x .holds) (x .card) ≡ none
+    told : edit-fault car e x ≡ none → Taken car e x → none-held e ≡ false
+        → work-fault car (asked-screen car e x .speeds) (asked-screen car e x .holds) (x .card) ≡ none
     told z T h = sym (whole-fault car e x R (T .in-trace) h) ∙ z
 
-    left-card : edit-fault car e x ≡ none → Taken car e x → none-held e ≡ false → edited car e x .card ≡ work-card car (asked-screen car e x .speeds) (asked-screen car e x .holds) (x .card)
+    left-card : edit-fault car e x ≡ none → Taken car e x → none-held e ≡ false
+        → edited car e x .card ≡ work-card car (asked-screen car e x .speeds) (asked-screen car e x .holds) (x .card)
     left-card z T h = whole-card car e x R (T .in-trace) h
 
 pub run-right : (car : Vehicle) (es : List Edit) (x : Screen) → Right car x → Right car (after car es x)

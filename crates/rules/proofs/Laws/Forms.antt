@@ -1,10 +1,12 @@
 -- Forms: one law, which each way of putting forms together keeps, so the law of a composed form is found by `search sounds`.
-use Rattle.rules.proofs.Base.{ℕ, zero, suc, _+_, _-_, _≤_, arith, _≡_, refl, sym, ap, _∙_, Bool, true, false, not, List, [], _∷_, _++_, append-nil, append-assoc, length, take, drop, length-append, length-drop, take-append-drop, drop-append-seam, drop-length, drop-drop, length-take-le, eqb, leb, ltb, eqb-true, eq-eqb, ltb-true, leb-true}
+use Rattle.rules.proofs.Base.{ℕ, zero, suc, _+_, _-_, _≤_, arith, _≡_, refl, sym, ap, _∙_, Bool, true, false, not, List, [], _∷_, _++_, append-nil}
+use Rattle.rules.proofs.Base.{append-assoc, length, take, drop, length-append, length-drop, take-append-drop, drop-append-seam, drop-length, drop-drop}
+use Rattle.rules.proofs.Base.{length-take-le, eqb, leb, ltb, eqb-true, eq-eqb, ltb-true, leb-true}
 use Prim.{tt}
 use Rattle.rules.specs.Words.{at}
 use Rattle.rules.specs.Refusals.{Fault}
 use Rattle.rules.specs.Groups.{Read, got, refused, Reader, hand-on, demand, early, group-if, form, group}
-use Rattle.rules.specs.Forms.{Form, value, known, only-if, checked, bounded, _then_, seen, row-read, row-write, RowTakes, row, many, counted, whole}
+use Rattle.rules.specs.Forms.{Form, value, known, only-if, checked, bounded, _then_, seen, row-read, row-write, RowTakes, row, many, counted, to-the-end}
 use Rattle.rules.specs.Vocabulary.{Bytes}
 use Rattle.rules.proofs.Laws.Words.{if-ind, and-right}
 use Rattle.rules.proofs.Laws.Reading.{two-of, good}
@@ -13,26 +15,27 @@ use Rattle.rules.proofs.Laws.Groups.{no-byte, bytes-more, form-size, fo
 -- ---- what stands in a job
 
 -- these bytes stand in the job from i up to j
-pub record Stands (job : List ℕ) (i : ℕ) (bytes : List ℕ) (j : ℕ) : Type 0 where
+pub record Spells (job : List ℕ) (i : ℕ) (bytes : List ℕ) (j : ℕ) : Type 0 where
   pub ends : j ≡ i + length bytes
   pub here : drop i job ≡ bytes ++ drop j job
 
 module _ {job : List ℕ} where
-  none-stand : {i : ℕ} → Stands job i [] i
+  none-stand : {i : ℕ} → Spells job i [] i
   none-stand = record { ends = omega arith; here = refl }
 
   -- one after another
-  both-stand : {i j k : ℕ} {u v : List ℕ} → Stands job i u j → Stands job j v k → Stands job i (u ++ v) k
+  both-stand : {i j k : ℕ} {u v : List ℕ} → Spells job i u j → Spells job j v k → Spells job i (u ++ v) k
   both-stand {i} {j} {k} {u} {v} a b = record {
     ends = omega (arith, length-append u v, a .ends, b .ends);
     here = a .here ∙ rw (b .here, append-assoc);
   }
 
   -- and apart again
-  each-stands : (u v : List ℕ) {i k : ℕ} → Stands job i (u ++ v) k → Stands job i u (i + length u) × Stands job (i + length u) v k
+  each-stands : (u v : List ℕ) {i k : ℕ} → Spells job i (u ++ v) k → Spells job i u (i + length u) × Spells job (i + length u) v k
   each-stands u v {i} {k} s =
       let n = s .ends in
-      let e : drop (i + length u) job ≡ v ++ drop k job = sym (drop-drop (length u) i job) ∙ rw (s .here, append-assoc) (drop-append-seam u (v ++ drop k job)) in
+      let e : drop (i + length u) job ≡ v ++ drop k job = sym (drop-drop (length u) i job)
+      ∙ rw (s .here, append-assoc) (drop-append-seam u (v ++ drop k job)) in
       (record { ends = refl; here = s .here ∙ rw (e, append-assoc) }, record { ends = omega (arith, length-append u v); here = e })
 
 -- ---- what is said of a reading
@@ -50,7 +53,8 @@ then-says (told {a} {j} p) h = h a j p
 then-says stopped h = stopped
 
 -- and after a demand, where what is demanded holds
-demand-says : {B : Type 0} {Q : B → ℕ → Type 0} (f : Bool → Reader B) (t : Bool) (n s i : ℕ) → (t ≡ true → Says Q (f true i)) → Says Q (hand-on (demand t n s i) f)
+demand-says : {B : Type 0} {Q : B → ℕ → Type 0} (f : Bool → Reader B) (t : Bool) (n s i : ℕ) → (t ≡ true → Says Q (f true i))
+    → Says Q (hand-on (demand t n s i) f)
 unfolding hand-on demand
 demand-says f true n s i h = h refl
 demand-says f false n s i h = stopped
@@ -68,11 +72,11 @@ says-now e s = says-it (rw e at s)
 -- the form takes the value, and in a job of bytes the value stands, as it is written, from i up to j
 pub record Stood {A : Type 0} (part : Form A) (job : List ℕ) (i : ℕ) (a : A) (j : ℕ) : Type 0 where
   pub taken : part .Takes a
-  pub stands : Bytes job → Stands job i (part .write a) j
+  pub stands : Bytes job → Spells job i (part .write a) j
 
 -- what is written is read back, nothing else is read, and bytes are written
 pub record Sound {A : Type 0} (part : Form A) : Type 0 where
-  pub reads-back : {job : List ℕ} {i j : ℕ} {a : A} → part .Takes a → Stands job i (part .write a) j → part .read job i ≡ got a j
+  pub reads-back : {job : List ℕ} {i j : ℕ} {a : A} → part .Takes a → Spells job i (part .write a) j → part .read job i ≡ got a j
   pub one-form : (job : List ℕ) (i : ℕ) → Says (Stood part job i) (part .read job i)
   pub bytes : (a : A) → part .Takes a → Bytes (part .write a)
 
@@ -91,7 +95,7 @@ value-small job i =
     if-ind (Says _) (good job i) (λ t. told (leb-true _ _ (and-right _ _ t))) (λ _. stopped))))))
 
 -- a group that is read stands there
-value-stands : (job : List ℕ) (i n j : ℕ) → group job i ≡ got n j → Bytes job → Stands job i (form n) j
+value-stands : (job : List ℕ) (i n j : ℕ) → group job i ≡ got n j → Bytes job → Spells job i (form n) j
 value-stands job i n j e bytes =
     let a = only-form job (bytes .each) i n j e in
     let z : i + (j - i) ≡ j = omega (arith, a .after-it) in
@@ -166,7 +170,7 @@ module _ {A : Type 0} where
     }
 
 module _ {A S : Type 0} {part : S → Form A} (move : S → A → S) (sound : (s : S) → Sound (part s)) where
-  row-back : (k : ℕ) (s : S) (l : List A) {job : List ℕ} {i j : ℕ} → RowTakes part move s l → length l ≡ k → Stands job i (row-write part move s l) j
+  row-back : (k : ℕ) (s : S) (l : List A) {job : List ℕ} {i j : ℕ} → RowTakes part move s l → length l ≡ k → Spells job i (row-write part move s l) j
       → row-read part move k s job i ≡ got l j
   unfolding row-read row-write RowTakes hand-on
   row-back zero s [] {i} {j} each n w = let e : j ≡ i = omega (arith, w .ends) in rw e
@@ -220,15 +224,19 @@ pub ruleset sounds = (value-sound, then-sound, only-if-sound, checked-sound, bou
 -- ---- the whole of a job
 
 -- what is written reads back
-pub reads-whole : {A : Type 0} {part : Form A} → Sound part → (a : A) → part .Takes a → whole part (part .write a) ≡ got a (length (part .write a))
-unfolding whole hand-on demand
+pub reads-whole : {A : Type 0} {part : Form A} → Sound part → (a : A) → part .Takes a → to-the-end part (part .write a) ≡ got a (length (part .write a))
+unfolding to-the-end hand-on demand
 reads-whole {A} {part} f a t =
     let l = part .write a in
-    rw (f .reads-back {job = l} {i = 0} {j = length l} t (record { ends = omega arith; here = rw (drop-length l, append-nil) }), eq-eqb (length l) (length l) refl)
+    rw (
+      f .reads-back {job = l} {i = 0} {j = length l} t (record { ends = omega arith; here = rw (drop-length l, append-nil) }),
+      eq-eqb (length l) (length l) refl,
+    )
 
 -- what is read of a whole job is taken, and in a job of bytes written as the same bytes
-pub whole-says : {A : Type 0} {part : Form A} → Sound part → (job : List ℕ) → Says (λ a j. part .Takes a × (Bytes job → part .write a ≡ job)) (whole part job)
-unfolding whole hand-on
+pub whole-says : {A : Type 0} {part : Form A} → Sound part → (job : List ℕ)
+    → Says (λ a j. part .Takes a × (Bytes job → part .write a ≡ job)) (to-the-end part job)
+unfolding to-the-end hand-on
 whole-says {A} {part} f job =
     then-says (f .one-form job 0) (λ a j w.
     demand-says _ (eqb j (length job)) 16 j j (λ t.

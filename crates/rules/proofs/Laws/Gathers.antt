@@ -1,17 +1,18 @@
 -- Holds: the list in the job and the places of the trace are one thing, so their form keeps the law.
-use Rattle.rules.proofs.Base.{ℕ, zero, suc, _+_, _-_, _≤_, _<_, arith, _≡_, refl, sym, ap, _∙_, List, [], _∷_, length, set, replicate, length-set, length-replicate, eqb, leb-true, ltb-true, eqb-true, eqb-false, ne-eqb, le-leb, lt-ltb}
+use Rattle.rules.proofs.Base.{ℕ, zero, suc, _+_, _-_, _≤_, _<_, arith, _≡_, refl, sym, ap, _∙_, List, [], _∷_, length, set, replicate, length-set}
+use Rattle.rules.proofs.Base.{length-replicate, eqb, leb-true, ltb-true, eqb-true, eqb-false, ne-eqb, le-leb, lt-ltb}
 use Prim.{tt}
 use Rattle.rules.specs.Words.{within}
 use Rattle.rules.specs.Forms.{value, checked, _then_, seen, row, RowTakes, counted}
-use Rattle.rules.specs.Job.{hold, put, gather, holds}
+use Rattle.rules.specs.Job.{one-hold, put, gather, holds}
 use Rattle.rules.proofs.Laws.Words.{by-test, by-order, and-left, and-right, both, of₃}
 use Rattle.rules.proofs.Laws.Forms.{Sound, value-sound, checked-sound, then-sound, seen-sound, row-sound, counted-sound}
 use Rattle.rules.proofs.Laws.Takes.{All}
 
 -- ---- a hold of the job
 
-pub hold-sound : (count next : ℕ) → Sound (hold count next)
-unfolding hold
+pub hold-sound : (count next : ℕ) → Sound (one-hold count next)
+unfolding one-hold
 hold-sound count next = checked-sound (then-sound (checked-sound value-sound _ _ _) (λ s. value-sound)) _ _ _
 
 -- its second from `next` on and before `count`, its gear a byte that is not 0
@@ -22,12 +23,15 @@ pub record HoldFits (count next : ℕ) (h : ℕ × ℕ) : Type 0 where
   pub some-gear : 1 ≤ h .1
   pub byte : h .1 ≤ 255
 
-hold-takes : {count next : ℕ} {h : ℕ × ℕ} → HoldFits count next h → hold count next .Takes h
-unfolding hold checked _then_ value within
-hold-takes r = (((r .small, both (le-leb _ _ (r .from)) (lt-ltb _ _ (r .below))), omega (arith, r .byte)), both (le-leb _ _ (r .some-gear)) (le-leb _ _ (r .byte)))
+hold-takes : {count next : ℕ} {h : ℕ × ℕ} → HoldFits count next h → one-hold count next .Takes h
+unfolding one-hold checked _then_ value within
+hold-takes r = (
+  ((r .small, both (le-leb _ _ (r .from)) (lt-ltb _ _ (r .below))), omega (arith, r .byte)),
+  both (le-leb _ _ (r .some-gear)) (le-leb _ _ (r .byte)),
+)
 
-pub takes-hold : (count next : ℕ) (h : ℕ × ℕ) → hold count next .Takes h → HoldFits count next h
-unfolding hold checked _then_ value within
+pub takes-hold : (count next : ℕ) (h : ℕ × ℕ) → one-hold count next .Takes h → HoldFits count next h
+unfolding one-hold checked _then_ value within
 takes-hold count next h t = record {
   small = t .0 .0 .0;
   from = leb-true _ _ (and-left _ _ (t .0 .0 .1));
@@ -38,7 +42,7 @@ takes-hold count next h t = record {
 
 -- holds of seconds that rise from `next` on
 abbrev Rising : ℕ → ℕ → List (ℕ × ℕ) → Type 0
-Rising count next hs = RowTakes (hold count) (λ next h. suc (h .0)) next hs
+Rising count next hs = RowTakes (one-hold count) (λ next h. suc (h .0)) next hs
 
 -- ---- the list, put at its seconds and gathered again
 
@@ -80,7 +84,8 @@ gather-put (suc k) s count next [] e l each = gather-none k (suc s)
 gather-put (suc k) s count next (h ∷ hs) e l each =
     let r = takes-hold count next h (each .0) in
     by-order s (h .0)
-    (λ y. let later : Rising count (suc s) (h ∷ hs) = (hold-takes (record { small = r .small; from = y; below = r .below; some-gear = r .some-gear; byte = r .byte }), each .1) in
+    (λ y. let later : Rising count (suc s) (h ∷ hs) =
+    (hold-takes (record { small = r .small; from = y; below = r .below; some-gear = r .some-gear; byte = r .byte }), each .1) in
     rw (put-later count s (suc s) (h ∷ hs) 0 (replicate k 0) (omega arith) later)
     (gather-put k (suc s) count (suc s) (h ∷ hs) (omega arith) (omega arith) later))
     (λ y. let x : h .0 ≡ s = omega arith in
@@ -110,7 +115,13 @@ gather-rises count s next (g ∷ gs) a b c t =
     (λ z. rw z (gather-rises count (suc s) next gs (omega arith) (omega arith) c (t .1)))
     (λ z. let y = eqb-false g 0 z in
     rw z (
-      hold-takes (record { small = omega arith; from = a; below = omega arith; some-gear = by-order 0 g (λ h. h) (λ h. absurd (y (omega arith))); byte = t .0 }),
+      hold-takes (record {
+        small = omega arith;
+        from = a;
+        below = omega arith;
+        some-gear = by-order 0 g (λ h. h) (λ h. absurd (y (omega arith)));
+        byte = t .0;
+      }),
       gather-rises count (suc s) (suc s) gs (omega arith) (omega arith) c (t .1),
     ))
 
@@ -125,7 +136,8 @@ put-here : (s g : ℕ) (hs : List (ℕ × ℕ)) (gs : List ℕ) → put-from s (
 unfolding put-from
 put-here s g hs gs = let e : s - s ≡ 0 = omega arith in rw e
 
-put-gather : (count s : ℕ) (gs : List ℕ) → s + length gs ≡ count → count ≤ 65536 → All (λ g. g ≤ 255) gs → put-from s (gather s gs) (replicate (length gs) 0) ≡ gs
+put-gather : (count s : ℕ) (gs : List ℕ) → s + length gs ≡ count → count ≤ 65536 → All (λ g. g ≤ 255) gs
+    → put-from s (gather s gs) (replicate (length gs) 0) ≡ gs
 unfolding gather put-from All
 put-gather count s [] b c t = refl
 put-gather count s (g ∷ gs) b c t =
@@ -133,7 +145,8 @@ put-gather count s (g ∷ gs) b c t =
     let back = put-gather count (suc s) gs (omega arith) c (t .1) in
     by-test (eqb g 0)
     (λ z. let y : g ≡ 0 = eqb-true g 0 z in rw (z, put-later count s (suc s) (gather (suc s) gs) 0 (replicate (length gs) 0) (omega arith) later, back, y))
-    (λ z. rw z (put-here s g (gather (suc s) gs) (replicate (length gs) 0) ∙ rw (put-later count s (suc s) (gather (suc s) gs) g (replicate (length gs) 0) (omega arith) later, back)))
+    (λ z. rw z (put-here s g (gather (suc s) gs) (replicate (length gs) 0)
+    ∙ rw (put-later count s (suc s) (gather (suc s) gs) g (replicate (length gs) 0) (omega arith) later, back)))
 
 pub holds-take : (count : ℕ) (gs : List ℕ) → length gs ≡ count → count ≤ 65535 → All (λ g. g ≤ 255) gs → holds count .Takes gs
 unfolding holds counted row seen _then_ value

@@ -1,13 +1,16 @@
 -- Two vehicles whose gears turn the engine alike, those of one d higher: in a trip every gear is d higher, after each pass.
-use Rattle.rules.proofs.Base.{ℕ, zero, suc, _+_, _-_, _≤_, _<_, max, min, add-zero, arith, _≡_, refl, sym, ap, _∙_, Bool, List, [], _∷_, map, leb, eqb, length, set, take, drop, replicate, length-set, getD-set-same, getD-set-other, le-ltb, eqb-true, eqb-false, ne-eqb, Vehicle}
+use Rattle.rules.proofs.Base.{ℕ, zero, suc, _+_, _-_, _≤_, _<_, max, min, add-zero, arith, _≡_, refl, sym, ap, _∙_, Bool, List, [], _∷_, map, leb, eqb}
+use Rattle.rules.proofs.Base.{length, set, take, drop, replicate, length-set, getD-set-same, getD-set-other, le-ltb, eqb-true, eqb-false, ne-eqb}
+use Rattle.rules.proofs.Base.{Vehicle}
 use Rattle.rules.specs.Words.{_and_, at, part, pass, table}
 use Rattle.rules.specs.Units.{low, rise}
-use Rattle.rules.specs.Corrections.{floor, closing, role-of, ceiling, here, first-choice, free, is-peak, peak, too-high, rising, too-low, slowing, firsts, after-A, after-B, gears}
+use Rattle.rules.specs.Corrections.{floor, closing, role-of, ceiling, here, first-choice, free, is-peak, peak, too-high, rising, too-low, slowing, firsts}
+use Rattle.rules.specs.Corrections.{after-A, after-B, gears}
 use Rattle.rules.specs.Inside.{InBounds}
 use Rattle.rules.specs.Vocabulary.{Geared, up}
 use Rattle.rules.proofs.Laws.Words.{by-test, by-order, if-ind, and-left, and-right, length-pass}
 use Rattle.rules.proofs.Laws.Vehicle.{low-from}
-use Rattle.rules.proofs.Laws.Held.{length-firsts}
+use Rattle.rules.proofs.Laws.Held.{length-firsts, length-A, length-B}
 use Rattle.rules.proofs.Laws.Geared.{up-none, up-some, up-zero, eqb-same, leb-same, ltb-same, choose-up, floor-up}
 
 -- ---- lists of gears
@@ -24,7 +27,7 @@ at-ups d [] i = sym (up-none d)
 at-ups d (x ∷ l) zero = refl
 at-ups d (x ∷ l) (suc i) = at-ups d l i
 
-set-ups : (d : ℕ) (l : List ℕ) (k x : ℕ) → set (ups d l) k (up d x) ≡ ups d (set l k x)
+pub set-ups : (d : ℕ) (l : List ℕ) (k x : ℕ) → set (ups d l) k (up d x) ≡ ups d (set l k x)
 set-ups d [] k x = refl
 set-ups d (y ∷ l) zero x = refl
 set-ups d (y ∷ l) (suc k) x = ap (λ (m : List ℕ). up d y ∷ m) (set-ups d l k x)
@@ -56,7 +59,8 @@ abbrev pub Some : List ℕ → Type 0
 Some l = (i : ℕ) → i < length l → 1 ≤ at l i
 
 -- a pass whose rule goes d higher goes d higher
-pass-up : (d : ℕ) (f g : ℕ → List ℕ → ℕ) → ((j : ℕ) (rs : List ℕ) → g j (ups d rs) ≡ up d (f j rs)) → (k : ℕ) (gs : List ℕ) → pass g k (ups d gs) ≡ ups d (pass f k gs)
+pass-up : (d : ℕ) (f g : ℕ → List ℕ → ℕ) → ((j : ℕ) (rs : List ℕ) → g j (ups d rs) ≡ up d (f j rs)) → (k : ℕ) (gs : List ℕ)
+    → pass g k (ups d gs) ≡ ups d (pass f k gs)
 unfolding pass
 pass-up d f g h zero gs = refl
 pass-up d f g h (suc k) gs = rw (pass-up d f g h k gs, h k (pass f k gs)) (set-ups d (pass f k gs) k (f k (pass f k gs)))
@@ -79,7 +83,7 @@ pass-up-some d f g h (suc k) gs l s =
 
 -- ---- the gears of a trip
 
-ceiling-some : (j : ℕ) (gs : List ℕ) → 1 ≤ at gs (j - 1) → 1 ≤ ceiling j gs
+pub ceiling-some : (j : ℕ) (gs : List ℕ) → 1 ≤ at gs (j - 1) → 1 ≤ ceiling j gs
 unfolding ceiling
 ceiling-some j gs h = if-ind (λ c. 1 ≤ c) (leb 2 j and eqb (at gs (j - 1)) (at gs (j - 2))) (λ t. omega arith) (λ t. h)
 
@@ -89,14 +93,15 @@ module _ {d : ℕ} {car van : Vehicle} (G : Geared d car van) where
       let l = low-from car in
       by-test (eqb x 0)
       (λ t. let z : x ≡ 0 = eqb-true x 0 t in rw (z, up-none d, ne-eqb 0 (low van) (λ e. omega (arith, G .lowest)), ne-eqb 0 (low car) (λ e. omega arith)))
-      (λ t. let z = eqb-false x 0 t in rw (up-some d x (omega arith)) (eqb-same {a = x + d} {b = low van} {c = x} {e = low car} (λ e. omega (arith, G .lowest)) (λ e. omega (arith, G .lowest))))
+      (λ t. let z = eqb-false x 0 t in
+      rw (up-some d x (omega arith)) (eqb-same {a = x + d} {b = low van} {c = x} {e = low car} (λ e. omega (arith, G .lowest)) (λ e. omega (arith, G .lowest))))
 
-  role-up : (begins closes : Bool) (x : ℕ) → role-of van begins closes (up d x) ≡ role-of car begins closes x
+  pub role-up : (begins closes : Bool) (x : ℕ) → role-of van begins closes (up d x) ≡ role-of car begins closes x
   unfolding role-of
   role-up begins closes x = rw (low-up x)
 
   module _ (us hs : List ℕ) where
-    free-up : (j : ℕ) → free van us (ups d hs) j ≡ free car us hs j
+    pub free-up : (j : ℕ) → free van us (ups d hs) j ≡ free car us hs j
     unfolding free
     free-up j = rw (at-ups d hs j, up-zero d (at hs j))
 
@@ -153,17 +158,28 @@ module _ {d : ℕ} {car van : Vehicle} (G : Geared d car van) where
           (rw (is-peak-up, t, gear-here) (e ∙ sym (up-some d (at rs j - 1) (omega arith))), rw t (omega arith)))
           (λ t. (rw (is-peak-up, t) (at-ups d rs j), rw t sg))
 
-      ceiling-up : ceiling j (ups d rs) ≡ ceiling j rs + d
+      pub ceiling-up : ceiling j (ups d rs) ≡ ceiling j rs + d
       unfolding ceiling
       ceiling-up =
           let two : at (ups d rs) (j - 2) ≡ at rs (j - 2) + d = at-ups d rs (j - 2) ∙ up-some d (at rs (j - 2)) (s (j - 2) (omega arith)) in
-          rw (gear-before, two, eqb-same {a = at rs (j - 1) + d} {b = at rs (j - 2) + d} {c = at rs (j - 1)} {e = at rs (j - 2)} (λ z. omega arith) (λ z. omega arith))
+          rw (
+            gear-before,
+            two,
+            eqb-same {a = at rs (j - 1) + d} {b = at rs (j - 2) + d} {c = at rs (j - 1)} {e = at rs (j - 2)} (λ z. omega arith)
+                (λ z. omega arith),
+          )
           (by-test (leb 2 j and eqb (at rs (j - 1)) (at rs (j - 2))) (λ t. rw t (omega arith)) (λ t. rw t))
 
       too-high-up : too-high van us (ups d hs) j (ups d rs) ≡ too-high car us hs j rs
       unfolding too-high
       too-high-up =
-          rw (free-up j, gear-here, ceiling-up, ltb-same {a = ceiling j rs + d} {b = at rs j + d} {c = ceiling j rs} {e = at rs j} (λ z. omega arith) (λ z. omega arith))
+          rw (
+            free-up j,
+            gear-here,
+            ceiling-up,
+            ltb-same {a = ceiling j rs + d} {b = at rs j + d} {c = ceiling j rs} {e = at rs j} (λ z. omega arith)
+                (λ z. omega arith),
+          )
 
       rising-up : (rising van us (ups d hs) j (ups d rs) ≡ up d (rising car us hs j rs)) × (1 ≤ rising car us hs j rs)
       unfolding rising
@@ -174,8 +190,11 @@ module _ {d : ℕ} {car van : Vehicle} (G : Geared d car van) where
           by-test (too-high car us hs j rs)
           (λ t.
           let sp = s (j - 1) (omega arith) in
-          let low-c : 1 ≤ c = ceiling-some j rs (s (j - 1) (omega arith)) in
-          (rw (too-high-up, t, ceiling-up, floor-up G (at us j)) (let e : max (c + d) (f + d) ≡ max c f + d = omega arith in e ∙ sym (up-some d (max c f) (omega arith))), rw t (omega arith)))
+          let low-c : 1 ≤ c = ceiling-some j rs (s (j - 1) (omega arith)) in (
+            rw (too-high-up, t, ceiling-up, floor-up G (at us j))
+                (let e : max (c + d) (f + d) ≡ max c f + d = omega arith in e ∙ sym (up-some d (max c f) (omega arith))),
+            rw t (omega arith),
+          ))
           (λ t. (rw (too-high-up, t) (at-ups d rs j), rw t sg))
 
       slowing-up : (slowing van us (ups d hs) j (ups d rs) ≡ up d (slowing car us hs j rs)) × (1 ≤ slowing car us hs j rs)
@@ -184,10 +203,13 @@ module _ {d : ℕ} {car van : Vehicle} (G : Geared d car van) where
           let sg = s j l in
           let same : eqb (at (ups d rs) j) (low van) ≡ eqb (at rs j) (low car) = rw (at-ups d rs j) (low-up (at rs j)) in
           by-test (free car us hs j and closing (drop j us) and eqb (at rs j) (low car))
-          (λ t. (rw (free-up j, same, t) (let e : low van + 1 ≡ low car + 1 + d = omega (arith, G .lowest) in e ∙ sym (up-some d (low car + 1) (omega arith))), rw t (omega arith)))
+          (λ t. (
+            rw (free-up j, same, t) (let e : low van + 1 ≡ low car + 1 + d = omega (arith, G .lowest) in e ∙ sym (up-some d (low car + 1) (omega arith))),
+            rw t (omega arith),
+          ))
           (λ t. (rw (free-up j, same, t) (at-ups d rs j), rw t sg))
 
-    -- the first choices, and where each is a gear the final gears
+    -- the first choices
     pub firsts-up : InBounds car → firsts van us (ups d hs) ≡ ups d (firsts car us hs)
     unfolding firsts
     firsts-up C =
@@ -195,22 +217,34 @@ module _ {d : ℕ} {car van : Vehicle} (G : Geared d car van) where
         (ap (λ (z : List ℕ). pass (first-choice van us (ups d hs)) (length hs) z) (sym (none-ups d (length hs)))
         ∙ pass-up d (first-choice car us hs) (first-choice van us (ups d hs)) (first-choice-up C) (length hs) (replicate (length hs) 0))
 
-    pub gears-up : InBounds car → Some (firsts car us hs) → (gears van us (ups d hs) ≡ ups d (gears car us hs)) × Some (gears car us hs)
-    unfolding gears after-B after-A
-    gears-up K s =
+    -- the gears after A, after B and after C; each of them is a gear
+    pub A-up : InBounds car → Some (firsts car us hs) → (after-A van us (ups d hs) ≡ ups d (after-A car us hs)) × Some (after-A car us hs)
+    unfolding after-A
+    A-up K s =
         let n = length-firsts car us hs in
-        let A = pass-up-some d (peak car us hs) (peak van us (ups d hs)) peak-up (length hs) (firsts car us hs) (omega arith) s in
-        let a = pass (peak car us hs) (length hs) (firsts car us hs) in
-        let la : length a ≡ length hs = length-pass (peak car us hs) (firsts car us hs) (length hs) ∙ n in
-        let B = pass-up-some d (rising car us hs) (rising van us (ups d hs)) rising-up (length hs) a (omega arith) (A .1) in
-        let b = pass (rising car us hs) (length hs) a in
-        let lb : length b ≡ length hs = length-pass (rising car us hs) a (length hs) ∙ la in
-        let C = pass-up-some d (slowing car us hs) (slowing van us (ups d hs)) slowing-up (length hs) b (omega arith) (B .1) in
-        (rw (length-ups d hs, firsts-up K, A .0, B .0) (C .0), C .1)
+        rw (length-ups d hs, firsts-up K) (pass-up-some d (peak car us hs) (peak van us (ups d hs)) peak-up (length hs) (firsts car us hs) (omega arith) s)
+
+    pub B-up : InBounds car → Some (firsts car us hs) → (after-B van us (ups d hs) ≡ ups d (after-B car us hs)) × Some (after-B car us hs)
+    unfolding after-B
+    B-up K s =
+        let n = length-A car us hs in
+        let A = A-up K s in
+        rw (length-ups d hs, A .0) (pass-up-some d (rising car us hs) (rising van us (ups d hs)) rising-up (length hs) (after-A car us hs) (omega arith) (A .1))
+
+    pub gears-up : InBounds car → Some (firsts car us hs) → (gears van us (ups d hs) ≡ ups d (gears car us hs)) × Some (gears car us hs)
+    unfolding gears
+    gears-up K s =
+        let n = length-B car us hs in
+        let B = B-up K s in
+        rw (length-ups d hs, B .0)
+        (pass-up-some d (slowing car us hs) (slowing van us (ups d hs)) slowing-up (length hs) (after-B car us hs) (omega arith) (B .1))
 
 -- ---- d 0: nothing is higher
 
-pub ups-none : (l : List ℕ) → ups 0 l ≡ l
+pub up-by-none : (g : ℕ) → up 0 g ≡ g
 unfolding up
+up-by-none g = by-test (eqb g 0) (λ t. let z : g ≡ 0 = eqb-true g 0 t in rw (t, z)) (λ t. rw t (add-zero g))
+
+pub ups-none : (l : List ℕ) → ups 0 l ≡ l
 ups-none [] = refl
-ups-none (x ∷ l) = let e : up 0 x ≡ x = by-test (eqb x 0) (λ t. let z : x ≡ 0 = eqb-true x 0 t in rw (t, z)) (λ t. rw t (add-zero x)) in rw (e, ups-none l)
+ups-none (x ∷ l) = rw (up-by-none x, ups-none l)

@@ -1,5 +1,7 @@
 -- Groups: each value 0 to 65,535 has exactly one form that is accepted, its shortest, and reading that form gives the value and the place after it.
-use Rattle.rules.proofs.Base.{ℕ, zero, suc, _+_, _-_, _*_, _/_, _%_, _≤_, _<_, arith, _≡_, sym, _∙_, List, [], _∷_, _++_, length, length-append, drop-cons, getD-append-seam, getD-append-add, drop-append-seam, take-append-seam, lt-ltb, le-ltb, leb-true, eqb-false, not-true}
+use Rattle.rules.proofs.Base.{ℕ, zero, suc, _+_, _-_, _*_, _/_, _%_, _≤_, _<_, arith, _≡_, sym, _∙_, List, [], _∷_, _++_, length, length-append}
+use Rattle.rules.proofs.Base.{drop-cons, getD-append-seam, getD-append-add, drop-append-seam, take-append-seam, lt-ltb, le-ltb, leb-true, eqb-false}
+use Rattle.rules.proofs.Base.{not-true}
 use Rattle.rules.specs.Words.{at, part}
 use Rattle.rules.specs.Refusals.{Fault}
 use Rattle.rules.specs.Groups.{Read, got, refused, early, group-if, group, form}

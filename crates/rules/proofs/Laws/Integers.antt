@@ -1,5 +1,9 @@
 -- Ring laws of ℤ that lib.IntN lacks, and the order of ℤ under a product with a positive number.
-use Rattle.rules.proofs.Base.{ℕ, zero, suc, _+_, _*_, _-_, _≤_, _<_, not-suc-le-zero, suc-mul, add-suc, le-trans, lt-irrefl, lt-of-lt-of-le, le-of-mul-le-mul-right, mul-le-mul-right, arith, _≡_, refl, sym, ap, _∙_, subst, true, false, leb, leb·suc-suc, ℤ, pos, negsuc, negℤ, sucℤ, predℤ, ℤ-ind, _+ℤ_, _*ℤ_, _-ℤ_, +ℤ-one, -ℤ-one, +ℤ-assoc, +ℤ-comm, +ℤ-idl, +ℤ-idr, +ℤ-invr, *ℤ-comm, sucℤ-*ℤ, predℤ-*ℤ, sucℤ-+ℤ, predℤ-+ℤ, zero-*ℤ, negℤ-+ℤ, negℤ-sucℤ, negℤ-predℤ, negℤ-negℤ, leZ, ltZ, leb-true, leb-false, ltb-true, ltb-false, le-leb, le-ltb}
+use Rattle.rules.proofs.Base.{ℕ, zero, suc, _+_, _*_, _-_, _≤_, _<_, not-suc-le-zero, suc-mul, add-suc, le-trans, lt-irrefl, lt-of-lt-of-le}
+use Rattle.rules.proofs.Base.{le-of-mul-le-mul-right, mul-le-mul-right, arith, _≡_, refl, sym, ap, _∙_, subst, true, false, leb, leb·suc-suc, ℤ, pos}
+use Rattle.rules.proofs.Base.{negsuc, negℤ, sucℤ, predℤ, ℤ-ind, _+ℤ_, _*ℤ_, _-ℤ_, +ℤ-one, -ℤ-one, +ℤ-assoc, +ℤ-comm, +ℤ-idl, +ℤ-idr, +ℤ-invr, *ℤ-comm}
+use Rattle.rules.proofs.Base.{sucℤ-*ℤ, predℤ-*ℤ, sucℤ-+ℤ, predℤ-+ℤ, zero-*ℤ, negℤ-+ℤ, negℤ-sucℤ, negℤ-predℤ, negℤ-negℤ, leZ, ltZ, leb-true, leb-false}
+use Rattle.rules.proofs.Base.{ltb-true, ltb-false, le-leb, le-ltb}
 use Rattle.rules.proofs.Laws.Words.{by-test}
 
 -- ---- sums and products
@@ -19,7 +23,8 @@ pub +ℤ-*ℤ : (m n k : ℤ) → (m +ℤ n) *ℤ k ≡ m *ℤ k +ℤ n *ℤ k
     by-ones (λ m. (m +ℤ n) *ℤ k ≡ m *ℤ k +ℤ n *ℤ k)
     (ap (λ x. x *ℤ k) (+ℤ-idl n) ∙ sym (ap (λ x. x +ℤ n *ℤ k) (zero-*ℤ k) ∙ +ℤ-idl (n *ℤ k)))
     (λ z h. ap (λ x. x *ℤ k) (sucℤ-+ℤ z n) ∙ sucℤ-*ℤ (z +ℤ n) k ∙ ap (λ x. x +ℤ k) h ∙ swap (z *ℤ k) (n *ℤ k) k ∙ ap (λ x. x +ℤ n *ℤ k) (sym (sucℤ-*ℤ z k)))
-    (λ z h. ap (λ x. x *ℤ k) (predℤ-+ℤ z n) ∙ predℤ-*ℤ (z +ℤ n) k ∙ ap (λ x. x -ℤ k) h ∙ swap (z *ℤ k) (n *ℤ k) (negℤ k) ∙ ap (λ x. x +ℤ n *ℤ k) (sym (predℤ-*ℤ z k))) m
+    (λ z h. ap (λ x. x *ℤ k) (predℤ-+ℤ z n) ∙ predℤ-*ℤ (z +ℤ n) k ∙ ap (λ x. x -ℤ k) h ∙ swap (z *ℤ k) (n *ℤ k) (negℤ k)
+    ∙ ap (λ x. x +ℤ n *ℤ k) (sym (predℤ-*ℤ z k))) m
 
 -- k times a sum is the sum of the products
 pub *ℤ-+ℤ : (k m n : ℤ) → k *ℤ (m +ℤ n) ≡ k *ℤ m +ℤ k *ℤ n
@@ -44,7 +49,8 @@ pub *ℤ-assoc : (m n k : ℤ) → (m *ℤ n) *ℤ k ≡ m *ℤ (n *ℤ k)
     by-ones (λ m. (m *ℤ n) *ℤ k ≡ m *ℤ (n *ℤ k))
     (ap (λ x. x *ℤ k) (zero-*ℤ n) ∙ zero-*ℤ k ∙ sym (zero-*ℤ (n *ℤ k)))
     (λ z h. ap (λ x. x *ℤ k) (sucℤ-*ℤ z n) ∙ +ℤ-*ℤ (z *ℤ n) n k ∙ ap (λ x. x +ℤ n *ℤ k) h ∙ sym (sucℤ-*ℤ z (n *ℤ k)))
-    (λ z h. ap (λ x. x *ℤ k) (predℤ-*ℤ z n) ∙ +ℤ-*ℤ (z *ℤ n) (negℤ n) k ∙ ap (λ x. x +ℤ negℤ n *ℤ k) h ∙ ap (λ x. z *ℤ (n *ℤ k) +ℤ x) (neg-*ℤ n k) ∙ sym (predℤ-*ℤ z (n *ℤ k))) m
+    (λ z h. ap (λ x. x *ℤ k) (predℤ-*ℤ z n) ∙ +ℤ-*ℤ (z *ℤ n) (negℤ n) k ∙ ap (λ x. x +ℤ negℤ n *ℤ k) h ∙ ap (λ x. z *ℤ (n *ℤ k) +ℤ x) (neg-*ℤ n k)
+    ∙ sym (predℤ-*ℤ z (n *ℤ k))) m
 
 -- the first two of three factors change places
 pub left-comm : (a b c : ℤ) → a *ℤ (b *ℤ c) ≡ b *ℤ (a *ℤ c)
@@ -102,7 +108,8 @@ leb-scale : (a b c : ℕ) → 0 < c → leb (a * c) (b * c) ≡ leb a b
 leb-scale a b c h =
     by-test (leb a b)
     (λ t. le-leb _ _ (mul-le-mul-right c (leb-true a b t)) ∙ sym t)
-    (λ t. by-test (leb (a * c) (b * c)) (λ s. absurd (lt-irrefl b (lt-of-lt-of-le (leb-false a b t) (le-of-mul-le-mul-right (leb-true _ _ s) h)))) (λ s. s ∙ sym t))
+    (λ t. by-test (leb (a * c) (b * c)) (λ s. absurd (lt-irrefl b (lt-of-lt-of-le (leb-false a b t) (le-of-mul-le-mul-right (leb-true _ _ s) h))))
+    (λ s. s ∙ sym t))
 
 -- a negative number times a positive one is negative
 neg-scale : (a c : ℕ) → negsuc a *ℤ pos (suc c) ≡ negsuc (a * suc c + c)
@@ -115,5 +122,13 @@ leZ-scale (pos a) (pos b) (suc c) h = leb-scale a b (suc c) h
 leZ-scale (pos a) (negsuc b) (suc c) h = rw neg-scale
 leZ-scale (negsuc a) (pos b) (suc c) h = rw neg-scale
 leZ-scale (negsuc a) (negsuc b) (suc c) h =
-    rw (neg-scale a c, neg-scale b c, ← leb·suc-suc (b * suc c + c) (a * suc c + c), ← add-suc (b * suc c) c, ← add-suc (a * suc c) c, ← suc-mul b (suc c), ← suc-mul a (suc c))
+    rw (
+      neg-scale a c,
+      neg-scale b c,
+      ← leb·suc-suc (b * suc c + c) (a * suc c + c),
+      ← add-suc (b * suc c) c,
+      ← add-suc (a * suc c) c,
+      ← suc-mul b (suc c),
+      ← suc-mul a (suc c),
+    )
     (leb-scale (suc b) (suc a) (suc c) h ∙ leb·suc-suc b a)

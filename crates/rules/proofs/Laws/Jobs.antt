@@ -1,10 +1,12 @@
 -- The job's form keeps the law of forms; which jobs it takes.
-use Rattle.rules.proofs.Base.{ℕ, _-_, _≤_, arith, _≡_, refl, sym, ap, _∙_, List, [], _∷_, _++_, map, leb-true, length, replicate, length-append, drop-of-length-le, take-append-seam, drop-cons, pos, -ℤ-+ℤ-cancel}
+use Rattle.rules.proofs.Base.{ℕ, _-_, _≤_, arith, _≡_, refl, sym, ap, _∙_, List, [], _∷_, _++_, map, leb-true, length, replicate, length-append}
+use Rattle.rules.proofs.Base.{drop-of-length-le, take-append-seam, drop-cons, pos, -ℤ-+ℤ-cancel}
 use Rattle.rules.specs.Words.{at, table}
 use Rattle.rules.specs.Units.{longest}
 use Rattle.rules.specs.Groups.{Read, got, refused}
 use Rattle.rules.specs.Forms.{checked, _then_, seen, row, many, counted}
-use Rattle.rules.specs.Job.{version, profile, gearbox, numbers, point, curve, seconds, trace, padded, points-of, Parts, vehicle-of, parts-of, vehicle, holds, Job, packed, fields, stages, job, job-read, job-of}
+use Rattle.rules.specs.Job.{version, profile, gearbox, numbers, point, curve, seconds, trace, padded, points-of, JobParts, vehicle-of, parts-of, vehicle}
+use Rattle.rules.specs.Job.{holds, Job, packed, fields, stages, job, job-read, job-of}
 use Rattle.rules.proofs.Laws.Words.{table-at, and-left}
 use Rattle.rules.proofs.Laws.Forms.{Says, told, Sound, seen-sound, sounds, whole-says}
 use Rattle.rules.proofs.Laws.Takes.{takes-bounded}
@@ -20,7 +22,8 @@ cut k l =
     table-at (l ++ r) (length l) 0 (rw length-append (omega arith)) ∙ take-append-seam l r
 
 -- n, p and m of points, whatever follows them
-points-back : (l : List (ℕ × (ℕ × ℕ))) (r s t : List ℕ) → points-of (length l) (map (λ x. x .0) l ++ r) (map (λ x. x .1 .0) l ++ s) (map (λ x. x .1 .1) l ++ t) ≡ l
+points-back : (l : List (ℕ × (ℕ × ℕ))) (r s t : List ℕ) → points-of (length l) (map (λ x. x .0) l ++ r) (map (λ x. x .1 .0) l ++ s) (map (λ x. x .1 .1) l ++ t)
+    ≡ l
 unfolding points-of
 points-back [] r s t = refl
 points-back (x ∷ l) r s t = ap (λ (m : List (ℕ × (ℕ × ℕ))). x ∷ m) (points-back l r s t)
@@ -29,9 +32,18 @@ points-back (x ∷ l) r s t = ap (λ (m : List (ℕ × (ℕ × ℕ))). x ∷ m) 
 eight : (l : List ℕ) → length l ≡ 8 → at l 0 ∷ at l 1 ∷ at l 2 ∷ at l 3 ∷ at l 4 ∷ at l 5 ∷ at l 6 ∷ at l 7 ∷ [] ≡ l
 eight l e =
     sym (drop-cons l 0 0 (omega arith)
-    ∙ rw (drop-cons l 1 0 (omega arith), drop-cons l 2 0 (omega arith), drop-cons l 3 0 (omega arith), drop-cons l 4 0 (omega arith), drop-cons l 5 0 (omega arith), drop-cons l 6 0 (omega arith), drop-cons l 7 0 (omega arith), drop-of-length-le l {i = 8} (omega arith)))
+    ∙ rw (
+      drop-cons l 1 0 (omega arith),
+      drop-cons l 2 0 (omega arith),
+      drop-cons l 3 0 (omega arith),
+      drop-cons l 4 0 (omega arith),
+      drop-cons l 5 0 (omega arith),
+      drop-cons l 6 0 (omega arith),
+      drop-cons l 7 0 (omega arith),
+      drop-of-length-le l {i = 8} (omega arith),
+    ))
 
-pub parts-back : (x : Parts) → length (x .1 .1 .0) ≡ 8 → parts-of (vehicle-of x) ≡ x
+pub parts-back : (x : JobParts) → length (x .1 .1 .0) ≡ 8 → parts-of (vehicle-of x) ≡ x
 unfolding parts-of vehicle-of padded
 parts-back (crawler, (ratios, (values, points))) e = rw (cut 10 ratios, -ℤ-+ℤ-cancel (pos (at values 4)) (pos 5000), eight values e, points-back points)
 
@@ -63,7 +75,8 @@ curve-sound v = search (sounds, point-sound)
 
 pub vehicle-sound : (v : ℕ) → Sound (vehicle v)
 unfolding vehicle _then_ numbers many row
-vehicle-sound v = seen-sound vehicle-of parts-of (search (sounds, profile-sound, gearbox-sound, numbers-sound, curve-sound)) (λ x t. parts-back x (t .1 .1 .0 .1))
+vehicle-sound v = seen-sound vehicle-of parts-of (search (sounds, profile-sound, gearbox-sound, numbers-sound, curve-sound))
+    (λ x t. parts-back x (t .1 .1 .0 .1))
 
 pub trace-sound : (speeds-room holds-room : ℕ) → Sound (trace speeds-room holds-room)
 unfolding trace seconds

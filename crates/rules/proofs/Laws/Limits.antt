@@ -1,11 +1,13 @@
 -- The limits of a gear: on a vehicle in bounds the gears whose engine speed is at most 1000 x nmax are those from the floor up to ng, every
 -- first choice is one of them, and each pass keeps it so.
-use Rattle.rules.proofs.Base.{ℕ, zero, suc, _+_, _-_, _*_, _≤_, _<_, add-zero, le-refl, mul-le-mul-right, le-trans, arith, _≡_, refl, _≢_, _⊎_, inl, inr, true, false, Option, none, some, Option·getD, List, eqb, ℤ, length, leb-true, ltb-true, le-leb, eqb-true, Vehicle, Role}
+use Rattle.rules.proofs.Base.{ℕ, zero, suc, _+_, _-_, _*_, _≤_, _<_, add-zero, le-refl, mul-le-mul-right, le-trans, arith, _≡_, refl, _≢_, _⊎_, inl, inr}
+use Rattle.rules.proofs.Base.{true, false, Option, none, some, Option·getD, List, eqb, ℤ, length, leb-true, ltb-true, le-leb, eqb-true, Vehicle, Role}
 use Rattle.rules.specs.Inside.{InBounds}
 use Rattle.rules.specs.Words.{at, first, highest}
 use Rattle.rules.specs.Units.{ratio-of, low, rise}
 use Rattle.rules.specs.Gears.{engine, under-nmax, allowed, fits, suits, choose}
-use Rattle.rules.specs.Corrections.{floor, ceiling, here, first-choice, is-peak, peak, too-high, rising, too-low, slowing, firsts, after-A, after-B, gears}
+use Rattle.rules.specs.Corrections.{floor, ceiling, here, first-choice, is-peak, peak, too-high, rising, too-low, slowing, firsts, after-A, after-B}
+use Rattle.rules.specs.Corrections.{gears}
 use Rattle.rules.proofs.Laws.Words.{clash, if-ind, and-left, and-right, by-order, pass-holds}
 use Rattle.rules.proofs.Laws.Searches.{Found, first-found, none-first, highest-holds}
 use Rattle.rules.proofs.Laws.Vehicle.{low-from}

@@ -1,5 +1,6 @@
 -- Text: numbers in decimal, lines, and how long they are at most; and that the working looks at the lent card's length alone.
-use Rattle.rules.proofs.Base.{ℕ, zero, suc, _+_, _*_, _/_, _%_, _≤_, _<_, arith, add-zero, _≡_, sym, ap, _∙_, List, [], _∷_, _++_, append-nil, append-assoc, length, length-append, leb, lt-ltb, le-ltb, Vehicle}
+use Rattle.rules.proofs.Base.{ℕ, zero, suc, _+_, _*_, _/_, _%_, _≤_, _<_, arith, add-zero, _≡_, sym, ap, _∙_, List, [], _∷_, _++_, append-nil}
+use Rattle.rules.proofs.Base.{append-assoc, length, length-append, leb, lt-ltb, le-ltb, Vehicle}
 use Rattle.rules.specs.Words.{at}
 use Rattle.rules.specs.Refusals.{room-fault, work-fault}
 use Rattle.rules.specs.Text.{digits, decimal, pedal, line, lines}
@@ -59,7 +60,8 @@ pedal-short byte = by-test (leb 16 byte) (λ t. rw t (omega arith)) (λ t. rw t 
 
 -- how long a line is
 pub line-length : (i v byte : ℕ)
-    → length (line i v byte) ≡ length (decimal i) + suc (length (decimal (v / 10)) + suc (length (decimal (v % 10)) + suc (length (decimal (byte % 16)) + length (pedal byte))))
+    → length (line i v byte)
+    ≡ length (decimal i) + suc (length (decimal (v / 10)) + suc (length (decimal (v % 10)) + suc (length (decimal (byte % 16)) + length (pedal byte))))
 unfolding line
 line-length i v byte = simp length-append
 
@@ -67,7 +69,15 @@ line-length i v byte = simp length-append
 pub line-short : (i v byte : ℕ) → i < 10000 → v < 65536 → length (line i v byte) ≤ 20
 unfolding tens
 line-short i v byte h k =
-    omega (arith, line-length i v byte, decimal-short 3 i (omega arith), decimal-short 3 (v / 10) (omega arith), decimal-short 0 (v % 10) (omega arith), decimal-short 1 (byte % 16) (omega arith), pedal-short byte)
+    omega (
+      arith,
+      line-length i v byte,
+      decimal-short 3 i (omega arith),
+      decimal-short 3 (v / 10) (omega arith),
+      decimal-short 0 (v % 10) (omega arith),
+      decimal-short 1 (byte % 16) (omega arith),
+      pedal-short byte,
+    )
 
 -- ---- lines
 

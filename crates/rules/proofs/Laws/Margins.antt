@@ -1,5 +1,6 @@
 -- A curve without margins of its own: power is then compared as in document 01, by full-load power and M alone.
-use Rattle.rules.proofs.Base.{ℕ, suc, _-_, _<_, arith, _≡_, refl, sym, ap, _∙_, true, ℤ, pos, negℤ, _+ℤ_, _-ℤ_, _*ℤ_, +ℤ-idr, *ℤ-comm, ltZ, Vehicle, Role}
+use Rattle.rules.proofs.Base.{ℕ, suc, _-_, _<_, arith, _≡_, refl, sym, ap, _∙_, true, ℤ, pos, negℤ, _+ℤ_, _-ℤ_, _*ℤ_, +ℤ-idr, *ℤ-comm, ltZ, Vehicle}
+use Rattle.rules.proofs.Base.{Role}
 use Rattle.rules.specs.Inside.{InBounds}
 use Rattle.rules.specs.Words.{at}
 use Rattle.rules.specs.Gears.{fits, derated, between, on-segment, segment, power-speed, power, enough, more}
@@ -42,7 +43,8 @@ module _ (car : Vehicle) (B : InBounds car) (N : NoMargins car) where
         let k = segment car x in
         let s = gear-segment car B here v g f in
         rw (derated-none k (omega (arith, s .next-point)), derated-none (suc k) (s .next-point))
-        (scaled (pos 1000) (pos (at (car .p) k)) (pos (at (car .p) (suc k))) (pos 100 -ℤ pos (car .margin)) (pos (at (car .n) (suc k)) -ℤ pos (at (car .n) k)) (pos x -ℤ pos 1000 *ℤ pos (at (car .n) k)))
+        (scaled (pos 1000) (pos (at (car .p) k)) (pos (at (car .p) (suc k))) (pos 100 -ℤ pos (car .margin)) (pos (at (car .n) (suc k)) -ℤ pos (at (car .n) k))
+        (pos x -ℤ pos 1000 *ℤ pos (at (car .n) k)))
 
     w-none : power car v g .w ≡ full-load car v g .w
     unfolding power on-segment between full-load

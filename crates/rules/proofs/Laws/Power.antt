@@ -1,5 +1,7 @@
 -- The power at a gear: where the segment found lies, and that neighbours agree at a shared point.
-use Rattle.rules.proofs.Base.{ℕ, zero, suc, _+_, _*_, _-_, _≤_, _<_, add-zero, zero-add, le-refl, le-of-lt, lt-of-le-of-lt, le-trans, mul-le-mul-left, max-le, le-max-right, arith, _≡_, refl, sym, ap, _∙_, _⊎_, ⊎-elim, Bool, true, false, Option, none, some, Option·getD, ℤ, pos, negℤ, _+ℤ_, _-ℤ_, _*ℤ_, +ℤ-idr, +ℤ-invr, *ℤ-comm, *ℤ-zero, leb-true, leb-false, lt-leb, Vehicle, Role}
+use Rattle.rules.proofs.Base.{ℕ, zero, suc, _+_, _*_, _-_, _≤_, _<_, add-zero, zero-add, le-refl, le-of-lt, lt-of-le-of-lt, le-trans, mul-le-mul-left}
+use Rattle.rules.proofs.Base.{max-le, le-max-right, arith, _≡_, refl, sym, ap, _∙_, _⊎_, ⊎-elim, Bool, true, false, Option, none, some, Option·getD, ℤ}
+use Rattle.rules.proofs.Base.{pos, negℤ, _+ℤ_, _-ℤ_, _*ℤ_, +ℤ-idr, +ℤ-invr, *ℤ-comm, *ℤ-zero, leb-true, leb-false, lt-leb, Vehicle, Role}
 use Rattle.rules.specs.Inside.{InBounds}
 use Rattle.rules.specs.Words.{at, first}
 use Rattle.rules.specs.Gears.{engine, under-nmax, fits, between, on-segment, reaches, segment, power-speed, derated}

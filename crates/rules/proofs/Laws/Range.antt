@@ -1,5 +1,7 @@
 -- Sums and products of 64-bit signed numbers whose parts have known sizes: each step fits the machine, and is what ℤ says.
-use Rattle.rules.proofs.Base.{_≡_, refl, sym, ap, _∙_, subst, Bool, true, false, _&&_, ℕ, zero, suc, _+_, _*_, _^_, _≤_, _<_, add-comm, le-refl, lt-of-le-of-lt, mul-le-mul, arith, T, ltb, ltb→lt, ℤ, pos, negsuc, negℤ, natAbs, subℕ, _+ℤ_, _-ℤ_, _*ℤ_, mag, leZ, ltZ, ltb-true, ltb-false, w32, w64, Fits, SFits, toZ, ofZ, toZ-ofZ, sfits-widen}
+use Rattle.rules.proofs.Base.{_≡_, refl, sym, ap, _∙_, subst, Bool, true, false, _&&_, ℕ, zero, suc, _+_, _*_, _^_, _≤_, _<_, add-comm, le-refl}
+use Rattle.rules.proofs.Base.{lt-of-le-of-lt, mul-le-mul, arith, T, ltb, ltb→lt, ℤ, pos, negsuc, negℤ, natAbs, subℕ, _+ℤ_, _-ℤ_, _*ℤ_, mag, leZ, ltZ}
+use Rattle.rules.proofs.Base.{ltb-true, ltb-false, w32, w64, Fits, SFits, toZ, ofZ, toZ-ofZ, sfits-widen}
 use Rattle.rules.proofs.Laws.Words.{by-test}
 
 -- ---- sizes

@@ -1,9 +1,10 @@
 -- How far a form reads: another law, which each way of putting forms together keeps; so a job's first bytes say all that is said of it.
-use Rattle.rules.proofs.Base.{ℕ, zero, suc, _+_, _*_, _%_, _≤_, _<_, suc-mul, mul-le-mul-right, arith, _≡_, refl, sym, Bool, true, false, not, List, length, take, length-take-le, getD-take, leb, ltb, eqb, lt-leb, ltb-true, eqb-false, not-true, ne-eqb}
+use Rattle.rules.proofs.Base.{ℕ, zero, suc, _+_, _*_, _%_, _≤_, _<_, suc-mul, mul-le-mul-right, arith, _≡_, refl, sym, Bool, true, false, not, List}
+use Rattle.rules.proofs.Base.{length, take, length-take-le, getD-take, leb, ltb, eqb, lt-leb, ltb-true, eqb-false, not-true, ne-eqb}
 use Rattle.rules.specs.Words.{_and_, within, at}
 use Rattle.rules.specs.Refusals.{Fault}
 use Rattle.rules.specs.Groups.{Read, got, refused, Reader, hand-on, demand, early, group-if, group}
-use Rattle.rules.specs.Forms.{Form, value, known, only-if, checked, bounded, _then_, seen, row-read, row, many, counted, whole}
+use Rattle.rules.specs.Forms.{Form, value, known, only-if, checked, bounded, _then_, seen, row-read, row, many, counted, to-the-end}
 use Rattle.rules.proofs.Laws.Words.{if-ind, and-left, and-right}
 use Rattle.rules.proofs.Laws.Vehicle.{within-hi}
 use Rattle.rules.proofs.Laws.Forms.{says-now, Sound}
@@ -29,7 +30,8 @@ group-near job i =
     absurd (eqb-false (at job (i + 1)) 0 (not-true _ t) (omega arith))))
     (λ _. off))
     (λ _. if-ind (Near i) (leb (length job) (i + 2)) (λ _. off) (λ _.
-    if-ind (Near i) (ltb (at job (i + 2)) 128 and not (eqb (at job (i + 2)) 0) and leb (at job i % 128 + 128 * (at job (i + 1) % 128) + 16384 * at job (i + 2)) 65535)
+    if-ind (Near i) (ltb (at job (i + 2)) 128 and not (eqb (at job (i + 2)) 0)
+    and leb (at job i % 128 + 128 * (at job (i + 1) % 128) + 16384 * at job (i + 2)) 65535)
     (λ t. near (omega arith) (λ small. absurd (eqb-false (at job (i + 2)) 0 (not-true _ (and-right _ _ (and-left _ _ t))) (omega arith))))
     (λ _. off))))))
 
@@ -78,7 +80,8 @@ unfolding demand hand-on
 stop-both t t′ n s i f f′ e e′ = rw (e, e′) stop
 
 -- a value that passes a test ends at k at most
-let-through : {A : Type 0} (t : Bool) (n s j k : ℕ) (a : A) → (t ≡ true → j ≤ k) → Both k (hand-on (demand t n s j) (λ _. got a)) (hand-on (demand t n s j) (λ _. got a))
+let-through : {A : Type 0} (t : Bool) (n s j k : ℕ) (a : A) → (t ≡ true → j ≤ k)
+    → Both k (hand-on (demand t n s j) (λ _. got a)) (hand-on (demand t n s j) (λ _. got a))
 unfolding hand-on demand
 let-through true n s j k a h = went (h refl)
 let-through false n s j k a h = stop
@@ -106,7 +109,17 @@ unfolding group group-if
 group-same {top} {job} {cut} alike i h =
     let l = alike .long in
     let m = alike .long-too in
-    rw (lt-leb (length job) i (omega arith), lt-leb (length job) (i + 1) (omega arith), lt-leb (length job) (i + 2) (omega arith), lt-leb (length cut) i (omega arith), lt-leb (length cut) (i + 1) (omega arith), lt-leb (length cut) (i + 2) (omega arith), alike .same i (omega arith), alike .same (i + 1) (omega arith), alike .same (i + 2) (omega arith))
+    rw (
+      lt-leb (length job) i (omega arith),
+      lt-leb (length job) (i + 1) (omega arith),
+      lt-leb (length job) (i + 2) (omega arith),
+      lt-leb (length cut) i (omega arith),
+      lt-leb (length cut) (i + 1) (omega arith),
+      lt-leb (length cut) (i + 2) (omega arith),
+      alike .same i (omega arith),
+      alike .same (i + 1) (omega arith),
+      alike .same (i + 2) (omega arith),
+    )
 
 -- the same, and where it ends
 pub group-both : {top : ℕ} {job cut : List ℕ} → Alike top job cut → {i p : ℕ} → i ≤ p → p + 3 ≤ top → Both (p + 3) (group job i) (group cut i)
@@ -150,7 +163,8 @@ module _ {A : Type 0} where
   }
 
   module _ {B : Type 0} where
-    pub then-reach : {part : Form A} {next : A → Form B} {n k : ℕ} → Sound part → Reach part n → ((a : A) → part .Takes a → Reach (next a) k) → Reach (part then next) (n + k)
+    pub then-reach : {part : Form A} {next : A → Form B} {n k : ℕ} → Sound part → Reach part n → ((a : A) → part .Takes a → Reach (next a) k)
+        → Reach (part then next) (n + k)
     unfolding _then_
     then-reach f r g = record {
       reach = λ {job} alike {i} {p} h room.
@@ -178,12 +192,14 @@ pub many-reach : {A : Type 0} {part : Form A} {n : ℕ} → Reach part n → (k 
 unfolding many
 many-reach r k = row-reach _ (λ s. r) k _
 
-pub counted-reach : {A : Type 0} {count : Form ℕ} {parts : ℕ → Form (List A)} {n m : ℕ} → Sound count → Reach count n → ((k : ℕ) → count .Takes k → Reach (parts k) m) → Reach (counted count parts) (n + m)
+pub counted-reach : {A : Type 0} {count : Form ℕ} {parts : ℕ → Form (List A)} {n m : ℕ} → Sound count → Reach count n
+    → ((k : ℕ) → count .Takes k → Reach (parts k) m) → Reach (counted count parts) (n + m)
 unfolding counted
 counted-reach c r f = seen-reach _ _ (then-reach c r f)
 
 -- a count that is hi at most, and so many parts
-pub counted-many-reach : {A : Type 0} {count : Form ℕ} {part : Form A} {c n : ℕ} (hi : ℕ) → Sound count → Reach count c → ((k : ℕ) → count .Takes k → k ≤ hi) → Reach part n
+pub counted-many-reach : {A : Type 0} {count : Form ℕ} {part : Form A} {c n : ℕ} (hi : ℕ) → Sound count → Reach count c → ((k : ℕ) → count .Takes k → k ≤ hi)
+    → Reach part n
     → Reach (counted count (many part)) (c + hi * n)
 counted-many-reach {n} hi s c few r = counted-reach s c (λ k t. less (mul-le-mul-right n (few k t)) (many-reach r k))
 
@@ -193,8 +209,9 @@ unfolding bounded
 bounded-reach lo hi refusal spot h = small-reach (within lo hi) refusal (λ i. spot) (λ v t. omega (arith, within-hi lo hi v t))
 
 -- of a job of so many bytes and three more, those say all
-pub long-whole : {A : Type 0} {part : Form A} {n : ℕ} → Reach part n → (top : ℕ) → n + 3 ≤ top → (job : List ℕ) → top ≤ length job → whole part (take top job) ≡ whole part job
-unfolding whole hand-on
+pub long-whole : {A : Type 0} {part : Form A} {n : ℕ} → Reach part n → (top : ℕ) → n + 3 ≤ top → (job : List ℕ) → top ≤ length job
+    → to-the-end part (take top job) ≡ to-the-end part job
+unfolding to-the-end hand-on
 long-whole {A} {part} {n} r top far job h =
     let l : length (take top job) ≡ top = length-take-le top job h in
     let alike : Alike top job (take top job) = record { long = h; long-too = omega arith; same = λ i k. getD-take top job i 0 k } in

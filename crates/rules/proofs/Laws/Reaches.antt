@@ -1,6 +1,7 @@
 -- What an edit of one second reaches, of its hold or of its speed: outside the second, the trips next to it and the one standing second before, no byte
 -- changes; and where the checks passed before, those of the span find what those of the whole find.
-use Rattle.rules.proofs.Base.{ℕ, suc, _-_, _≤_, _<_, min, arith, _≡_, refl, _∙_, _≢_, inl, inr, true, false, List, length, set, length-set, getD-set-other, le-ltb, Vehicle, Edit, Hold, Release, Mend}
+use Rattle.rules.proofs.Base.{ℕ, suc, _-_, _≤_, _<_, min, arith, _≡_, refl, _∙_, _≢_, inl, inr, true, false, List, length, set, length-set}
+use Rattle.rules.proofs.Base.{getD-set-other, le-ltb, Vehicle, Edit, Hold, Release, Mend}
 use Rattle.rules.specs.Words.{_and_, at}
 use Rattle.rules.specs.Units.{moving, rise, start, stop}
 use Rattle.rules.specs.Corrections.{trip-speeds, trip-holds, first-at, gear-at, clutch, byte, card-at}
@@ -22,9 +23,12 @@ pub record ButFor (vs hs ws ks : List ℕ) (s : ℕ) : Type 0 where
 -- so what an edit asks for
 but-for : (vs hs : List ℕ) (e : Edit) → second e < length vs → ButFor vs hs (asked-speeds e vs) (asked-holds e hs) (second e)
 unfolding second asked-speeds asked-holds
-but-for vs hs (Hold s g) l = record { in-trace = l; speeds = refl; holds = length-set hs s g; speed-at = λ i n. refl; hold-at = λ i n. getD-set-other hs s i g 0 n }
-but-for vs hs (Release s) l = record { in-trace = l; speeds = refl; holds = length-set hs s 0; speed-at = λ i n. refl; hold-at = λ i n. getD-set-other hs s i 0 0 n }
-but-for vs hs (Mend s v) l = record { in-trace = l; speeds = length-set vs s v; holds = refl; speed-at = λ i n. getD-set-other vs s i v 0 n; hold-at = λ i n. refl }
+but-for vs hs (Hold s g) l =
+    record { in-trace = l; speeds = refl; holds = length-set hs s g; speed-at = λ i n. refl; hold-at = λ i n. getD-set-other hs s i g 0 n }
+but-for vs hs (Release s) l =
+    record { in-trace = l; speeds = refl; holds = length-set hs s 0; speed-at = λ i n. refl; hold-at = λ i n. getD-set-other hs s i 0 0 n }
+but-for vs hs (Mend s v) l =
+    record { in-trace = l; speeds = length-set vs s v; holds = refl; speed-at = λ i n. getD-set-other vs s i v 0 n; hold-at = λ i n. refl }
 
 -- from the second before the trip that s or the second before it lies in ..
 abbrev reach-lo : List ℕ → ℕ → ℕ

@@ -1,5 +1,6 @@
 -- What the reader's definitions answer, one law for each way through them.
-use Rattle.rules.proofs.Base.{ℕ, _+_, _*_, _%_, _≤_, _<_, arith, _≡_, _∙_, _≢_, Bool, not, List, length, ltb, leb, eqb, lt-ltb, le-ltb, le-leb, lt-leb, ne-eqb, ltb-true, leb-true, eqb-false, not-true}
+use Rattle.rules.proofs.Base.{ℕ, _+_, _*_, _%_, _≤_, _<_, arith, _≡_, _∙_, _≢_, Bool, not, List, length, ltb, leb, eqb, lt-ltb, le-ltb, le-leb, lt-leb}
+use Rattle.rules.proofs.Base.{ne-eqb, ltb-true, leb-true, eqb-false, not-true}
 use Rattle.rules.specs.Words.{_and_, at}
 use Rattle.rules.specs.Groups.{got, refused, early, group-if, group}
 use Rattle.rules.proofs.Laws.Words.{by-test, and-left, and-right}
@@ -54,7 +55,8 @@ module _ (job : List ℕ) (i : ℕ) where
           three l c z s =
               three-if l ∙ rw (lt-ltb (at job (i + 2)) 128 c, ne-eqb (at job (i + 2)) 0 (λ e. omega arith), le-leb three-of 65535 s)
 
-          pub three-bad : i + 2 < length job → (at job (i + 2) < 128 → at job (i + 2) ≢ 0 → three-of ≤ 65535 → ⊥) → group job i ≡ refused (record { no = 13; spot = i })
+          pub three-bad : i + 2 < length job → (at job (i + 2) < 128 → at job (i + 2) ≢ 0 → three-of ≤ 65535 → ⊥)
+              → group job i ≡ refused (record { no = 13; spot = i })
           unfolding group-if
           three-bad l bad =
               three-if l

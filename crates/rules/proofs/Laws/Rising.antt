@@ -1,15 +1,18 @@
 -- Request Twelve: what a card shows at a second whose byte is the definitions' and whose checks have passed. Its gear turns the engine at nmax or
 -- below; and where the speed rises, a free second's gear is at most one above the gear before, or no higher than its floor.
-use Rattle.rules.proofs.Base.{ℕ, suc, _+_, _-_, _≤_, _<_, _%_, min, zero-add, arith, _≡_, sym, ap, _∙_, _⊎_, inl, inr, true, false, none, List, leb, ltb, eqb, length, lt-ltb, ltb-false, leb-true, eqb-true, eq-eqb, Vehicle, Edit}
+use Rattle.rules.proofs.Base.{ℕ, suc, _+_, _-_, _≤_, _<_, _%_, min, zero-add, arith, _≡_, sym, ap, _∙_, _⊎_, inl, inr, true, false, none, List, leb, ltb}
+use Rattle.rules.proofs.Base.{eqb, length, lt-ltb, ltb-false, leb-true, eqb-true, eq-eqb, Vehicle, Edit}
 use Rattle.rules.specs.Inside.{InBounds, Fit}
 use Rattle.rules.specs.Words.{if_then_else_, _and_, at, pass}
 use Rattle.rules.specs.Units.{low, moving, start, stop}
 use Rattle.rules.specs.Gears.{under-nmax}
-use Rattle.rules.specs.Corrections.{floor, ceiling, free, too-high, rising, too-low, slowing, after-A, after-B, gears, trip-speeds, trip-holds, gear-at, card-at, card}
+use Rattle.rules.specs.Corrections.{floor, ceiling, free, too-high, rising, too-low, slowing, after-A, after-B, gears, trip-speeds, trip-holds, gear-at}
+use Rattle.rules.specs.Corrections.{card-at, card}
 use Rattle.rules.specs.Refusals.{span-fault}
 use Rattle.rules.specs.Edit.{Screen, second, asked-speeds, asked-holds, around, span, edit-fault, asked-screen, edited}
 use Rattle.rules.specs.Vocabulary.{AtMostNmax, Spares}
-use Rattle.rules.proofs.Laws.Words.{clash, by-order, if-ind, and-right, and-fails, both, pass-at, pass-done, pass-later, pass-holds, at-table, patch-in, of₃}
+use Rattle.rules.proofs.Laws.Words.{clash, by-order, if-ind, and-right, and-fails, both, pass-at, pass-done, pass-later, pass-holds, at-table, patch-in}
+use Rattle.rules.proofs.Laws.Words.{of₃}
 use Rattle.rules.proofs.Laws.Held.{length-A, length-B}
 use Rattle.rules.proofs.Laws.Trips.{next-start, next-stop, trip-of, start-before, stop-to, moving-in}
 use Rattle.rules.proofs.Laws.Limits.{floor-low}
@@ -44,7 +47,8 @@ module _ (car : Vehicle) (us hs : List ℕ) (j : ℕ) (l : j < length hs) (p : 0
       let c = ceiling-le j before-B in
       if-ind (λ g. (g ≤ at before-B (j - 1) + 1) ⊎ (g ≤ floor car (at us j))) (too-high car us hs j before-B)
       (λ t. by-order (ceiling j before-B) (floor car (at us j)) (λ h. inr (omega arith)) (λ h. inl (omega arith)))
-      (λ t. let f : (eqb (at hs j) 0 and ltb 0 j and ltb (at us (j - 1)) (at us j)) ≡ true = both (both (eq-eqb (at hs j) 0 no-hold) (lt-ltb 0 j p)) (lt-ltb (at us (j - 1)) (at us j) up) in
+      (λ t. let f : (eqb (at hs j) 0 and ltb 0 j and ltb (at us (j - 1)) (at us j)) ≡ true =
+      both (both (eq-eqb (at hs j) 0 no-hold) (lt-ltb 0 j p)) (lt-ltb (at us (j - 1)) (at us j) up) in
       let x : at before-B j ≤ ceiling j before-B = ltb-false (ceiling j before-B) (at before-B j) (and-fails _ _ f t) in inl (omega arith))
 
   B-le : (at B j ≤ at B (j - 1) + 1) ⊎ (at B j ≤ floor car (at us j))
@@ -158,7 +162,8 @@ module _ {car : Vehicle} {vs hs shown : List ℕ} {lo hi : ℕ} (R : RightPart c
         let t = trip-of vs i (F .moves) in
         let l : start vs i < i = by-order (start vs i) i (λ h. h) (λ h. absurd (F .not-first (omega arith))) in
         let e : suc (i - 1) ≡ i = omega arith in
-        rw e at (by-one (i - 1) (omega (arith, inside (F .moves))) (rw e b) (t .0 .inside (i - 1) (omega arith) (omega arith)) (rw e (F .moves)) (rw e (F .no-hold)) (rw e (F .above)));
+        rw e at (by-one (i - 1) (omega (arith, inside (F .moves))) (rw e b) (t .0 .inside (i - 1) (omega arith) (omega arith)) (rw e (F .moves))
+        (rw e (F .no-hold)) (rw e (F .above)));
   }
 
 -- the whole card of a trace that passes every check
@@ -182,7 +187,8 @@ starts-in vs a i before h m =
     by-order (start vs i) a (λ l. clash (t .0 .inside (a - 1) (omega arith) (omega arith)) (before (a - 1) (omega arith))) (λ l. l)
 
 -- the seconds that an edit re-works, whether or not the card was right
-module _ (car : Vehicle) (ws ks new : List ℕ) (s : ℕ) (C : InBounds car) (n : length ks ≡ length ws) (pass : span-fault car ws ks (around ws s .lo) (around ws s .end) ≡ none)
+module _ (car : Vehicle) (ws ks new : List ℕ) (s : ℕ) (C : InBounds car) (n : length ks ≡ length ws)
+    (pass : span-fault car ws ks (around ws s .lo) (around ws s .end) ≡ none)
     (byte-at : (i : ℕ) → around ws s .lo ≤ i → i < around ws s .hi → i < length ws → at new i ≡ card-at car ws ks i) where
   reworked-part : s < length ws → RightPart car ws ks new (start ws s) (stop ws (suc s))
   unfolding around
@@ -216,11 +222,13 @@ module _ (car : Vehicle) (e : Edit) (x : Screen) (ok : edit-fault car e x ≡ no
   long : length (x .card) ≡ length new-speeds
   long = rooms-in (x .speeds) (x .holds) (x .card) (T .room) .1 ∙ sym (length-asked e (x .speeds))
 
-  asked-byte : (i : ℕ) → span e new-speeds .lo ≤ i → i < span e new-speeds .hi → i < length new-speeds → at (asked-screen car e x .card) i ≡ card-at car new-speeds new-holds i
+  asked-byte : (i : ℕ) → span e new-speeds .lo ≤ i → i < span e new-speeds .hi → i < length new-speeds
+      → at (asked-screen car e x .card) i ≡ card-at car new-speeds new-holds i
   unfolding asked-screen
   asked-byte i a b l = patch-in (x .card) (span e new-speeds .lo) (span e new-speeds .hi) (card-at car new-speeds new-holds) i a b (rw long l)
 
-  pub edit-spares : (i : ℕ) → span e new-speeds .lo ≤ i → i < span e new-speeds .hi → Spares car (edited car e x .speeds) (edited car e x .holds) (edited car e x .card) i
+  pub edit-spares : (i : ℕ) → span e new-speeds .lo ≤ i → i < span e new-speeds .hi
+      → Spares car (edited car e x .speeds) (edited car e x .holds) (edited car e x .card) i
   unfolding asked-screen
   edit-spares i a b =
       by-kind e new-speeds

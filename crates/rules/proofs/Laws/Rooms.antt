@@ -1,5 +1,6 @@
 -- "Room beyond is untouched": a lent room that is filled from its start keeps every place past the values, and its length where they fit.
-use Rattle.rules.proofs.Base.{ℕ, _+_, _-_, _≤_, zero-add, suc-add, arith, _≡_, refl, sym, ap, _∙_, Option, none, some, List, [], _∷_, _++_, length, drop, length-append, length-drop, getD-drop}
+use Rattle.rules.proofs.Base.{ℕ, _+_, _-_, _≤_, zero-add, suc-add, arith, _≡_, refl, sym, ap, _∙_, Option, none, some, List, [], _∷_, _++_, length, drop}
+use Rattle.rules.proofs.Base.{length-append, length-drop, getD-drop}
 use Rattle.rules.specs.Words.{at}
 use Rattle.rules.specs.Refusals.{Fault, left}
 use Rattle.rules.specs.Job.{filled}

@@ -1,5 +1,6 @@
 -- Laws of the searches `first` and `highest`.
-use Rattle.rules.proofs.Base.{ℕ, zero, suc, _+_, _-_, _≤_, _<_, suc-add, add-suc, zero-add, add-zero, le-of-suc-le-suc, arith, _≡_, refl, ap, _∙_, _≢_, _⊎_, inl, inr, Bool, true, false, Option, none, some}
+use Rattle.rules.proofs.Base.{ℕ, zero, suc, _+_, _-_, _≤_, _<_, suc-add, add-suc, zero-add, add-zero, le-of-suc-le-suc, arith, _≡_, refl, ap, _∙_, _≢_}
+use Rattle.rules.proofs.Base.{_⊎_, inl, inr, Bool, true, false, Option, none, some}
 use Rattle.rules.specs.Words.{if_then_else_, at, first, highest}
 use Rattle.rules.proofs.Laws.Words.{by-test, by-eq}
 
@@ -29,7 +30,8 @@ unfolding first
 first-cut p q zero r lo h z = rw zero-add (first-none p r lo (λ i a b. z i (omega arith) (omega arith)))
 first-cut p q (suc k) r lo h z =
     rw (suc-add, h lo (omega arith) (omega arith))
-    (ap (λ (o : Option ℕ). if q lo then some lo else o) (first-cut p q k r (suc lo) (λ i a b. h i (omega arith) (omega arith)) (λ i a b. z i (omega arith) (omega arith))))
+    (ap (λ (o : Option ℕ). if q lo then some lo else o)
+    (first-cut p q k r (suc lo) (λ i a b. h i (omega arith) (omega arith)) (λ i a b. z i (omega arith) (omega arith))))
 
 pub none-first : (p : ℕ → Bool) (k lo : ℕ) → first p lo k ≡ none → (i : ℕ) → lo ≤ i → i < lo + k → p i ≡ false
 unfolding first

@@ -4,7 +4,8 @@ use Rattle.rules.specs.Inside.{InBounds}
 use Rattle.rules.specs.Words.{at}
 use Rattle.rules.specs.Units.{ratio-of, fastest, steepest}
 use Rattle.rules.specs.Gears.{engine, required, derated, between, on-segment}
-use Rattle.rules.specs.Vocabulary.{OnSegment, Sum, num, _plus_, _less_, _times_, worth, Everywhere, In64, engine-sum, idle-sum, required-sum, w-sum, past-sum, derated-sum, Q-sum, available-sum}
+use Rattle.rules.specs.Vocabulary.{OnSegment, Sum, num, _plus_, _less_, _times_, worth, Everywhere, In64, engine-sum, idle-sum, required-sum, w-sum}
+use Rattle.rules.specs.Vocabulary.{past-sum, derated-sum, Q-sum, available-sum}
 use Rattle.rules.proofs.Laws.Integers.{pos-sub}
 use Rattle.rules.proofs.Laws.Range.{E, lit, var, is, _⊕_, _⊖_, _⊗_, pure, size, ok, step-left, step-right, within, natAbs-below, natAbs-gap}
 
@@ -79,7 +80,8 @@ module _ (car : Vehicle) (b : InBounds car) (k : ℕ) (h : k < car .points) wher
   unfolding derated-sum
   derated-each =
       everywhere
-      (var (pos (at (car .p) k)) 5000 (b .p-to k h) ⊗ (lit (pos 100) ⊖ var (pos (car .margin)) 50 (b .margin-to) ⊖ var (pos (at (car .m) k)) 50 (b .m-to k h))) tt
+      (var (pos (at (car .p) k)) 5000 (b .p-to k h) ⊗ (lit (pos 100) ⊖ var (pos (car .margin)) 50 (b .margin-to) ⊖ var (pos (at (car .m) k)) 50 (b .m-to k h)))
+      tt
 
   derated-size : natAbs (derated car k) ≤ 500000
   derated-size = rw derated-is derated-to
@@ -119,7 +121,8 @@ module _ (car : Vehicle) (b : InBounds car) (x k : ℕ) (s : OnSegment car x k) 
   w-inside = record {
     same = refl;
     each = everywhere
-        (var (pos (at (car .n) (suc k))) 16000 (b .n-to (suc k) (s .next-point)) ⊖ var (pos (at (car .n) k)) 16000 (b .n-to k (omega (arith, s .next-point)))) tt;
+        (var (pos (at (car .n) (suc k))) 16000 (b .n-to (suc k) (s .next-point)) ⊖ var (pos (at (car .n) k)) 16000 (b .n-to k (omega (arith, s .next-point))))
+        tt;
   }
 
   past-each : Everywhere (past-sum car x k)

@@ -1,10 +1,12 @@
 -- A span between standing seconds: its checks and its bytes look at its seconds and at no others; and so does each edit.
-use Rattle.rules.proofs.Base.{ℕ, suc, _-_, _≤_, _<_, min, arith, _≡_, refl, sym, _∙_, true, false, List, leb, ltb, eqb, length, set, length-set, List·getD-eq-default, getD-set-other, getD-set-same, le-ltb, leb-true, ltb-true, eqb-true, eqb-false, Vehicle, Edit, Hold, Release, Mend}
+use Rattle.rules.proofs.Base.{ℕ, suc, _-_, _≤_, _<_, min, arith, _≡_, refl, sym, _∙_, true, false, List, leb, ltb, eqb, length, set, length-set}
+use Rattle.rules.proofs.Base.{List·getD-eq-default, getD-set-other, getD-set-same, le-ltb, leb-true, ltb-true, eqb-true, eqb-false, Vehicle, Edit, Hold}
+use Rattle.rules.proofs.Base.{Release, Mend}
 use Rattle.rules.specs.Words.{_and_, _or_, at, patch}
 use Rattle.rules.specs.Units.{moving, rise, start, stop}
 use Rattle.rules.specs.Corrections.{firsts, gears, trip-speeds, trip-holds, first-at, gear-at, clutch, byte, card-at}
 use Rattle.rules.specs.Refusals.{Check, speed, step, ends, over-ng, at-rest, over-rev, no-gear, check-number, all-checks, bad}
-use Rattle.rules.specs.Edit.{Screen, second, asked-speeds, asked-holds, Span, around, hold-span, span, fails, asked-fault, asked-screen}
+use Rattle.rules.specs.Edit.{Screen, second, asked-speeds, asked-holds, Extent, around, hold-span, span, fails, asked-fault, asked-screen}
 use Rattle.rules.specs.Vocabulary.{SameSpan, none-held}
 use Rattle.rules.proofs.Laws.Words.{clash, by-test, by-order, part-ext, table-ext, patch-none}
 use Rattle.rules.proofs.Laws.Trips.{trip-of, stop-in, moving-in, start-le, start-before, stop-le, stop-after, start-agree, stop-agree}
@@ -13,22 +15,34 @@ use Rattle.rules.proofs.Laws.Checks.{fault-ext}
 -- ---- where to look
 
 -- they say the same when one second is written in both
-set-same : (l m : List ℕ) (s x lo hi : ℕ) → length m ≡ length l → ((i : ℕ) → lo ≤ i → i < hi → at m i ≡ at l i) → (i : ℕ) → lo ≤ i → i < hi → at (set m s x) i ≡ at (set l s x) i
+set-same : (l m : List ℕ) (s x lo hi : ℕ) → length m ≡ length l → ((i : ℕ) → lo ≤ i → i < hi → at m i ≡ at l i) → (i : ℕ) → lo ≤ i → i < hi
+    → at (set m s x) i ≡ at (set l s x) i
 set-same l m s x lo hi n h i a b =
     by-test (eqb i s)
     (λ t. let e : i ≡ s = eqb-true i s t in
     by-order s (length l)
     (λ y. rw e (getD-set-same m s x 0 (omega arith) ∙ sym (getD-set-same l s x 0 y)))
-    (λ y. rw e (List·getD-eq-default (set m s x) 0 (omega (arith, length-set m s x)) ∙ sym (List·getD-eq-default (set l s x) 0 (omega (arith, length-set l s x))))))
+    (λ y. rw e (List·getD-eq-default (set m s x) 0 (omega (arith, length-set m s x))
+    ∙ sym (List·getD-eq-default (set l s x) 0 (omega (arith, length-set l s x))))))
     (λ t. getD-set-other m s i x 0 (eqb-false i s t) ∙ h i a b ∙ sym (getD-set-other l s i x 0 (eqb-false i s t)))
 
 same-hold : (vs hs ws ks : List ℕ) (lo hi s g : ℕ) → SameSpan vs hs ws ks lo hi → SameSpan vs (set hs s g) ws (set ks s g) lo hi
 same-hold vs hs ws ks lo hi s g S =
-    record { speeds = S .speeds; holds = length-set ks s g ∙ S .holds ∙ sym (length-set hs s g); speed-at = S .speed-at; hold-at = set-same hs ks s g lo hi (S .holds) (S .hold-at) }
+    record {
+      speeds = S .speeds;
+      holds = length-set ks s g ∙ S .holds ∙ sym (length-set hs s g);
+      speed-at = S .speed-at;
+      hold-at = set-same hs ks s g lo hi (S .holds) (S .hold-at);
+    }
 
 pub same-speed : (vs hs ws ks : List ℕ) (lo hi s v : ℕ) → SameSpan vs hs ws ks lo hi → SameSpan (set vs s v) hs (set ws s v) ks lo hi
 same-speed vs hs ws ks lo hi s v S =
-    record { speeds = length-set ws s v ∙ S .speeds ∙ sym (length-set vs s v); holds = S .holds; speed-at = set-same vs ws s v lo hi (S .speeds) (S .speed-at); hold-at = S .hold-at }
+    record {
+      speeds = length-set ws s v ∙ S .speeds ∙ sym (length-set vs s v);
+      holds = S .holds;
+      speed-at = set-same vs ws s v lo hi (S .speeds) (S .speed-at);
+      hold-at = S .hold-at;
+    }
 
 -- A span between two standing seconds, the one before a and b, and these with it, as far as the trace goes. No trip crosses its ends
 pub record Between (vs : List ℕ) (a b : ℕ) : Type 0 where
@@ -36,29 +50,31 @@ pub record Between (vs : List ℕ) (a b : ℕ) : Type 0 where
   pub before : (k : ℕ) → suc k ≡ a → moving (at vs k) ≡ false
   pub after : moving (at vs b) ≡ false
 
+-- the trip of a moving second of the span lies between
+pub in-span : {vs : List ℕ} {a b : ℕ} → Between vs a b → (i : ℕ) → a ≤ suc i → i ≤ b → moving (at vs i) ≡ true → (a ≤ start vs i) × (stop vs i ≤ b)
+in-span {vs} {a} {b} B i x y u =
+    let t = trip-of vs i u in (
+      by-order (start vs i) a (λ h. by-order i a
+          (λ j. clash u (B .before i (omega arith)))
+          (λ j. clash (t .0 .inside (a - 1) (omega arith) (omega arith)) (B .before (a - 1) (omega arith)))) (λ h. h),
+      by-order b (stop vs i) (λ h. clash (t .0 .inside b (omega arith) h) (B .after)) (λ h. h),
+    )
+
 module _ (car : Vehicle) (vs hs ws ks : List ℕ) (a b : ℕ) (B : Between vs a b) (S : SameSpan vs hs ws ks (a - 1) (min (suc b) (length vs))) where
   -- past the trace's end both are 0
   pub speed-to : (i : ℕ) → a ≤ suc i → i ≤ b → at ws i ≡ at vs i
   speed-to i x y =
-      by-order i (length vs) (λ h. S .speed-at i (omega arith) (omega arith)) (λ h. List·getD-eq-default ws 0 (omega (arith, S .speeds)) ∙ sym (List·getD-eq-default vs 0 h))
+      by-order i (length vs) (λ h. S .speed-at i (omega arith) (omega arith))
+      (λ h. List·getD-eq-default ws 0 (omega (arith, S .speeds)) ∙ sym (List·getD-eq-default vs 0 h))
 
-  -- the trip of a moving second of the span lies between
   module _ (i : ℕ) (x : a ≤ suc i) (y : i ≤ b) (u : moving (at vs i) ≡ true) where
-    in-span : (a ≤ start vs i) × (stop vs i ≤ b)
-    in-span =
-        let t = trip-of vs i u in (
-          by-order (start vs i) a (λ h. by-order i a
-              (λ j. clash u (B .before i (omega arith)))
-              (λ j. clash (t .0 .inside (a - 1) (omega arith) (omega arith)) (B .before (a - 1) (omega arith)))) (λ h. h),
-          by-order b (stop vs i) (λ h. clash (t .0 .inside b (omega arith) h) (B .after)) (λ h. h),
-        )
-
     -- whatever is worked out from the trip's own speeds and holds is the same
-    of-trip : (f : List ℕ → List ℕ → ℕ → ℕ) → f (trip-speeds ws i) (trip-holds ws ks i) (i - start ws i) ≡ f (trip-speeds vs i) (trip-holds vs hs i) (i - start vs i)
+    of-trip : (f : List ℕ → List ℕ → ℕ → ℕ)
+        → f (trip-speeds ws i) (trip-holds ws ks i) (i - start ws i) ≡ f (trip-speeds vs i) (trip-holds vs hs i) (i - start vs i)
     unfolding trip-speeds trip-holds
     of-trip f =
         let t = trip-of vs i u in
-        let n = in-span in
+        let n = in-span B i x y u in
         let c = stop-in vs i u in
         rw (
           start-agree vs ws i (λ k p q. speed-to k (omega arith) (omega arith)),
@@ -114,26 +130,26 @@ module _ (car : Vehicle) (vs hs ws ks : List ℕ) (a b : ℕ) (B : Between vs a 
 -- ---- each edit looks at its span, and at no other second
 
 -- two traces with their holds, and the spans r and q of one edit on them: the spans lie alike, and checks and bytes there say the same
-record Alike (car : Vehicle) (vs hs us ls : List ℕ) (r q : Span) : Type 0 where
+record Alike (car : Vehicle) (vs hs us ls : List ℕ) (r q : Extent) : Type 0 where
   pub place : q ≡ r
   pub checks : (c : Check) (i : ℕ) → r .lo ≤ i → i < r .end → bad c car us ls (r .lo) i ≡ bad c car vs hs (r .lo) i
   pub bytes : (old : List ℕ) → patch old (r .lo) (r .hi) (card-at car us ls) ≡ patch old (r .lo) (r .hi) (card-at car vs hs)
 
-module _ (car : Vehicle) (vs hs us ls : List ℕ) (s : ℕ) where
-  -- the trips next to s
-  its-trips : Between vs (start vs s) (stop vs (suc s))
-  its-trips = record { order = omega (arith, start-le vs s, stop-le vs (suc s)); before = start-before vs s; after = stop-after vs (suc s) }
+-- the trips next to s
+pub its-trips : (vs : List ℕ) (s : ℕ) → Between vs (start vs s) (stop vs (suc s))
+its-trips vs s = record { order = omega (arith, start-le vs s, stop-le vs (suc s)); before = start-before vs s; after = stop-after vs (suc s) }
 
+module _ (car : Vehicle) (vs hs us ls : List ℕ) (s : ℕ) where
   alike-around : SameSpan vs hs us ls (around vs s .lo) (around vs s .end) → Alike car vs hs us ls (around vs s) (around us s)
   unfolding around
   alike-around S =
-      let to = speed-to car vs hs us ls (start vs s) (stop vs (suc s)) its-trips S in
+      let to = speed-to car vs hs us ls (start vs s) (stop vs (suc s)) (its-trips vs s) S in
       let x = start-le vs s in
       let y = stop-le vs (suc s) in
       record {
         place = rw (start-agree vs us s (λ k p q. to k p (omega arith)), stop-agree vs us (suc s) (λ k p q. to k (omega arith) q), S .speeds);
-        checks = bad-same car vs hs us ls (start vs s) (stop vs (suc s)) its-trips S;
-        bytes = card-between car vs hs us ls (start vs s) (stop vs (suc s)) its-trips S;
+        checks = bad-same car vs hs us ls (start vs s) (stop vs (suc s)) (its-trips vs s) S;
+        bytes = card-between car vs hs us ls (start vs s) (stop vs (suc s)) (its-trips vs s) S;
       }
 
   -- a standing second alone
@@ -197,15 +213,18 @@ fails-is (Release s) car ws ks lo c i = refl
 fails-is (Mend s v) car ws ks lo c i = refl
 
 -- what the checks say depends on the seconds of the span alone
-pub looks-at-span : (car : Vehicle) (e : Edit) (vs hs us ls : List ℕ) → SameSpan vs hs us ls (span e vs .lo) (span e vs .end) → asked-fault car e us ls ≡ asked-fault car e vs hs
+pub looks-at-span : (car : Vehicle) (e : Edit) (vs hs us ls : List ℕ) → SameSpan vs hs us ls (span e vs .lo) (span e vs .end)
+    → asked-fault car e us ls ≡ asked-fault car e vs hs
 unfolding asked-fault
 looks-at-span car e vs hs us ls S =
     let A = alike-of car e vs hs us ls S in
     let r = span e (asked-speeds e vs) in
-    rw (A .place) (fault-ext _ _ (r .lo) (r .end) (λ c i x y. fails-is e car _ _ (r .lo) c i ∙ rw (A .checks c i x y) (sym (fails-is e car _ _ (r .lo) c i))) all-checks)
+    rw (A .place) (fault-ext _ _ (r .lo) (r .end) (λ c i x y. fails-is e car _ _ (r .lo) c i ∙ rw (A .checks c i x y) (sym (fails-is e car _ _ (r .lo) c i)))
+    all-checks)
 
 -- and so does the card that is left
-pub reworks-span : (car : Vehicle) (e : Edit) (x y : Screen) → SameSpan (x .speeds) (x .holds) (y .speeds) (y .holds) (span e (x .speeds) .lo) (span e (x .speeds) .end) → y .card ≡ x .card
+pub reworks-span : (car : Vehicle) (e : Edit) (x y : Screen)
+    → SameSpan (x .speeds) (x .holds) (y .speeds) (y .holds) (span e (x .speeds) .lo) (span e (x .speeds) .end) → y .card ≡ x .card
     → asked-screen car e y .card ≡ asked-screen car e x .card
 unfolding asked-screen
 reworks-span car e x y S same = let A = alike-of car e (x .speeds) (x .holds) (y .speeds) (y .holds) S in rw (same, A .place) (A .bytes (x .card))

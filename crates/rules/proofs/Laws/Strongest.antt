@@ -1,5 +1,6 @@
 -- Two powers compared, and the strongest of the gears that fit.
-use Rattle.rules.proofs.Base.{ℕ, zero, suc, _≤_, _<_, le-refl, le-of-suc-le-suc, arith, _≡_, refl, sym, ap, _∙_, _≢_, true, false, ℤ, pos, _*ℤ_, *ℤ-comm, leZ, leb-true, eqb-false, ne-eqb, not-false, not-true, Vehicle, Role}
+use Rattle.rules.proofs.Base.{ℕ, zero, suc, _≤_, _<_, le-refl, le-of-suc-le-suc, arith, _≡_, refl, sym, ap, _∙_, _≢_, true, false, ℤ, pos, _*ℤ_, *ℤ-comm}
+use Rattle.rules.proofs.Base.{leZ, leb-true, eqb-false, ne-eqb, not-false, not-true, Vehicle, Role}
 use Rattle.rules.specs.Inside.{InBounds}
 use Rattle.rules.specs.Units.{low}
 use Rattle.rules.specs.Gears.{Power, allowed, fits, segment, power-speed, power, more, beats, strongest}

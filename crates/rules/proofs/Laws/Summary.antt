@@ -1,5 +1,6 @@
 -- Counts: they add up over stretches, and a change within a stretch between standing seconds shows in that stretch alone.
-use Rattle.rules.proofs.Base.{ℕ, zero, suc, _+_, _-_, _≤_, _<_, suc-add, add-suc, zero-add, add-zero, one-add, arith, _≡_, refl, sym, ap, _∙_, inl, inr, Bool, false, List, length, Summary}
+use Rattle.rules.proofs.Base.{ℕ, zero, suc, _+_, _-_, _≤_, _<_, suc-add, add-suc, zero-add, add-zero, one-add, arith, _≡_, refl, sym, ap, _∙_, inl, inr}
+use Rattle.rules.proofs.Base.{Bool, false, List, length, Summary}
 use Rattle.rules.specs.Words.{if_then_else_, _and_, at, part, table}
 use Rattle.rules.specs.Units.{moving}
 use Rattle.rules.specs.Summary.{tally, rests, drives, changes, summary, settled, updated}
@@ -150,7 +151,8 @@ module _ {vs bs ws cs : List ℕ} {a b : ℕ} (C : Changed vs bs ws cs a b) wher
   pub updated-span : (was : Summary) → updated was (summary vs bs) (summary ws cs) ≡ updated was (counts vs bs a (b - a)) (counts ws cs a (b - a))
   unfolding summary counts
   updated-span was =
-      let d : (p q : ℕ → Bool) → ((i : ℕ) → Out a b i → q i ≡ p i) → tally p 0 (length vs) + tally q a (b - a) ≡ tally q 0 (length vs) + tally p a (b - a) = λ p q.
+      let d : (p q : ℕ → Bool) → ((i : ℕ) → Out a b i → q i ≡ p i)
+      → tally p 0 (length vs) + tally q a (b - a) ≡ tally q 0 (length vs) + tally p a (b - a) = λ p q.
       tally-diff p q (length vs) a b (C .rest .order) (C .in-trace) in
       rw (C .speeds)
       (updated-ext was _ _ _ _ (d (rests vs) (rests ws) rests-same)
@@ -179,7 +181,8 @@ module _ (vs bs : List ℕ) (lo hi : ℕ) (l : hi ≤ length vs) (r : moving (at
   unfolding changes
   part-pair j h =
       by-order (suc (lo + j)) hi
-      (λ x. let y : lo + suc j < hi = omega arith in rw (at-part vs lo hi j h, at-part bs lo hi j h, at-part vs lo hi (suc j) y, at-part bs lo hi (suc j) y, add-suc lo j))
+      (λ x. let y : lo + suc j < hi = omega arith in
+      rw (at-part vs lo hi j h, at-part bs lo hi j h, at-part vs lo hi (suc j) y, at-part bs lo hi (suc j) y, add-suc lo j))
       (λ x. let e : suc (lo + j) ≡ hi = omega arith in
       stands-next (part vs lo hi) (part bs lo hi) j (standing-past (part vs lo hi) (suc j) (rw (length-part vs lo hi l) (omega arith)))
       ∙ sym (stands-next vs bs (lo + j) (rw e r)))

@@ -24,7 +24,8 @@ pub many-takes : {A : Type 0} (part : Form A) (k : ℕ) (l : List A) → length 
 unfolding many row
 many-takes part k l e t = (all-take part l t, e)
 
-pub counted-takes : {A : Type 0} (count : Form ℕ) (part : Form A) (l : List A) → count .Takes (length l) → All (part .Takes) l → counted count (many part) .Takes l
+pub counted-takes : {A : Type 0} (count : Form ℕ) (part : Form A) (l : List A) → count .Takes (length l) → All (part .Takes) l
+    → counted count (many part) .Takes l
 unfolding counted seen _then_
 counted-takes count part l c t = ((c, many-takes part (length l) l refl t), refl)
 

@@ -1,6 +1,10 @@
 -- Numbers of refusal: whatever the definitions refuse, they refuse by number and place of a row of the table, and no row has number 0.
-use Rattle.rules.proofs.Base.{ℕ, arith, _≡_, refl, ap, _∙_, _≢_, Bool, true, false, Option, none, some, List, [], _∷_, Vehicle, Refusal, TraceLength, RoomLength, VehicleField, OutsideTrace, SpeedOver, StepOver, EndMoving, HoldNotDriven, HoldStanding, HoldOverRev, NoGear, JobEndsEarly, BadGroup, BadVersion, BadHold, BytesAfter, RoomShort, BadPart, BadKind, NotFinite, OutOfBounds, KindMissing, BadFactor, Answer, Done, Refused, Edit}
-use Rattle.rules.specs.Refusals.{Fault, fault, numbered, said, refuse-at, _orelse_, when, trace-fault, room-fault, vehicle-fault, Check, speed, step, ends, over-ng, at-rest, over-rev, no-gear, check-number, fault-of, seconds-fault, span-fault, work-fault}
+use Rattle.rules.proofs.Base.{ℕ, arith, _≡_, refl, ap, _∙_, _≢_, Bool, true, false, Option, none, some, List, [], _∷_, Vehicle, Refusal, TraceLength}
+use Rattle.rules.proofs.Base.{RoomLength, VehicleField, OutsideTrace, SpeedOver, StepOver, EndMoving, HoldNotDriven, HoldStanding, HoldOverRev, NoGear}
+use Rattle.rules.proofs.Base.{JobEndsEarly, BadGroup, BadVersion, BadHold, BytesAfter, RoomShort, BadPart, BadKind, NotFinite, OutOfBounds, KindMissing}
+use Rattle.rules.proofs.Base.{BadFactor, Answer, Done, Refused, Edit}
+use Rattle.rules.specs.Refusals.{Fault, fault, numbered, said, refuse-at, _orelse_, when, trace-fault, room-fault, vehicle-fault, Check, speed, step}
+use Rattle.rules.specs.Refusals.{ends, over-ng, at-rest, over-rev, no-gear, check-number, fault-of, seconds-fault, span-fault, work-fault}
 use Rattle.rules.specs.Edit.{Screen, asked-fault, edit-fault}
 use Rattle.rules.specs.Summary.{summary-fault}
 use Rattle.rules.specs.Write.{checks-fault, write-fault}
@@ -13,8 +17,8 @@ pub record Told (q : Option Fault) : Type 0 where
   pub says : said answer ≡ q
 
 -- a row of this number, with this place
-abbrev pub Row : ℕ → ℕ → Type 0
-Row n place = (r : Refusal) × (fault r ≡ numbered n place)
+abbrev pub TableRow : ℕ → ℕ → Type 0
+TableRow n place = (r : Refusal) × (fault r ≡ numbered n place)
 
 -- no row has number 0
 from-1 : (r : Refusal) → fault r .no ≢ 0
@@ -56,17 +60,17 @@ pub told-none : Told none
 unfolding said
 told-none = record { answer = Done; says = refl }
 
-pub told-row : {n place : ℕ} → Row n place → Told (some (numbered n place))
+pub told-row : {n place : ℕ} → TableRow n place → Told (some (numbered n place))
 unfolding said
 told-row r = record { answer = Refused (r .0); says = ap some (r .1) }
 
 -- a check that finds a place, and one whose place is known
-pub told-at : (n : ℕ) → ((i : ℕ) → Row n i) → (o : Option ℕ) → Told (refuse-at n o)
+pub told-at : (n : ℕ) → ((i : ℕ) → TableRow n i) → (o : Option ℕ) → Told (refuse-at n o)
 unfolding refuse-at
 told-at n row none = told-none
 told-at n row (some i) = told-row (row i)
 
-pub told-when : (n i : ℕ) → Row n i → (t : Bool) → Told (refuse-at n (when t i))
+pub told-when : (n i : ℕ) → TableRow n i → (t : Bool) → Told (refuse-at n (when t i))
 unfolding refuse-at when
 told-when n i row true = told-row row
 told-when n i row false = told-none
@@ -76,7 +80,7 @@ unfolding _orelse_
 told-or none b p q = q
 told-or (some f) b p q = p
 
-check-row : (c : Check) (i : ℕ) → Row (check-number c) i
+check-row : (c : Check) (i : ℕ) → TableRow (check-number c) i
 unfolding check-number
 check-row speed i = (SpeedOver i, refl)
 check-row step i = (StepOver i, refl)

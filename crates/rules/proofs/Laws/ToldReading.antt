@@ -1,14 +1,15 @@
 -- Numbers of refusal: whatever the reader of a job refuses, it refuses by number and place of a row of the table.
-use Rattle.rules.proofs.Base.{ℕ, zero, suc, _+_, refl, Bool, true, false, not, List, [], _∷_, length, leb, ltb, eqb, TraceLength, RoomLength, VehicleField, JobEndsEarly, BadGroup, BadVersion, BadHold, BytesAfter}
+use Rattle.rules.proofs.Base.{ℕ, zero, suc, _+_, refl, Bool, true, false, not, List, [], _∷_, length, leb, ltb, eqb, TraceLength, RoomLength}
+use Rattle.rules.proofs.Base.{VehicleField, JobEndsEarly, BadGroup, BadVersion, BadHold, BytesAfter}
 use Prim.{tt}
 use Rattle.rules.specs.Words.{at}
 use Rattle.rules.specs.Refusals.{numbered}
 use Rattle.rules.specs.Groups.{Read, got, refused, Reader, hand-on, demand, early, group-if, group}
-use Rattle.rules.specs.Forms.{Form, value, known, only-if, checked, bounded, _then_, seen, row-read, row, many, counted, whole}
-use Rattle.rules.specs.Job.{version, profile, gearbox, numbers, point, curve, seconds, trace, hold, vehicle, holds, stages, job, job-read, read-fault}
+use Rattle.rules.specs.Forms.{Form, value, known, only-if, checked, bounded, _then_, seen, row-read, row, many, counted, to-the-end}
+use Rattle.rules.specs.Job.{version, profile, gearbox, numbers, point, curve, seconds, trace, one-hold, vehicle, holds, stages, job, job-read, read-fault}
 use Rattle.rules.proofs.Laws.Words.{if-ind}
 use Rattle.rules.proofs.Laws.Reading.{good}
-use Rattle.rules.proofs.Laws.Told.{Told, Row, told-none, told-row}
+use Rattle.rules.proofs.Laws.Told.{Told, TableRow, told-none, told-row}
 
 -- ---- reading
 
@@ -20,7 +21,7 @@ pub told-got : {A : Type 0} (a : A) (j : ℕ) → ToldRead (got a j)
 unfolding read-fault
 told-got a j = record { told = told-none }
 
-pub told-refused : {A : Type 0} {n place : ℕ} → Row n place → ToldRead {A = A} (refused (numbered n place))
+pub told-refused : {A : Type 0} {n place : ℕ} → TableRow n place → ToldRead {A = A} (refused (numbered n place))
 unfolding read-fault
 told-refused r = record { told = told-row r }
 
@@ -29,7 +30,7 @@ unfolding hand-on read-fault
 told-then (got a j) f p q = q a j
 told-then (refused x) f p q = record { told = p .told }
 
-pub told-demand : (t : Bool) (n place i : ℕ) → Row n place → ToldRead (demand t n place i)
+pub told-demand : (t : Bool) (n place i : ℕ) → TableRow n place → ToldRead (demand t n place i)
 unfolding demand
 told-demand true n place i r = told-got true i
 told-demand false n place i r = told-refused r
@@ -61,13 +62,14 @@ unfolding only-if known
 only-if-tells true a p = p
 only-if-tells false a p = record { reads = λ bytes i. told-got a i }
 
-checked-tells : {A : Type 0} {part : Form A} → Tells part → (test : A → Bool) (n : ℕ) (spot : ℕ → ℕ) → ((i : ℕ) → Row n (spot i)) → Tells (checked part test n spot)
+checked-tells : {A : Type 0} {part : Form A} → Tells part → (test : A → Bool) (n : ℕ) (spot : ℕ → ℕ) → ((i : ℕ) → TableRow n (spot i))
+    → Tells (checked part test n spot)
 unfolding checked hand-on
 checked-tells p test n spot row = record {
   reads = λ bytes i. told-then _ _ (p .reads bytes i) (λ a j. told-then _ _ (told-demand (test a) n (spot i) j (row i)) (λ t k. told-got a k));
 }
 
-bounded-tells : (lo hi n place : ℕ) → Row n place → Tells (bounded lo hi n place)
+bounded-tells : (lo hi n place : ℕ) → TableRow n place → Tells (bounded lo hi n place)
 unfolding bounded
 bounded-tells lo hi n place row = checked-tells value-tells _ n _ (λ i. row)
 
@@ -97,8 +99,8 @@ counted-tells : {A : Type 0} {count : Form ℕ} {parts : ℕ → Form (List A)} 
 unfolding counted
 counted-tells c p = seen-tells _ _ (then-tells c p)
 
-whole-told : {A : Type 0} {part : Form A} → Tells part → (bytes : List ℕ) → ToldRead (whole part bytes)
-unfolding whole hand-on
+whole-told : {A : Type 0} {part : Form A} → Tells part → (bytes : List ℕ) → ToldRead (to-the-end part bytes)
+unfolding to-the-end hand-on
 whole-told p bytes = told-then _ _ (p .reads bytes 0) (λ a j. told-then _ _ (told-demand _ 16 j j (BytesAfter j, refl)) (λ t k. told-got a k))
 
 -- ---- the job
@@ -123,8 +125,8 @@ trace-tells : (a b : ℕ) → Tells (trace a b)
 unfolding trace seconds
 trace-tells a b = counted-tells (checked-tells (bounded-tells _ _ 1 0 (TraceLength, refl)) _ 2 _ (λ i. (RoomLength, refl))) (many-tells value-tells)
 
-hold-tells : (count next : ℕ) → Tells (hold count next)
-unfolding hold
+hold-tells : (count next : ℕ) → Tells (one-hold count next)
+unfolding one-hold
 hold-tells count next =
     checked-tells (then-tells (checked-tells value-tells _ 15 _ (λ i. (BadHold i, refl))) (λ s. value-tells)) _ 15 _ (λ i. (BadHold i, refl))
 

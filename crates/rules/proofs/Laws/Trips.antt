@@ -1,5 +1,6 @@
 -- Where a trip lies: `start` and `stop` find the one unbroken run of moving seconds that a moving second lies in.
-use Rattle.rules.proofs.Base.{ℕ, zero, suc, _+_, _-_, _≤_, _<_, add-zero, not-suc-le-zero, le-of-suc-le-suc, arith, _≡_, refl, sym, ap, _∙_, true, false, List, [], _∷_, length, drop, List·getD-eq-default, getD-drop}
+use Rattle.rules.proofs.Base.{ℕ, zero, suc, _+_, _-_, _≤_, _<_, add-zero, not-suc-le-zero, le-of-suc-le-suc, arith, _≡_, refl, sym, ap, _∙_, true, false}
+use Rattle.rules.proofs.Base.{List, [], _∷_, length, drop, List·getD-eq-default, getD-drop}
 use Rattle.rules.specs.Words.{at}
 use Rattle.rules.specs.Units.{moving, start, run, stop}
 use Rattle.rules.specs.Vocabulary.{IsTrip}
@@ -125,7 +126,9 @@ moving-in vs i m = by-order i (length vs) (λ h. h) (λ h. let z : false ≡ tru
 pub stop-in : (vs : List ℕ) (i : ℕ) → moving (at vs i) ≡ true → stop vs i ≤ length vs
 stop-in vs i m =
     let t = trip-of vs i m in
-    by-order (length vs) (stop vs i) (λ h. let z : length vs < length vs = moving-in vs (length vs) (t .0 .inside (length vs) (omega (arith, moving-in vs i m)) h) in absurd (omega arith)) (λ h. h)
+    by-order (length vs) (stop vs i)
+    (λ h. let z : length vs < length vs = moving-in vs (length vs) (t .0 .inside (length vs) (omega (arith, moving-in vs i m)) h) in absurd (omega arith))
+    (λ h. h)
 
 -- past the trace's end a second stands
 pub standing-past : (vs : List ℕ) (i : ℕ) → length vs ≤ i → moving (at vs i) ≡ false

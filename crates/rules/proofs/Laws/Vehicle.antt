@@ -1,5 +1,7 @@
 -- A vehicle in bounds: what the thirteen tests say, as facts.
-use Rattle.rules.proofs.Base.{ℕ, zero, suc, _+_, _-_, _≤_, _<_, not-suc-le-zero, le-of-suc-le-suc, arith, _≡_, refl, Bool, true, false, Option, none, some, List, [], _∷_, length, getD, leb, eqb, lit<, ℤ, pos, negsuc, negℤ, natAbs, leZ, leb-true, ltb-true, eqb-true, eq-eqb, ne-eqb, Vehicle}
+use Rattle.rules.proofs.Base.{ℕ, zero, suc, _+_, _-_, _≤_, _<_, not-suc-le-zero, le-of-suc-le-suc, arith, _≡_, refl, Bool, true, false, Option, none}
+use Rattle.rules.proofs.Base.{some, List, [], _∷_, length, getD, leb, eqb, lit<, ℤ, pos, negsuc, negℤ, natAbs, leZ, leb-true, ltb-true, eqb-true, eq-eqb}
+use Rattle.rules.proofs.Base.{ne-eqb, Vehicle}
 use Rattle.rules.specs.Inside.{InBounds}
 use Rattle.rules.specs.Words.{_and_, _or_, within, at, every}
 use Rattle.rules.specs.Units.{newest, ratio-good, margin-good, point-good, bounds, first-failed, bad-field, low}
@@ -21,9 +23,11 @@ low-plainly car = refl
 none-failed : (ts : List Bool) (k : ℕ) → first-failed k ts ≡ none → (j : ℕ) → j < length ts → getD ts j true ≡ true
 unfolding first-failed
 none-failed [] k e j h = absurd (not-suc-le-zero h)
-none-failed (t ∷ ts) k e zero h = by-test t (λ x. x) (λ x. let z : _≡_ {A = Option ℕ} (some k) none = rw x at e in let y : _≡_ {A = ℕ} 0 1 = cc in absurd (omega arith))
+none-failed (t ∷ ts) k e zero h =
+    by-test t (λ x. x) (λ x. let z : _≡_ {A = Option ℕ} (some k) none = rw x at e in let y : _≡_ {A = ℕ} 0 1 = cc in absurd (omega arith))
 none-failed (t ∷ ts) k e (suc j) h =
-    by-test t (λ x. none-failed ts (suc k) (rw x at e) j (le-of-suc-le-suc h)) (λ x. let z : _≡_ {A = Option ℕ} (some k) none = rw x at e in let y : _≡_ {A = ℕ} 0 1 = cc in absurd (omega arith))
+    by-test t (λ x. none-failed ts (suc k) (rw x at e) j (le-of-suc-le-suc h))
+    (λ x. let z : _≡_ {A = Option ℕ} (some k) none = rw x at e in let y : _≡_ {A = ℕ} 0 1 = cc in absurd (omega arith))
 
 pub every-at : (p : ℕ → Bool) (k lo : ℕ) → every p lo k ≡ true → (i : ℕ) → lo ≤ i → i < lo + k → p i ≡ true
 unfolding every
@@ -85,7 +89,8 @@ same-point v car k h =
     let one : leb 2 v or eqb (at (car .m) k) 0 ≡ true = or-true _ _ (λ l. eq-eqb _ _ (h l)) in
     rw one
 
-pub same-bounds : (v : ℕ) (car : Vehicle) → (leb 3 v ≡ false → car .profile ≡ 0) → (leb 2 v ≡ false → (k : ℕ) → k < car .points → at (car .m) k ≡ 0) → bounds v car ≡ bounds newest car
+pub same-bounds : (v : ℕ) (car : Vehicle) → (leb 3 v ≡ false → car .profile ≡ 0) → (leb 2 v ≡ false → (k : ℕ) → k < car .points → at (car .m) k ≡ 0)
+    → bounds v car ≡ bounds newest car
 unfolding bounds _or_
 same-bounds v car plain none-marked =
     let one : leb 3 v or eqb (car .profile) 0 ≡ true = or-true _ _ (λ l. eq-eqb _ _ (plain l)) in
@@ -96,9 +101,11 @@ unfolding bounds ratio-good margin-good point-good low
 bounds-in v car e =
     let t = each-holds v car e in
     let ratio : (g : ℕ) → 1 ≤ g → g ≤ car .ng → ratio-good car g ≡ true = λ g a b. every-at (ratio-good car) (car .ng) 1 (t 1 (lit< tt)) g a (omega arith) in
-    let point : (k : ℕ) → k < car .points → point-good v car k ≡ true = λ k a. every-at (point-good v car) (car .points) 0 (t 11 (lit< tt)) k (omega arith) (omega arith) in
+    let point : (k : ℕ) → k < car .points
+    → point-good v car k ≡ true = λ k a. every-at (point-good v car) (car .points) 0 (t 11 (lit< tt)) k (omega arith) (omega arith) in
     let rising : (k : ℕ) → suc k < car .points → within (at (car .n) k + 1) (at (car .n) k + 1000) (at (car .n) (suc k)) ≡ true =
-    λ k a. let x : suc k - 1 ≡ k = omega arith in rw x at (or-skip _ _ (ne-eqb (suc k) 0 (λ z. omega arith)) (and-right _ _ (and-left _ _ (and-left _ _ (point (suc k) a))))) in
+    λ k a. let x : suc k - 1 ≡ k = omega arith in
+    rw x at (or-skip _ _ (ne-eqb (suc k) 0 (λ z. omega arith)) (and-right _ _ (and-left _ _ (and-left _ _ (point (suc k) a))))) in
     record {
       low-to = let h : car .profile ≤ 1 = leb-true _ _ (and-left _ _ (and-left _ _ (t 0 (lit< tt)))) in omega arith;
       low-ng = let h : 2 + car .profile ≤ car .ng = within-lo _ _ _ (and-right _ _ (t 0 (lit< tt))) in omega arith;

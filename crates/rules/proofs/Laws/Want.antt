@@ -1,5 +1,6 @@
 -- Refused for want of a gear: refusal 10 of a trace that passes the other checks.
-use Rattle.rules.proofs.Base.{ℕ, _-_, _≤_, sub-zero, le-trans, mul-le-mul-left, arith, _≡_, refl, sym, ap, _∙_, _↔_, true, false, Option, none, some, List, eqb, length, drop, leb-true, le-leb, eqb-true, eqb-false, eq-eqb, ne-eqb, not-true, Vehicle, Role, AfterLow}
+use Rattle.rules.proofs.Base.{ℕ, _-_, _≤_, sub-zero, le-trans, mul-le-mul-left, arith, _≡_, refl, sym, ap, _∙_, _↔_, true, false, Option, none, some}
+use Rattle.rules.proofs.Base.{List, eqb, length, drop, leb-true, le-leb, eqb-true, eqb-false, eq-eqb, ne-eqb, not-true, Vehicle, Role, AfterLow}
 use Rattle.rules.specs.Inside.{InBounds, gear-fault}
 use Rattle.rules.specs.Words.{_and_, _or_, at, first}
 use Rattle.rules.specs.Units.{low, moving, rise, start}
@@ -16,14 +17,14 @@ use Rattle.rules.proofs.Laws.Choice.{first-choice-plainly}
 use Rattle.rules.proofs.Laws.Minimum.{minimum-most}
 
 module _ (car : Vehicle) (here : Role) (v g : ℕ) where
-  inside-true : Turns car here v g → over-minimum car here v g and under-nmax car v g ≡ true
+  inside-true : Turns car here v g → (eqb g (low car) or over-minimum car here v g) and under-nmax car v g ≡ true
   unfolding _and_ _or_ over-minimum under-nmax
   inside-true I =
       by-test (eqb g (low car))
       (λ t. rw (t, le-leb _ _ (I .to)))
       (λ t. rw (t, le-leb _ _ (I .from (eqb-false _ _ t)), le-leb _ _ (I .to)))
 
-  true-inside : over-minimum car here v g and under-nmax car v g ≡ true → Turns car here v g
+  true-inside : (eqb g (low car) or over-minimum car here v g) and under-nmax car v g ≡ true → Turns car here v g
   unfolding over-minimum under-nmax
   true-inside t = record {
     from = λ n. leb-true _ _ (or-skip _ _ (ne-eqb g (low car) n) (and-left _ _ t));
@@ -106,10 +107,11 @@ spot-of i (some f) = f .spot
 
 module _ (car : Vehicle) (vs hs old : List ℕ) (P : PassesOthers car vs hs old) where
   -- where the other checks pass, the tenth decides
-  tenth : work-fault car vs hs old ≡ refuse-at 10 (first (bad no-gear car vs hs 0) 0 (length vs))
+  pub tenth : work-fault car vs hs old ≡ refuse-at 10 (first (bad no-gear car vs hs 0) 0 (length vs))
   unfolding work-fault gear-fault
   tenth =
-      none-orelse _ _ (P .one) ∙ none-orelse _ _ (P .two) ∙ none-orelse _ _ (P .three) ∙ gears-last car vs hs 0 (length vs) ∙ none-orelse _ _ (P .four-to-nine) ∙ rw sub-zero
+      none-orelse _ _ (P .one) ∙ none-orelse _ _ (P .two) ∙ none-orelse _ _ (P .three) ∙ gears-last car vs hs 0 (length vs) ∙ none-orelse _ _ (P .four-to-nine)
+      ∙ rw sub-zero
 
   -- a second at which it is refused is wanting
   refused-wanting : (i : ℕ) → work-fault car vs hs old ≡ some (record { no = 10; spot = i }) → Wanting car vs hs i
@@ -120,7 +122,8 @@ module _ (car : Vehicle) (vs hs old : List ℕ) (P : PassesOthers car vs hs old)
       found none f = nothing (sym e ∙ rw f at tenth)
       found (some j) f =
           let y : j ≡ i = ap (spot-of i) (sym (rw f at tenth) ∙ e) in
-          rw (← y) (bad-wanting car vs hs j (rooms-in vs hs old (P .two) .0) (vehicle-in car (P .three)) (first-found (bad no-gear car vs hs 0) (length vs) 0 j f .holds))
+          rw (← y) (bad-wanting car vs hs j (rooms-in vs hs old (P .two) .0) (vehicle-in car (P .three))
+          (first-found (bad no-gear car vs hs 0) (length vs) 0 j f .holds))
 
   -- where a second is wanting, it is refused, at the lowest such
   wanting-refused : (i : ℕ) → Wanting car vs hs i → (j : ℕ) × (work-fault car vs hs old ≡ some (record { no = 10; spot = j })) × (j ≤ i)
@@ -130,7 +133,8 @@ module _ (car : Vehicle) (vs hs old : List ℕ) (P : PassesOthers car vs hs old)
       wrong : bad no-gear car vs hs 0 i ≡ true
       wrong = wanting-bad car vs hs i (rooms-in vs hs old (P .two) .0) (vehicle-in car (P .three)) W
 
-      found : (o : Option ℕ) → first (bad no-gear car vs hs 0) 0 (length vs) ≡ o → (j : ℕ) × (work-fault car vs hs old ≡ some (record { no = 10; spot = j })) × (j ≤ i)
+      found : (o : Option ℕ) → first (bad no-gear car vs hs 0) 0 (length vs) ≡ o → (j : ℕ) × (work-fault car vs hs old ≡ some (record { no = 10; spot = j }))
+          × (j ≤ i)
       found none f = clash wrong (none-first (bad no-gear car vs hs 0) (length vs) 0 f i (omega arith) (omega (arith, moving-in vs i (W .moves))))
       found (some j) f =
           (j, rw f at tenth, by-order i j (λ h. clash wrong (first-found (bad no-gear car vs hs 0) (length vs) 0 j f .lowest i (omega arith) h)) (λ h. h))

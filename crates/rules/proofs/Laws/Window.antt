@@ -1,8 +1,10 @@
 -- A window of seconds: where the checks passed before and say the same outside it, those of the window find what those of the whole find, and only
 -- bytes of the window are to be written.
-use Rattle.rules.proofs.Base.{ℕ, _-_, _≤_, _<_, sub-zero, zero-add, arith, _≡_, refl, sym, _∙_, _⊎_, inl, inr, false, none, List, [], _∷_, lt-ltb, leb-false, ltb-false, length, Vehicle, leb, ltb}
+use Rattle.rules.proofs.Base.{ℕ, _-_, _≤_, _<_, sub-zero, zero-add, arith, _≡_, refl, sym, _∙_, _⊎_, inl, inr, false, none, List, [], _∷_, lt-ltb}
+use Rattle.rules.proofs.Base.{leb-false, ltb-false, length, Vehicle, leb, ltb}
 use Rattle.rules.specs.Words.{_and_, first, at, patch}
-use Rattle.rules.specs.Refusals.{refuse-at, Check, speed, step, ends, over-ng, at-rest, over-rev, no-gear, check-number, all-checks, bad, fault-of, span-fault, trace-fault, room-fault, work-fault}
+use Rattle.rules.specs.Refusals.{refuse-at, Check, speed, step, ends, over-ng, at-rest, over-rev, no-gear, check-number, all-checks, bad, fault-of}
+use Rattle.rules.specs.Refusals.{span-fault, trace-fault, room-fault, work-fault}
 use Rattle.rules.proofs.Laws.Words.{by-eq, by-test, table-ext, at-table, length-table}
 use Rattle.rules.proofs.Laws.Searches.{none-first, first-window}
 use Rattle.rules.specs.Corrections.{card-at, card}
@@ -16,7 +18,8 @@ module _ (car : Vehicle) (vs hs ws ks : List ℕ) (n : length ws ≡ length vs) 
     (same : (c : Check) (i : ℕ) → i < length vs → (i < lo) ⊎ (hi ≤ i) → bad c car ws ks 0 i ≡ bad c car vs hs 0 i)
     (step-in : bad step car ws ks 0 lo ≡ bad step car vs hs 0 lo) where
   -- in the window a check says what it says of the whole; the step into its first second passed before
-  bad-inside : (c : Check) → ((i : ℕ) → i < length vs → bad c car vs hs 0 i ≡ false) → (i : ℕ) → lo ≤ i → i < length vs → bad c car ws ks 0 i ≡ bad c car ws ks lo i
+  bad-inside : (c : Check) → ((i : ℕ) → i < length vs → bad c car vs hs 0 i ≡ false) → (i : ℕ) → lo ≤ i → i < length vs
+      → bad c car ws ks 0 i ≡ bad c car ws ks lo i
   unfolding bad _and_
   bad-inside speed ok i x y = refl
   bad-inside step ok i x y =
@@ -36,7 +39,8 @@ module _ (car : Vehicle) (vs hs ws ks : List ℕ) (n : length ws ≡ length vs) 
       first-window (bad c car ws ks 0) (bad c car ws ks lo) (length ws) lo hi a b
       (λ i h o. same c i (omega arith) o ∙ ok i (omega arith)) (λ i x y. bad-inside c ok i x (omega arith))
 
-  fault-inside : (cs : List Check) → fault-of (λ c. bad c car vs hs 0) 0 (length vs) cs ≡ none → fault-of (λ c. bad c car ws ks 0) 0 (length ws) cs ≡ fault-of (λ c. bad c car ws ks lo) lo hi cs
+  fault-inside : (cs : List Check) → fault-of (λ c. bad c car vs hs 0) 0 (length vs) cs ≡ none
+      → fault-of (λ c. bad c car ws ks 0) 0 (length ws) cs ≡ fault-of (λ c. bad c car ws ks lo) lo hi cs
   unfolding fault-of
   fault-inside [] e = refl
   fault-inside (c ∷ cs) e =

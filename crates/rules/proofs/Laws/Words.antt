@@ -1,5 +1,8 @@
 -- Laws of tests, and of `pass`, `table`, `part` and `patch`.
-use Rattle.rules.proofs.Base.{ℕ, zero, suc, _+_, _-_, _≤_, _<_, suc-add, add-suc, zero-add, add-zero, not-suc-le-zero, le-of-suc-le-suc, eq-or-lt-of-le, le-refl, arith, _≡_, refl, sym, ap, _∙_, inl, inr, Bool, true, false, true≢false, List, _∷_, _++_, length, take, drop, length-set, length-take, length-drop, List·getD-eq-default, leb, ltb, ltb-true, ltb-false, lt-ltb, le-ltb, le-leb, lt-leb, drop-cons, getD-set-same, getD-set-other, getD-take, getD-drop, ext-getD}
+use Rattle.rules.proofs.Base.{ℕ, zero, suc, _+_, _-_, _≤_, _<_, suc-add, add-suc, zero-add, add-zero, not-suc-le-zero, le-of-suc-le-suc, eq-or-lt-of-le}
+use Rattle.rules.proofs.Base.{le-refl, arith, _≡_, refl, sym, ap, _∙_, inl, inr, Bool, true, false, true≢false, List, _∷_, _++_, length, take, drop}
+use Rattle.rules.proofs.Base.{length-set, length-take, length-drop, List·getD-eq-default, leb, ltb, ltb-true, ltb-false, lt-ltb, le-ltb, le-leb, lt-leb}
+use Rattle.rules.proofs.Base.{drop-cons, getD-set-same, getD-set-other, getD-take, getD-drop, ext-getD}
 use Rattle.rules.specs.Words.{if_then_else_, _and_, _or_, at, part, pass, table, patch}
 use Rattle.rules.specs.Vocabulary.{Out}
 
@@ -160,7 +163,8 @@ patch-out old lo hi f i o =
     by-order i (length old)
     (λ h. at-table (λ k. if leb lo k and ltb k hi then f k else at old k) 0 (length old) i h ∙ rw zero-add
     (elim o [ inl c ↦ rw (lt-leb lo i c) | inr c ↦ by-test (leb lo i) (λ t. rw (t, le-ltb i hi c)) (λ t. rw t) ]))
-    (λ h. List·getD-eq-default (patch old lo hi f) 0 (rw (length-table (λ k. if leb lo k and ltb k hi then f k else at old k) 0 (length old)) h) ∙ sym (List·getD-eq-default old 0 h))
+    (λ h. List·getD-eq-default (patch old lo hi f) 0 (rw (length-table (λ k. if leb lo k and ltb k hi then f k else at old k) 0 (length old)) h)
+    ∙ sym (List·getD-eq-default old 0 h))
 
 pub patch-in : (old : List ℕ) (lo hi : ℕ) (f : ℕ → ℕ) (i : ℕ) → lo ≤ i → i < hi → i < length old → at (patch old lo hi f) i ≡ f i
 unfolding patch _and_

@@ -16,8 +16,8 @@ use Rattle.rules.proofs.Laws.Checks.{vehicle-in, rooms-in, Accepted, ac
 use Rattle.rules.proofs.Laws.Cards.{fit-of, held-shows, byte-gear, no-over-rev}
 use Rattle.rules.proofs.Laws.Want.{refused-for-want, lowest-wanting, never-wanting}
 use Rattle.rules.proofs.Laws.GearedCards.{work-up, card-up}
-use Rattle.rules.proofs.Laws.GearedTrips.{ups-none}
-use Rattle.rules.proofs.Laws.Vans.{geared-cleared, cleared-bounds, geared-van, lower-bounds}
+use Rattle.rules.proofs.Laws.Vans.{same-cleared, geared-van, lower-bounds}
+use Rattle.rules.proofs.Laws.Unused.{bad-field-same, work-same, card-same}
 use Rattle.rules.proofs.Laws.Refusals.{said-once}
 
 -- ---- 5. A trace that passes checks 1 to 9 is refused by 10 exactly when at some moving second without a hold no gear allowed there turns the
@@ -54,11 +54,13 @@ module _ (car : Vehicle) (vs hs old : List ℕ) (ok : work-fault car vs hs old �
   pub held-byte : at hs i ≢ 0 → card-at car vs hs i % 16 ≡ at hs i
   held-byte h =
       let n = rooms-in vs hs old (A .room) .0 in
-      byte-gear car vs hs n i m (vehicle-in car (A .vehicle)) (fit-of car vs hs 0 (length vs) (A .span) i (omega arith) (moving-in vs i m)) ∙ held-shows car vs hs n i m h
+      byte-gear car vs hs n i m (vehicle-in car (A .vehicle)) (fit-of car vs hs 0 (length vs) (A .span) i (omega arith) (moving-in vs i m))
+      ∙ held-shows car vs hs n i m h
 
   -- and on an accepted trace no gear turns the engine past nmax
   pub engine-in-limits : under-nmax car (at vs i) (gear-at car vs hs i) ≡ true
-  engine-in-limits = no-over-rev car vs hs (rooms-in vs hs old (A .room) .0) i m (vehicle-in car (A .vehicle)) (fit-of car vs hs 0 (length vs) (A .span) i (omega arith) (moving-in vs i m))
+  engine-in-limits = no-over-rev car vs hs (rooms-in vs hs old (A .room) .0) i m (vehicle-in car (A .vehicle))
+      (fit-of car vs hs 0 (length vs) (A .span) i (omega arith) (moving-in vs i m))
 
 -- ---- Request Thirteen: in profile 0 the lowest gear is 1, so that every rule says what it said before; in profile 1 it is 2
 
@@ -85,16 +87,11 @@ van-as-car van ok crawls vs hs old =
 
 -- Places of the vehicle past ng and past the point count: nothing looks at them. With 0 there it is refused alike, and the card is the same
 pub unused-places : (car : Vehicle) → bad-field car ≡ none → (vs hs old : List ℕ)
-    → (bad-field (cleared car) ≡ none) × (work-fault (cleared car) vs hs old ≡ work-fault car vs hs old) × (work-fault car vs hs old ≡ none → card (cleared car) vs hs ≡ card car vs hs)
-unfolding vehicle-fault refuse-at
+    → (bad-field (cleared car) ≡ none) × (work-fault (cleared car) vs hs old ≡ work-fault car vs hs old)
+    × (work-fault car vs hs old ≡ none → card (cleared car) vs hs ≡ card car vs hs)
 unused-places car ok vs hs old =
-    let G = geared-cleared car (in-bounds car ok) in
-    let same-ok : bad-field (cleared car) ≡ none = cleared-bounds car (in-bounds car ok) ∙ ok in
-    let holds : map (up 0) hs ≡ hs = ups-none hs in (
-      same-ok,
-      rw holds at (work-up G (rw ok) (rw same-ok) vs hs old),
-      λ e. (rw holds at (card-up G vs hs old (accepted car vs hs old e))) ∙ ups-none (card car vs hs),
-    )
+    let S = same-cleared car (in-bounds car ok .f1-in) in
+    (bad-field-same S ∙ ok, work-same S vs hs old, card-same S vs hs old)
 
 -- ---- Refusals: two answers with one number and one place are one
 

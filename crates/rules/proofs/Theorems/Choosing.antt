@@ -1,10 +1,12 @@
 -- Trips, first choices and power, with requests Two, Four and Six.
-use Rattle.rules.proofs.Base.{ℕ, suc, _-_, _*_, _≤_, _<_, arith, _≡_, _↔_, _⊎_, inl, inr, true, false, none, List, eqb, length, drop, ℤ, pos, natAbs, _*ℤ_, Vehicle, Role, AfterLow}
+use Rattle.rules.proofs.Base.{ℕ, suc, _-_, _*_, _≤_, _<_, arith, _≡_, _↔_, _⊎_, inl, inr, true, false, none, List, eqb, length, drop, ℤ, pos, natAbs}
+use Rattle.rules.proofs.Base.{_*ℤ_, Vehicle, Role, AfterLow}
 use Rattle.rules.specs.Words.{if_then_else_, at}
 use Rattle.rules.specs.Units.{bad-field, fastest, steepest, moving, start, stop, rise}
 use Rattle.rules.specs.Gears.{engine, fits, required, on-segment, segment, power-speed, choose, is-first, minimum, power, enough, more}
 use Rattle.rules.specs.Corrections.{closing, first-at}
-use Rattle.rules.specs.Vocabulary.{IsTrip, FirstChoice, OnSegment, _times_, In64, nested, nested-sum, engine-sum, idle-sum, required-sum, w-sum, Q-sum, NoMargins, full-load, enough-before, available-sum, role-at}
+use Rattle.rules.specs.Vocabulary.{IsTrip, FirstChoice, OnSegment, _times_, In64, nested, nested-sum, engine-sum, idle-sum, required-sum, w-sum, Q-sum}
+use Rattle.rules.specs.Vocabulary.{NoMargins, full-load, enough-before, available-sum, role-at}
 use Rattle.rules.proofs.Laws.Words.{by-order}
 use Rattle.rules.proofs.Laws.Trips.{trip-of, trip-le, trip-start, trip-stop, start-before, stop-after, stop-in}
 use Rattle.rules.proofs.Laws.Vehicle.{in-bounds}
@@ -33,7 +35,8 @@ one-trip vs T U i p q r s = let x = trip-le vs T U i p q r s in let y = trip-le 
 
 -- its neighbours are standing, or the trace ends
 pub neighbours : (vs : List ℕ) (i : ℕ) → moving (at vs i) ≡ true
-    → ((start vs i ≡ 0) ⊎ (moving (at vs (start vs i - 1)) ≡ false)) × ((stop vs i ≡ length vs) ⊎ ((stop vs i < length vs) × (moving (at vs (stop vs i)) ≡ false)))
+    → ((start vs i ≡ 0) ⊎ (moving (at vs (start vs i - 1)) ≡ false))
+    × ((stop vs i ≡ length vs) ⊎ ((stop vs i < length vs) × (moving (at vs (stop vs i)) ≡ false)))
 neighbours vs i m =
     let c = stop-in vs i m in (
       by-order 0 (start vs i) (λ h. inr (start-before vs i (start vs i - 1) (omega arith))) (λ h. inl (omega arith)),
@@ -65,11 +68,13 @@ closing-run = closing-plainly
 -- ---- 3. Power
 
 -- the segment found holds x
-pub segment-found : (car : Vehicle) → bad-field car ≡ none → (here : Role) (v g : ℕ) → fits car here v g ≡ true → OnSegment car (power-speed car v g) (segment car (power-speed car v g))
+pub segment-found : (car : Vehicle) → bad-field car ≡ none → (here : Role) (v g : ℕ) → fits car here v g ≡ true
+    → OnSegment car (power-speed car v g) (segment car (power-speed car v g))
 segment-found car e = gear-segment car (in-bounds car e)
 
 -- at a shared point both neighbours give the same power: Q/w is Q'/w'
-pub same-power : (car : Vehicle) (k : ℕ) → let x = 1000 * at (car .n) (suc k) in on-segment car x k .Q *ℤ on-segment car x (suc k) .w ≡ on-segment car x (suc k) .Q *ℤ on-segment car x k .w
+pub same-power : (car : Vehicle) (k : ℕ) → let x = 1000 * at (car .n) (suc k) in
+    on-segment car x k .Q *ℤ on-segment car x (suc k) .w ≡ on-segment car x (suc k) .Q *ℤ on-segment car x k .w
 same-power = shared-point
 
 -- Request Six: where no point of the curve has a margin of its own, power is compared as in document 01, by full-load power and M alone. The rules look at
@@ -104,5 +109,6 @@ most-in-64-bits car e = more-in-64-bits car (in-bounds car e)
 pub as-the-bench-writes-it : (car : Vehicle) (v : ℕ) (d : ℤ) → required car v d ≡ nested car v d
 as-the-bench-writes-it = required-nested
 
-pub bench-in-64-bits : (car : Vehicle) → bad-field car ≡ none → (v : ℕ) → v ≤ fastest → (d : ℤ) → natAbs d ≤ steepest → In64 (nested-sum car v d) (nested car v d)
+pub bench-in-64-bits : (car : Vehicle) → bad-field car ≡ none → (v : ℕ) → v ≤ fastest → (d : ℤ) → natAbs d ≤ steepest
+    → In64 (nested-sum car v d) (nested car v d)
 bench-in-64-bits car e = nested-inside car (in-bounds car e)

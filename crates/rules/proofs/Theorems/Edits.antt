@@ -1,5 +1,6 @@
 -- One hold, the quick way, with requests Seven, Eight, Nine and Twelve: an edit of the screen, and edits one after the other.
-use Rattle.rules.proofs.Base.{ℕ, suc, _-_, _≤_, _<_, _%_, min, _≡_, refl, sym, ap, _∙_, _≢_, inl, inr, true, false, none, some, List, eqb, length, set, set-getD, eqb-true, Vehicle, Edit, Hold, Release, Mend}
+use Rattle.rules.proofs.Base.{ℕ, suc, _-_, _≤_, _<_, _%_, min, _≡_, refl, sym, ap, _∙_, _≢_, inl, inr, true, false, none, some, List, eqb, length, set}
+use Rattle.rules.proofs.Base.{set-getD, eqb-true, Vehicle, Edit, Hold, Release, Mend}
 use Rattle.rules.specs.Words.{if_then_else_, _or_, at, part}
 use Rattle.rules.specs.Units.{moving, start, stop}
 use Rattle.rules.specs.Corrections.{card}
@@ -47,10 +48,12 @@ module _ (car : Vehicle) (e : Edit) (x : Screen) where
   edit-frame-holds = holds-frame car e x
 
 -- the checks look at the seconds of the span and at no others, and so does the card that is left
-pub edit-looks : (car : Vehicle) (e : Edit) (vs hs us ls : List ℕ) → SameSpan vs hs us ls (span e vs .lo) (span e vs .end) → asked-fault car e us ls ≡ asked-fault car e vs hs
+pub edit-looks : (car : Vehicle) (e : Edit) (vs hs us ls : List ℕ) → SameSpan vs hs us ls (span e vs .lo) (span e vs .end)
+    → asked-fault car e us ls ≡ asked-fault car e vs hs
 edit-looks = looks-at-span
 
-pub edit-reworks : (car : Vehicle) (e : Edit) (x y : Screen) → SameSpan (x .speeds) (x .holds) (y .speeds) (y .holds) (span e (x .speeds) .lo) (span e (x .speeds) .end) → y .card ≡ x .card
+pub edit-reworks : (car : Vehicle) (e : Edit) (x y : Screen)
+    → SameSpan (x .speeds) (x .holds) (y .speeds) (y .holds) (span e (x .speeds) .lo) (span e (x .speeds) .end) → y .card ≡ x .card
     → asked-screen car e y .card ≡ asked-screen car e x .card
 edit-reworks = reworks-span
 
@@ -59,7 +62,8 @@ pub span-of-old : (e : Edit) (vs : List ℕ) → span e (asked-speeds e vs) ≡ 
 span-of-old = span-kept
 
 -- of a hold or a release at a moving second: its trip and the standing second before it are re-worked, the standing second after it is looked at too
-pub span-of-hold : (vs : List ℕ) (s : ℕ) → moving (at vs s) ≡ true → hold-span vs s ≡ record { lo = start vs s - 1; hi = stop vs s; end = min (suc (stop vs s)) (length vs) }
+pub span-of-hold : (vs : List ℕ) (s : ℕ) → moving (at vs s) ≡ true
+    → hold-span vs s ≡ record { lo = start vs s - 1; hi = stop vs s; end = min (suc (stop vs s)) (length vs) }
 unfolding hold-span around
 span-of-hold vs s m = rw (m, own-trip vs s m)
 
@@ -103,7 +107,8 @@ held-shown = shows
 pub zero-never-held : (car : Vehicle) (s : ℕ) (x : Screen) → edit-fault car (Hold s 0) x ≢ none
 zero-never-held car s x ok = from-one car s 0 x ok refl
 
-pub zero-held-by-7 : (car : Vehicle) (s : ℕ) (x : Screen) → Right car x → s < length (x .speeds) → edit-fault car (Hold s 0) x ≡ some (record { no = 7; spot = s })
+pub zero-held-by-7 : (car : Vehicle) (s : ℕ) (x : Screen) → Right car x → s < length (x .speeds)
+    → edit-fault car (Hold s 0) x ≡ some (record { no = 7; spot = s })
 zero-held-by-7 = none-by-7
 
 -- right or not, it is refused as a gear above ng would be
@@ -163,4 +168,5 @@ edit-counts-span = counts-by-part
 -- on a right card the seconds in it add up to the trace length
 pub seconds-add-up : (car : Vehicle) (x : Screen) → Right car x → seconds-in (summary (x .speeds) (x .card)) ≡ length (x .speeds)
 seconds-add-up car x R =
-    rw (R .its-card) (seconds-of (x .speeds) (card car (x .speeds) (x .holds)) (gears-shown car (x .speeds) (x .holds) (x .card) (accepted car (x .speeds) (x .holds) (x .card) (R .accepted))))
+    rw (R .its-card) (seconds-of (x .speeds) (card car (x .speeds) (x .holds))
+    (gears-shown car (x .speeds) (x .holds) (x .card) (accepted car (x .speeds) (x .holds) (x .card) (R .accepted))))

@@ -7,7 +7,10 @@ use Rattle.rules.specs.Groups.{got, form, group}
 use Rattle.rules.specs.Vocabulary.{OneForm, Bytes, most-groups, longest-job, job-fault, job-from, cleared}
 use Rattle.rules.specs.Groups.{got}
 use Rattle.rules.specs.Write.{job-bytes, write-fault, write-room}
-use Rattle.rules.proofs.Laws.Checks.{left-none}
+use Rattle.rules.proofs.Base.{sym, _∙_, eq-eqb}
+use Rattle.rules.specs.Words.{_and_}
+use Rattle.rules.specs.Refusals.{room-fault, work-fault}
+use Rattle.rules.proofs.Laws.Checks.{left-none, accepted, rooms-in, none-orelse, orelse-none, none-when, gears-last}
 use Rattle.rules.proofs.Laws.Groups.{one-form}
 use Rattle.rules.proofs.Laws.Writes.{writable, reads-written, writes-read, write-none, none-write, read-passes}
 use Rattle.rules.proofs.Laws.Long.{long-job, too-long, two-bytes-most}
@@ -48,7 +51,8 @@ longest-job-is = refl
 
 -- Request Ten: where the version, the vehicle and then the sample count are read, and the count is more than it has room for, it prints "refused 1 at 0",
 -- be the count over the longest trace or not
-pub too-long-printed : (bytes : List ℕ) {v : ℕ} {car : Vehicle} {i j k n : ℕ} → version .read bytes 0 ≡ got v i → vehicle v .read bytes i ≡ got car j → group bytes j ≡ got n k
+pub too-long-printed : (bytes : List ℕ) {v : ℕ} {car : Vehicle} {i j k n : ℕ} → version .read bytes 0 ≡ got v i → vehicle v .read bytes i ≡ got car j
+    → group bytes j ≡ got n k
     → program-room < n → printed bytes ≡ refusal-text (record { no = 1; spot = 0 })
 too-long-printed = too-long
 
@@ -60,3 +64,12 @@ two-bytes = two-bytes-most
 pub three-bytes : length (form longest) ≡ 3
 unfolding form longest
 three-bytes = refl
+
+-- what the working accepts passes checks 1 to 9, so that it is written as it was read
+pub worked-passes : (car : Vehicle) (vs hs old : List ℕ) → work-fault car vs hs old ≡ none → job-fault car vs hs ≡ none
+unfolding job-fault room-fault _and_
+worked-passes car vs hs old e =
+    let A = accepted car vs hs old e in
+    let n = rooms-in vs hs old (A .room) .0 in
+    none-orelse _ _ (A .trace) ∙ none-orelse _ _ (none-when 2 _ 0 (rw (eq-eqb (length hs) (length vs) n))) ∙ none-orelse _ _ (A .vehicle)
+    ∙ orelse-none _ _ (sym (gears-last car vs hs 0 (length vs)) ∙ A .span) .0

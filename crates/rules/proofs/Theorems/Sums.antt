@@ -1,7 +1,8 @@
 -- Document 01: "Every product stays inside a signed 64-bit number". Beside the sums of the power comparison and of the required power (`enough-in-64-bits`,
 -- `most-in-64-bits`, `bench-in-64-bits`) and X and 1000 x idle (`speeds-in-64-bits`), these are all that the rules of a second form: the limits of the
 -- engine speed, the minimum speeds before they are rounded, the points of the curve, D and the step from the second before.
-use Rattle.rules.proofs.Base.{ℕ, zero, suc, _+_, _-_, _*_, _/_, _≤_, _<_, arith, _≡_, refl, none, pos, _-ℤ_, Vehicle, Role, First, Closing, AfterLow, Inner}
+use Rattle.rules.proofs.Base.{ℕ, zero, suc, _+_, _-_, _*_, _/_, _≤_, _<_, arith, _≡_, refl, none, pos, _-ℤ_, Vehicle, Role, First, Closing, AfterLow}
+use Rattle.rules.proofs.Base.{Inner}
 use Rattle.rules.specs.Inside.{InBounds}
 use Rattle.rules.specs.Words.{at}
 use Rattle.rules.specs.Units.{bad-field, fastest, steepest}
@@ -54,7 +55,10 @@ module _ (car : Vehicle) (ok : bad-field car ≡ none) where
       let r : car .rated ≤ 15000 = let l = b .nmax-from in let m = b .nmax-to in omega arith in
       let e : (car .rated - car .idle + 4) / 8 ≤ 2000 = omega arith in
       let l : car .idle ≤ car .rated = let h = b .rated-from in omega arith in (
-        record { same = rw (pos-sub (car .rated) (car .idle) l); each = everywhere (var (pos (car .rated)) 15000 r ⊖ var (pos (car .idle)) 3000 i ⊕ lit (pos 4)) tt },
+        record {
+          same = rw (pos-sub (car .rated) (car .idle) l);
+          each = everywhere (var (pos (car .rated)) 15000 r ⊖ var (pos (car .idle)) 3000 i ⊕ lit (pos 4)) tt;
+        },
         record { same = refl; each = everywhere (var (pos (car .idle)) 3000 i ⊕ var (pos ((car .rated - car .idle + 4) / 8)) 2000 e) tt },
       )
 
@@ -67,7 +71,8 @@ module _ (car : Vehicle) (ok : bad-field car ≡ none) where
     record {
       same = refl;
       each = everywhere
-          (var (pos (at (car .p) k)) 5000 (b .p-to k h) ⊗ (lit (pos 100) ⊖ var (pos (car .margin)) 50 (b .margin-to) ⊖ var (pos (at (car .m) k)) 50 (b .m-to k h))) tt;
+          (var (pos (at (car .p) k)) 5000 (b .p-to k h) ⊗
+          (lit (pos 100) ⊖ var (pos (car .margin)) 50 (b .margin-to) ⊖ var (pos (at (car .m) k)) 50 (b .m-to k h))) tt;
     },
   )
 

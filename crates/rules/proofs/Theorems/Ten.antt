@@ -5,10 +5,11 @@ use Rattle.rules.proofs.Base.{ℕ, _≤_, _<_, arith, _≡_, refl, ap, 
 use Rattle.rules.specs.Words.{_and_, within}
 use Rattle.rules.specs.Units.{longest, newest, bounds, first-failed}
 use Rattle.rules.specs.Corrections.{card}
-use Rattle.rules.specs.Refusals.{Fault, refuse-at, _orelse_, when, trace-fault, room-fault, vehicle-fault, seconds-fault, span-fault, work-fault, left, work-card}
+use Rattle.rules.specs.Refusals.{Fault, refuse-at, _orelse_, when, trace-fault, room-fault, vehicle-fault, seconds-fault, span-fault, work-fault, left}
+use Rattle.rules.specs.Refusals.{work-card}
 use Rattle.rules.specs.Edit.{Screen, second, asked-fault, edit-fault, asked-screen, edited}
 use Rattle.rules.specs.Groups.{Read, got, refused, Reader, hand-on, demand, group}
-use Rattle.rules.specs.Forms.{Form, value, checked, bounded, _then_, seen, many, counted, whole}
+use Rattle.rules.specs.Forms.{Form, value, checked, bounded, _then_, seen, many, counted, to-the-end}
 use Rattle.rules.specs.Job.{version, vehicle, seconds, trace, holds, Job, Fields, packed, fields, stages, job, job-read, filled}
 use Rattle.rules.specs.Write.{job-bytes, checks-fault, write-fault, write-room}
 
@@ -47,7 +48,7 @@ module _ (most : ℕ) where
   job-form-of speeds-room holds-room = seen packed fields (stages-of speeds-room holds-room)
 
   abbrev pub job-read-of : List ℕ → ℕ → ℕ → Read Job
-  job-read-of bytes speeds-room holds-room = whole (job-form-of speeds-room holds-room) bytes
+  job-read-of bytes speeds-room holds-room = to-the-end (job-form-of speeds-room holds-room) bytes
 
   -- the writer
   abbrev pub job-bytes-of : ℕ → Vehicle → List ℕ → List ℕ → List ℕ
@@ -64,11 +65,13 @@ module _ (most : ℕ) where
   write-room-of v car vs hs room = left (write-fault-of v car vs hs room) room (filled room (job-bytes-of v car vs hs))
 
 -- with `longest` they are the definitions
-pub ten-now-worked : (car : Vehicle) (vs hs old : List ℕ) → (work-fault-of longest car vs hs old ≡ work-fault car vs hs old) × (work-card-of longest car vs hs old ≡ work-card car vs hs old)
+pub ten-now-worked : (car : Vehicle) (vs hs old : List ℕ) → (work-fault-of longest car vs hs old ≡ work-fault car vs hs old)
+    × (work-card-of longest car vs hs old ≡ work-card car vs hs old)
 unfolding work-fault work-card trace-fault
 ten-now-worked car vs hs old = (refl, refl)
 
-pub ten-now-edited : (car : Vehicle) (e : Edit) (x : Screen) → (edit-fault-of longest car e x ≡ edit-fault car e x) × (edited-of longest car e x ≡ edited car e x)
+pub ten-now-edited : (car : Vehicle) (e : Edit) (x : Screen)
+    → (edit-fault-of longest car e x ≡ edit-fault car e x) × (edited-of longest car e x ≡ edited car e x)
 unfolding edit-fault edited trace-fault
 ten-now-edited car e x = (refl, refl)
 
@@ -118,7 +121,8 @@ unfolding hand-on
 alike (got a j) f g h = h a j refl
 alike (refused x) f g h = refl
 
-same-count : (bytes : List ℕ) (a b j : ℕ) → ((n k : ℕ) → group bytes j ≡ got n k → n ≤ before) → seconds-of before a b .read bytes j ≡ seconds-of longest a b .read bytes j
+same-count : (bytes : List ℕ) (a b j : ℕ) → ((n k : ℕ) → group bytes j ≡ got n k → n ≤ before)
+    → seconds-of before a b .read bytes j ≡ seconds-of longest a b .read bytes j
 unfolding checked bounded value within longest hand-on
 same-count bytes a b j small =
     ap (λ (m : Read ℕ). hand-on m (λ n k. hand-on (demand (leb n a and leb n b) 2 0 k) (λ t l. got n l)))
@@ -127,7 +131,7 @@ same-count bytes a b j small =
 pub ten-read : (bytes : List ℕ) (a b : ℕ)
     → ((v i : ℕ) (car : Vehicle) (j n k : ℕ) → version .read bytes 0 ≡ got v i → vehicle v .read bytes i ≡ got car j → group bytes j ≡ got n k → n ≤ before)
     → job-read-of before bytes a b ≡ job-read bytes a b
-unfolding job-read whole job seen stages _then_ trace counted seconds hand-on
+unfolding job-read to-the-end job seen stages _then_ trace counted seconds hand-on
 ten-read bytes a b small =
     ap (λ (m : Read Fields). hand-on (hand-on m (λ x j. got (packed x) j)) (λ x j. hand-on (demand (eqb j (length bytes)) 16 j j) (λ t k. got x k)))
     (alike (version .read bytes 0) _ _ (λ v i e. ap (λ (m : Read (Vehicle × (List ℕ × List ℕ))). hand-on m (λ x j. got (v, x) j))
@@ -148,9 +152,10 @@ pub ten-not-written : (v : ℕ) (car : Vehicle) (vs hs room : List ℕ) → with
 unfolding _orelse_ when refuse-at
 ten-not-written v car vs hs room t h = rw (t, over-trace vs h)
 
-pub ten-not-read : (bytes : List ℕ) (a b : ℕ) {v i : ℕ} {car : Vehicle} {j n k : ℕ} → version .read bytes 0 ≡ got v i → vehicle v .read bytes i ≡ got car j → group bytes j ≡ got n k
+pub ten-not-read : (bytes : List ℕ) (a b : ℕ) {v i : ℕ} {car : Vehicle} {j n k : ℕ} → version .read bytes 0 ≡ got v i → vehicle v .read bytes i ≡ got car j
+    → group bytes j ≡ got n k
     → before < n → job-read-of before bytes a b ≡ refused (record { no = 1; spot = 0 })
-unfolding whole seen _then_ counted checked bounded value hand-on demand within _and_
+unfolding to-the-end seen _then_ counted checked bounded value hand-on demand within _and_
 ten-not-read bytes a b {n} e f g h = rw (e, f, g, le-leb 1 n (omega arith), lt-leb n 2048 h)
 
 -- now, up to 16,384, the count is taken, in rooms that are long enough

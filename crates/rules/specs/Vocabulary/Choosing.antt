@@ -1,5 +1,6 @@
 -- Words of the theorems on trips, first choices, power, want of a gear and the two profiles.
-use Rattle.rules.specs.Words.{ℕ, suc, _+_, _-_, _*_, _≤_, _<_, _≡_, _≢_, Bool, true, false, none, List, length, drop, eqb, ℤ, pos, _-ℤ_, _*ℤ_, leZ, at, if_then_else_, highest}
+use Rattle.rules.specs.Words.{ℕ, suc, _+_, _-_, _*_, _≤_, _<_, _≡_, _≢_, Bool, true, false, none, List, length, drop, eqb, ℤ, pos, _-ℤ_, _*ℤ_, leZ, at}
+use Rattle.rules.specs.Words.{if_then_else_, highest}
 use Rattle.rules.specs.declared.Vehicle.{Vehicle}
 use Rattle.rules.specs.declared.Role.{Role}
 use Rattle.rules.specs.Units.{ratio-of, low, moving, start}

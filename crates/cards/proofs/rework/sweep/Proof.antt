@@ -14,17 +14,26 @@ abbrev μ-loop : tie.MeasureT-loop
 
 stretch-requires : tie.Need-stretch-requires Inv-loop μ-loop
 unfolding swept-at
-stretch-requires c κs = let s = c .before .before .before .before .before .before .before in let P = s .pre .0 in (P, (swept-at (s .pre .1) (c .before .before .before .loop .inv (P .car) (P .lent)) (omega arith), s .pre .2))
+stretch-requires c κs =
+    let s : tie.Start Inv-loop μ-loop = search in
+    let P = s .pre .0 in (P, (swept-at (s .pre .1) (c .before .before .before .loop .inv (P .car) (P .lent)) (omega arith), s .pre .2))
 
 loop-less : tie.Need-loop-less Inv-loop μ-loop
-loop-less c = rw (c .before .before .stretch .ensures .0) (swept-less (c .before .before .before .before .before .before .before .before .before .before .args .speeds .now) (c .before .before .before .before .before .before .loop .i) (c .before .before .before .before .before .before .before .before .before .before .args .range .hi) (omega arith))
+loop-less c =
+    let to-loop : tie.At-loop Inv-loop μ-loop = search in
+    let start : tie.Start Inv-loop μ-loop = search in
+    rw (c .before .before .stretch .ensures .0) (swept-less (start .args .speeds .now) (to-loop .loop .i) (start .args .range .hi) (omega arith))
 
 loop-again : tie.Need-loop-again Inv-loop μ-loop
-loop-again c = λ car L. swept-more (c .before .before .before .before .before .before .before .before .before .before .pre .1) (c .before .before .before .before .before .before .loop .inv car L) (omega arith) (c .before .before .stretch .ensures .0) (c .before .before .stretch .ensures .1 car L)
+loop-again c =
+    let to-loop : tie.At-loop Inv-loop μ-loop = search in
+    let start : tie.Start Inv-loop μ-loop = search in
+    λ car L. swept-more (start .pre .1) (to-loop .loop .inv car L) (omega arith) (c .before .before .stretch .ensures .0)
+    (c .before .before .stretch .ensures .1 car L)
 
 pub sweep-spec : {M : Type 1} → statement M
 sweep-spec =
     let answers = tie.spec Inv-loop μ-loop (λ c. λ car L. swept-none (c .before .before .before .pre .1)) stretch-requires loop-less loop-again
-    (λ c. let P = c .before .before .before .before .before .before .pre .0 in c .before .before .loop .inv (P .car) (P .lent) .same-room)
-    (λ c. λ car L. swept-all (c .before .before .before .before .before .before .pre .1) (c .before .before .loop .inv car L) (omega arith)) in
+    (λ c. let start : tie.Start Inv-loop μ-loop = search in let P = start .pre .0 in c .before .before .loop .inv (P .car) (P .lent) .same-room)
+    (λ c. let start : tie.Start Inv-loop μ-loop = search in λ car L. swept-all (start .pre .1) (c .before .before .loop .inv car L) (omega arith)) in
     tie.close answers

@@ -18,8 +18,10 @@ loop-holds c =
 
 loop-again : tie.Need-loop-again Inv-loop μ-loop
 loop-again c =
-    let a = c .before .before .before .before .before .before .before .args in
-    let l = c .before .before .before .before .loop in
+    let to-loop : tie.At-loop Inv-loop μ-loop = search in
+    let start : tie.Start Inv-loop μ-loop = search in
+    let a = start .args in
+    let l = to-loop .loop in
     let P = HoldsPass (a .k) (a .ratio .now) (a .speeds .now) (a .holds .now) in (
       omega arith,
       omega arith,
@@ -32,6 +34,7 @@ loop-again c =
 
 pub each-passes-spec : {M : Type 1} → statement M
 each-passes-spec =
-    let answers = tie.spec Inv-loop μ-loop loop-holds (λ c. search needs) (λ c. search needs) (λ c. search needs) (λ c κs. search needs) (λ c. λ e. clash e refl) (λ c. search needs)
+    let answers = tie.spec Inv-loop μ-loop loop-holds (λ c. search needs) (λ c. search needs) (λ c. search needs) (λ c κs. search needs)
+    (λ c. λ e. clash e refl) (λ c. search needs)
     (λ c. search needs) loop-again (λ c. λ e i a b. c .before .before .loop .inv .2 i a (omega arith)) in
     tie.close answers

@@ -9,9 +9,12 @@ returns-2 c = λ e.
     record { here = λ car H hs g. sym passes ∙ c .before .before .before .fault-at .ensures car H hs g; next = λ h. absurd (omega arith) }
 
 returns-3 : tie.Need-returns-3
-returns-3 c = λ e.
-    let passes : c .before .before .before .before .fault-at .result ≡ 10 = omega arith in
-    record { here = λ car H hs g. sym passes ∙ c .before .before .before .before .fault-at .ensures car H hs g; next = λ h car hs. sym (c .step-over .ensures car hs) ∙ not-true _ e }
+returns-3 c =
+    let at-fault-at : tie.After-fault-at = search in
+    λ e.
+    let passes : at-fault-at .fault-at .result ≡ 10 = omega arith in
+    record { here = λ car H hs g. sym passes ∙ at-fault-at .fault-at .ensures car H hs g; next = λ h car hs. sym (c .step-over .ensures car hs) ∙ not-true _ e }
 
 pub own-passes-spec : {M : Type 1} → statement M
-own-passes-spec = let answers = tie.spec (λ c κs. search needs) (λ c. λ e. clash e refl) (λ c. search needs) returns-2 (λ c κs. search needs) returns-3 in tie.close answers
+own-passes-spec =
+    let answers = tie.spec (λ c κs. search needs) (λ c. λ e. clash e refl) (λ c. search needs) returns-2 (λ c κs. search needs) returns-3 in tie.close answers

@@ -14,5 +14,6 @@ returns-2 c vs hs old l h o =
 pub check-opening-spec : {M : Type 1} → statement M
 check-opening-spec =
     let answers = tie.spec (λ c κs. search needs) (λ c. search needs) (λ c. search needs)
-    (λ c vs hs old l h o. opening-lengths vs hs old _ (c .before .before .check-lengths .ensures vs hs old l h o) (c .enum-told2 .given .1)) (λ c κs. search needs) returns-2 in
+    (λ c vs hs old l h o. opening-lengths vs hs old _ (c .before .before .check-lengths .ensures vs hs old l h o) (c .enum-told2 .given .1))
+    (λ c κs. search needs) returns-2 in
     tie.close answers

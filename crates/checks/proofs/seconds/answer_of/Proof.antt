@@ -14,4 +14,6 @@ returns-7 c =
 
 pub answer-of-spec : {M : Type 1} → statement M
 unfolding said kept
-answer-of-spec = let answers = tie.spec (λ c. rw (c .match .keys1)) (λ c. rw (c .match .keys2)) (λ c. rw (c .match .keys3)) (λ c. rw (c .match .keys4)) (λ c. rw (c .match .keys5)) (λ c. rw (c .match .keys6)) returns-7 in tie.close answers
+answer-of-spec =
+    let answers = tie.spec (λ c. rw (c .match .keys1)) (λ c. rw (c .match .keys2)) (λ c. rw (c .match .keys3)) (λ c. rw (c .match .keys4))
+    (λ c. rw (c .match .keys5)) (λ c. rw (c .match .keys6)) returns-7 in tie.close answers

@@ -5,4 +5,6 @@ use Rattle.checks.proofs.seconds.check_seen.Tie as tie
 
 pub check-seen-spec : {M : Type 1} → statement M
 unfolding said
-check-seen-spec = let answers = tie.spec (λ c κs. search needs) (λ c. λ car H. c .before .calm .ensures (c .if1 .taken) car H) (λ c κs. search needs) (λ c. search needs) in tie.close answers
+check-seen-spec =
+    let answers = tie.spec (λ c κs. search needs) (λ c. λ car H. c .before .calm .ensures (c .if1 .taken) car H) (λ c κs. search needs) (λ c. search needs) in
+    tie.close answers

@@ -18,9 +18,10 @@ abbrev μ-loop : tie.MeasureT-loop
 
 loop-again : tie.Need-loop-again Inv-loop μ-loop
 loop-again c =
-    let s = c .before .before .before .before .before .before .before .before in
+    let to-loop : tie.At-loop Inv-loop μ-loop = search in
+    let s : tie.Start Inv-loop μ-loop = search in
     let a = s .args in
-    let l = c .before .before .before .before .before .loop in
+    let l = to-loop .loop in
     let vs = speeds-with (a .asked) (a .speeds .now) in
     let hs = holds-with (a .asked) (a .holds .now) in
     let is : (car : Vehicle) → Has car (a .k) (a .ratio .now) → c .before .fault-at .result ≡ fault-no car vs hs (a .span .lo) (l .i) checks =
@@ -35,6 +36,7 @@ loop-again c =
 pub judge-seconds-spec : {M : Type 1} → statement M
 unfolding seconds-fault
 judge-seconds-spec =
-    let answers = tie.spec Inv-loop μ-loop (λ c. begin _ _ (omega arith)) (λ c κs. search needs) (λ c κs. search needs) (λ c. search needs) (λ c. search needs) loop-again (λ c κs. search needs)
+    let answers = tie.spec Inv-loop μ-loop (λ c. begin _ _ (omega arith)) (λ c κs. search needs) (λ c κs. search needs) (λ c. search needs)
+    (λ c. search needs) loop-again (λ c κs. search needs)
     (λ c. λ car H. c .answer-of .ensures ∙ done _ _ (c .before .before .before .loop .inv) (omega arith) car H) in
     tie.close answers

@@ -8,7 +8,8 @@ use Rattle.checks.proofs.trips_asked.closing_asked.Statement.{statement
 use Rattle.checks.proofs.trips_asked.closing_asked.Tie as tie
 
 abbrev Inv-loop : tie.InvT-loop
-Inv-loop speeds asked trip j₀ j = (trip .lo + j ≤ trip .hi) × (trip .hi < length speeds) × Closing (part (speeds-with asked speeds) (trip .lo) (suc (trip .hi))) j
+Inv-loop speeds asked trip j₀ j =
+    (trip .lo + j ≤ trip .hi) × (trip .hi < length speeds) × Closing (part (speeds-with asked speeds) (trip .lo) (suc (trip .hi))) j
 
 abbrev μ-loop : tie.MeasureT-loop
 μ-loop speeds asked trip j₀ j = j
@@ -22,15 +23,18 @@ loop-holds c =
 
 returns : tie.Need-returns Inv-loop μ-loop
 returns c =
-    let s = c .before .before .before .before .before .before .before in
+    let to-loop : tie.At-loop Inv-loop μ-loop = search in
+    let s : tie.Start Inv-loop μ-loop = search in
     let a = s .args in
-    run-stops (part (speeds-with (a .asked) (a .speeds .now)) (a .trip .lo) (suc (a .trip .hi))) (c .before .before .before .before .loop .inv .2) (trip-moves (s .pre)) (omega arith)
+    run-stops (part (speeds-with (a .asked) (a .speeds .now)) (a .trip .lo) (suc (a .trip .hi))) (to-loop .loop .inv .2) (trip-moves (s .pre)) (omega arith)
     (omega (arith, c .before .before .speed-in .ensures, c .before .speed-in2 .ensures))
 
 loop-again : tie.Need-loop-again Inv-loop μ-loop
 loop-again c =
-    let a = c .before .before .before .before .before .before .before .args in
-    let l = c .before .before .before .before .loop in (
+    let to-loop : tie.At-loop Inv-loop μ-loop = search in
+    let start : tie.Start Inv-loop μ-loop = search in
+    let a = start .args in
+    let l = to-loop .loop in (
       omega (arith, l .inv .0),
       l .inv .1,
       run-more (part (speeds-with (a .asked) (a .speeds .now)) (a .trip .lo) (suc (a .trip .hi))) (l .inv .2) (omega arith)
@@ -39,11 +43,13 @@ loop-again c =
 
 returns-2 : tie.Need-returns-2 Inv-loop μ-loop
 returns-2 c =
-    let a = c .before .before .before .before .args in
+    let start : tie.Start Inv-loop μ-loop = search in
+    let a = start .args in
     run-whole (part (speeds-with (a .asked) (a .speeds .now)) (a .trip .lo) (suc (a .trip .hi))) (c .before .loop .inv .2) (omega arith)
 
 pub closing-asked-spec : {M : Type 1} → statement M
 closing-asked-spec =
     let answers = tie.spec Inv-loop μ-loop (λ c. let A = c .before .before .pre in omega (arith, A .order)) loop-holds (λ c. search needs)
-    (λ c κs. let l = c .before .loop in (omega (arith, l .inv .0), l .inv .1)) (λ c κs. let l = c .before .before .loop in (l .inv .0, l .inv .1)) returns (λ c. search needs) loop-again returns-2 in
+    (λ c κs. let l = c .before .loop in (omega (arith, l .inv .0), l .inv .1))
+    (λ c κs. let l = c .before .before .loop in (l .inv .0, l .inv .1)) returns (λ c. search needs) loop-again returns-2 in
     tie.close answers

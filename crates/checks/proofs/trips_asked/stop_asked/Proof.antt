@@ -14,17 +14,26 @@ abbrev μ-loop : tie.MeasureT-loop
 
 returns : tie.Need-returns Inv-loop μ-loop
 returns c =
-    let l = c .before .before .before .before .loop in
-    let a = c .before .before .before .before .before .before .args in
+    let to-loop : tie.At-loop Inv-loop μ-loop = search in
+    let start : tie.Start Inv-loop μ-loop = search in
+    let l = to-loop .loop in
+    let a = start .args in
     let vs = speeds-with (a .asked) (a .speeds .now) in
-    stop-here vs (l .k) (omega (arith, length-speeds (a .asked) (a .speeds .now))) (not-so (c .before .moving .ensures ∙ ap moving (c .before .before .speed-at .ensures)) (c .if1 .taken)) ∙ sym (l .inv .1)
+    stop-here vs (l .k) (omega (arith, length-speeds (a .asked) (a .speeds .now)))
+    (not-so (c .before .moving .ensures ∙ ap moving (c .before .before .speed-at .ensures)) (c .if1 .taken)) ∙ sym (l .inv .1)
 
 loop-again : tie.Need-loop-again Inv-loop μ-loop
 loop-again c =
-    let l = c .before .before .before .before .loop in
-    let a = c .before .before .before .before .before .before .args in
-    let vs = speeds-with (a .asked) (a .speeds .now) in
-    (omega arith, l .inv .1 ∙ stop-more vs (l .k) (omega (arith, length-speeds (a .asked) (a .speeds .now))) (so (c .before .moving .ensures ∙ ap moving (c .before .before .speed-at .ensures)) (c .if1 .left)))
+    let to-loop : tie.At-loop Inv-loop μ-loop = search in
+    let start : tie.Start Inv-loop μ-loop = search in
+    let l = to-loop .loop in
+    let a = start .args in
+    let vs = speeds-with (a .asked) (a .speeds .now) in (
+      omega arith,
+      l .inv .1
+          ∙ stop-more vs (l .k) (omega (arith, length-speeds (a .asked) (a .speeds .now)))
+          (so (c .before .moving .ensures ∙ ap moving (c .before .before .speed-at .ensures)) (c .if1 .left)),
+    )
 
 returns-2 : tie.Need-returns-2 Inv-loop μ-loop
 returns-2 c =
@@ -33,4 +42,6 @@ returns-2 c =
     stop-end vs (c .before .loop .k) (omega (arith, length-speeds (a .asked) (a .speeds .now))) ∙ sym (c .before .loop .inv .1)
 
 pub stop-asked-spec : {M : Type 1} → statement M
-stop-asked-spec = let answers = tie.spec Inv-loop μ-loop (λ c. (omega arith, refl)) (λ c κs. search needs) (λ c κs. search needs) returns (λ c. search needs) (λ c. search needs) loop-again returns-2 in tie.close answers
+stop-asked-spec =
+    let answers = tie.spec Inv-loop μ-loop (λ c. (omega arith, refl)) (λ c κs. search needs) (λ c κs. search needs) returns (λ c. search needs)
+    (λ c. search needs) loop-again returns-2 in tie.close answers

@@ -12,18 +12,23 @@ abbrev μ-loop : tie.MeasureT-loop
 
 returns : tie.Need-returns Inv-loop μ-loop
 returns c =
-    let l = c .before .before .before .before .loop in
-    let vs = c .before .before .before .before .before .before .args .speeds .now in
+    let to-loop : tie.At-loop Inv-loop μ-loop = search in
+    let start′ : tie.Start Inv-loop μ-loop = search in
+    let l = to-loop .loop in
+    let vs = start′ .args .speeds .now in
     start-here vs (l .k) (omega arith) (not-so (c .before .moving .ensures) (c .if1 .taken)) ∙ sym (l .inv .1)
 
 loop-again : tie.Need-loop-again Inv-loop μ-loop
 loop-again c =
-    let l = c .before .before .before .before .loop in
-    let vs = c .before .before .before .before .before .before .args .speeds .now in
+    let to-loop : tie.At-loop Inv-loop μ-loop = search in
+    let start′ : tie.Start Inv-loop μ-loop = search in
+    let l = to-loop .loop in
+    let vs = start′ .args .speeds .now in
     (omega arith, l .inv .1 ∙ start-more vs (l .k) (omega arith) (so (c .before .moving .ensures) (c .if1 .left)))
 
 pub trip-start-spec : {M : Type 1} → statement M
 trip-start-spec =
-    let answers = tie.spec Inv-loop μ-loop (λ c. (omega arith, refl)) (λ c. search needs) (λ c. search needs) (λ c. search needs) (λ c κs. search needs) returns (λ c. search needs) (λ c. search needs)
+    let answers = tie.spec Inv-loop μ-loop (λ c. (omega arith, refl)) (λ c. search needs) (λ c. search needs) (λ c. search needs)
+    (λ c κs. search needs) returns (λ c. search needs) (λ c. search needs)
     loop-again (λ c. start-zero (c .before .before .before .args .speeds .now) (c .before .loop .k) (omega arith) ∙ sym (c .before .loop .inv .1)) in
     tie.close answers

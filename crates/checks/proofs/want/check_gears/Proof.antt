@@ -9,8 +9,9 @@ use Rattle.checks.proofs.want.check_gears.Tie as tie
 
 returns : tie.Need-returns
 unfolding said
-returns c = λ car L.
-    let s = c .before .before .before .before in
+returns c =
+    let s : tie.Start = search in
+    λ car L.
     let a = s .args in
     let vs = speeds-with (a .asked) (a .speeds .now) in
     let hs = holds-with (a .asked) (a .holds .now) in
@@ -22,13 +23,16 @@ returns c = λ car L.
 
 judge-gears-requires : tie.Need-judge-gears-requires
 judge-gears-requires c κs =
-    let s = c .before .before .before .before in
+    let s : tie.Start = search in
     let a = s .args in
     let P = s .pre .0 in
     let vs = speeds-with (a .asked) (a .speeds .now) in
     let hs = holds-with (a .asked) (a .holds .now) in
-    let n : length vs ≡ length (a .speeds .now) = length-speeds (a .asked) (a .speeds .now) in
-    (P, level (P .car) vs hs (a .span .lo) (a .span .hi) (sym (s .pre .4 (P .car) (P .lent .has))) (s .pre .3) (omega (arith, s .pre .1 .inside, n)) (s .pre .1 .rooms ∙ sym n))
+    let n : length vs ≡ length (a .speeds .now) = length-speeds (a .asked) (a .speeds .now) in (
+      P,
+      level (P .car) vs hs (a .span .lo) (a .span .hi) (sym (s .pre .4 (P .car) (P .lent .has))) (s .pre .3) (omega (arith, s .pre .1 .inside, n))
+          (s .pre .1 .rooms ∙ sym n),
+    )
 
 pub check-gears-spec : {M : Type 1} → statement M
 check-gears-spec = let answers = tie.spec (λ c κs. search needs) returns judge-gears-requires (λ c. search needs) in tie.close answers

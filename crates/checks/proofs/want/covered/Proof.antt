@@ -19,21 +19,27 @@ abbrev μ-loop : tie.MeasureT-loop
 
 loop-holds : tie.Need-loop-holds Inv-loop μ-loop
 loop-holds c =
-    let a = c .before .before .before .before .args in
+    let start : tie.Start Inv-loop μ-loop = search in
+    let a = start .args in
     let o = c .before .before .lowest .ensures in
     let m = c .minimum2 .ensures in
     (omega (arith, o), m .1, m .0, rw o (each-none (Follows (a .k) (a .ratio .now)) (low-in (a .k))))
 
 loop-again : tie.Need-loop-again Inv-loop μ-loop
 loop-again c =
-    let a = c .before .before .before .before .before .before .before .before .before .before .args in
-    let l = c .before .before .before .before .before .loop in
-    let o = c .before .before .before .before .before .before .before .before .lowest .ensures in
-    let m = c .before .before .before .before .before .before .before .minimum .ensures in (
+    let to-loop : tie.At-loop Inv-loop μ-loop = search in
+    let at-minimum : tie.After-minimum Inv-loop μ-loop = search in
+    let at-lowest : tie.After-lowest Inv-loop μ-loop = search in
+    let start : tie.Start Inv-loop μ-loop = search in
+    let a = start .args in
+    let l = to-loop .loop in
+    let o = at-lowest .lowest .ensures in
+    let m = at-minimum .minimum .ensures in (
       omega (arith, l .inv .0),
       m .1,
       λ car C. rw o at (m .0 car C) ∙ rw (low-of C) at (same-minimum car AfterLow (l .j + 1 + 1) (omega (arith, l .inv .0, low-of C))),
-      each-more (Follows (a .k) (a .ratio .now)) (low-in (a .k)) (l .j) (l .inv .3) (λ car C. rw (← l .inv .2 car C) (c .before .hands-on .ensures (not-false _ (c .if1 .left)))),
+      each-more (Follows (a .k) (a .ratio .now)) (low-in (a .k)) (l .j) (l .inv .3)
+          (λ car C. rw (← l .inv .2 car C) (c .before .hands-on .ensures (not-false _ (c .if1 .left)))),
     )
 
 pub covered-spec : {M : Type 1} → statement M

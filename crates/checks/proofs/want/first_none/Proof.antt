@@ -18,8 +18,9 @@ returns c =
 
 loop-again : tie.Need-loop-again Inv-loop μ-loop
 loop-again c =
+    let start : tie.Start Inv-loop μ-loop = search in
     let l = c .before .before .before .loop in
-    let a = c .before .before .before .before .args in
+    let a = start .args in
     (omega arith, each-more (λ i. eqb (at (a .gs .now) i) 0 ≡ false) 0 (l .j) (l .inv .1) (ne-eqb _ _ (c .if1 .left)))
 
 returns-2 : tie.Need-returns-2 Inv-loop μ-loop

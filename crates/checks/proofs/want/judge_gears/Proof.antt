@@ -1,5 +1,6 @@
 -- `checks::want::judge_gears` meets its contract: what is left of the search, from second a on, is what was asked, and the second before a stands.
-use Rattle.rules.proofs.Offered.{_+_, _-_, _≤_, _<_, arith, _≡_, refl, sym, _∙_, false, needs, at, first, moving, stop, said, no-gear, bad, stop-le, stop-after, Left, stops, again}
+use Rattle.rules.proofs.Offered.{_+_, _-_, _≤_, _<_, arith, _≡_, refl, sym, _∙_, false, needs, at, first, moving, stop, said, no-gear, bad, stop-le, stop-after}
+use Rattle.rules.proofs.Offered.{Left, stops, again}
 use Rattle.rules.specs.declared.Vehicle.{Vehicle}
 use Rattle.rules.proofs.Laws.Walk.{start, ends}
 use Rattle.gears.specs.Parts.{Lent}
@@ -19,12 +20,15 @@ Inv-loop k ratio n p speeds holds asked span a₀ a =
 abbrev μ-loop : tie.MeasureT-loop
 μ-loop k ratio n p speeds holds asked span a₀ a = span .hi - a
 
+abbrev begun : tie.After-stop-asked Inv-loop μ-loop → tie.Start Inv-loop μ-loop
+begun c = c .before .before .before .before .before .before .before
+
 -- where the trip that begins at second a ends, inside the span
-inside : (c : tie.After-stop-asked Inv-loop μ-loop) → c .stop-asked .result < c .before .before .before .before .before .before .before .args .span .hi
+inside : (c : tie.After-stop-asked Inv-loop μ-loop) → c .stop-asked .result < begun c .args .span .hi
 inside c =
-    let s = c .before .before .before .before .before .before .before in
+    let s : tie.Start Inv-loop μ-loop = search in
     let l = c .before .before .before .loop in
-    rw (c .stop-asked .ensures) (stop-by (s .pre .1) (l .inv .0) (omega arith) (l .inv .2))
+    omega (arith, c .stop-asked .ensures, stop-by (s .pre .1) (l .inv .0) (omega arith) (l .inv .2))
 
 add-a : tie.Need-add-a Inv-loop μ-loop
 add-a c =
@@ -41,22 +45,28 @@ loop-holds c =
 
 stop-asked-requires : tie.Need-stop-asked-requires Inv-loop μ-loop
 stop-asked-requires c κs =
-    let s = c .before .before .before .before .before .before in
+    let s : tie.Start Inv-loop μ-loop = search in
     let a = s .args in
     omega (arith, s .pre .1 .inside, length-speeds (a .asked) (a .speeds .now))
 
 wanting-requires : tie.Need-wanting-requires Inv-loop μ-loop
 wanting-requires c κs =
-    let s = c .before .before .before .before .before .before .before in
+    let s : tie.Start Inv-loop μ-loop = search in
     let l = c .before .before .before .loop in
-    let a = s .args in
-    (s .pre .0, rw (c .stop-asked .ensures) (ahead (s .pre .1) (l .inv .0) (omega arith) (l .inv .2)), s .pre .1 .rooms ∙ length-speeds (a .asked) (a .speeds .now))
+    let a = s .args in (
+      s .pre .0,
+      rw (c .stop-asked .ensures) (ahead (s .pre .1) (l .inv .0) (omega arith) (l .inv .2)),
+      s .pre .1 .rooms ∙ length-speeds (a .asked) (a .speeds .now),
+    )
 
 returns : tie.Need-returns Inv-loop μ-loop
 unfolding said
-returns c = λ car L.
-    let a = c .before .before .before .before .before .before .before .before .before .args in
-    let l = c .before .before .before .before .before .loop in
+returns c =
+    let to-loop : tie.At-loop Inv-loop μ-loop = search in
+    let start′ : tie.Start Inv-loop μ-loop = search in
+    λ car L.
+    let a = start′ .args in
+    let l = to-loop .loop in
     let F = c .before .wanting .ensures car L (a .span .lo) in
     let h = inside (c .before .before) in
     wanted car (speeds-with (a .asked) (a .speeds .now)) (holds-with (a .asked) (a .holds .now)) (a .span .lo) (a .span .hi) (c .before .wanting .result)
@@ -64,26 +74,31 @@ returns c = λ car L.
 
 add-a-2 : tie.Need-add-a-2 Inv-loop μ-loop
 add-a-2 c =
-    let s = c .before .before .before .before .before .before .before .before .before in
+    let s : tie.Start Inv-loop μ-loop = search in
     let a = s .args in
     let h = inside (c .before .before) in
     omega (arith, s .pre .1 .inside, length-speeds (a .asked) (a .speeds .now))
 
 loop-less : tie.Need-loop-less Inv-loop μ-loop
 loop-less c =
-    let a = c .before .before .before .before .before .before .before .before .before .args in
-    let l = c .before .before .before .before .before .loop in
+    let to-loop : tie.At-loop Inv-loop μ-loop = search in
+    let start′ : tie.Start Inv-loop μ-loop = search in
+    let a = start′ .args in
+    let l = to-loop .loop in
     let h = inside (c .before .before) in
     omega (arith, c .before .before .stop-asked .ensures, stop-le (speeds-with (a .asked) (a .speeds .now)) (l .a))
 
 loop-again : tie.Need-loop-again Inv-loop μ-loop
 loop-again c =
-    let a = c .before .before .before .before .before .before .before .before .before .args in
-    let l = c .before .before .before .before .before .loop in
+    let to-loop : tie.At-loop Inv-loop μ-loop = search in
+    let start′ : tie.Start Inv-loop μ-loop = search in
+    let a = start′ .args in
+    let l = to-loop .loop in
     let b = c .before .before .stop-asked .result in
     let h = inside (c .before .before) in
     let from : l .a ≤ b = rw (c .before .before .stop-asked .ensures) (stop-le (speeds-with (a .asked) (a .speeds .now)) (l .a)) in
-    let rest : moving (at (speeds-with (a .asked) (a .speeds .now)) b) ≡ false = rw (c .before .before .stop-asked .ensures) (stop-after (speeds-with (a .asked) (a .speeds .now)) (l .a)) in
+    let rest : moving (at (speeds-with (a .asked) (a .speeds .now)) b) ≡ false =
+    rw (c .before .before .stop-asked .ensures) (stop-after (speeds-with (a .asked) (a .speeds .now)) (l .a)) in
     let x : b + 1 - 1 ≡ b = omega arith in (
       omega (arith, l .inv .0),
       omega arith,
@@ -95,9 +110,14 @@ loop-again c =
 
 returns-2 : tie.Need-returns-2 Inv-loop μ-loop
 unfolding said
-returns-2 c = λ car L.
-    let a = c .before .before .before .before .before .before .args in
-    not-wanted car (speeds-with (a .asked) (a .speeds .now)) (holds-with (a .asked) (a .holds .now)) (a .span .lo) (a .span .hi) (ends (c .before .before .loop .inv .3 car L) (omega arith))
+returns-2 c =
+    let start′ : tie.Start Inv-loop μ-loop = search in
+    λ car L.
+    let a = start′ .args in
+    not-wanted car (speeds-with (a .asked) (a .speeds .now)) (holds-with (a .asked) (a .holds .now)) (a .span .lo) (a .span .hi)
+    (ends (c .before .before .loop .inv .3 car L) (omega arith))
 
 pub judge-gears-spec : {M : Type 1} → statement M
-judge-gears-spec = let answers = tie.spec Inv-loop μ-loop add-a loop-holds stop-asked-requires wanting-requires returns add-a-2 loop-less loop-again returns-2 in tie.close answers
+judge-gears-spec =
+    let answers = tie.spec Inv-loop μ-loop add-a loop-holds stop-asked-requires wanting-requires returns add-a-2 loop-less loop-again returns-2 in
+    tie.close answers

@@ -7,6 +7,6 @@ use Rattle.checks.proofs.want.part_through.Tie as tie
 pub part-through-spec : {M : Type 1} → statement M
 part-through-spec =
     let answers = tie.spec (λ c. search needs) (λ c. search needs) (λ c. sym (length-take-le _ _ (omega arith)))
-    (λ c κs. let s = c .before .before .before .before in (s .pre .0, s .pre .1, room-lent (s .pre .2) _ refl))
-    (λ c. λ car L last. room-through (c .before .before .before .before .before .before .pre .2) _ refl (c .before .go-through .ensures car L last)) in
+    (λ c κs. let s : tie.Start = search in (s .pre .0, s .pre .1, room-lent (s .pre .2) _ refl))
+    (λ c. let start : tie.Start = search in λ car L last. room-through (start .pre .2) _ refl (c .before .go-through .ensures car L last)) in
     tie.close answers

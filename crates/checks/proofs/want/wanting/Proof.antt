@@ -17,18 +17,27 @@ abbrev μ-loop : tie.MeasureT-loop
 
 part-through-requires : tie.Need-part-through-requires Inv-loop μ-loop
 part-through-requires c κs =
-    let s = c .before .before .before .before .before .before in
+    let s : tie.Start Inv-loop μ-loop = search in
     let l = c .before .before .loop in
     let a = s .args in (
       s .pre .0,
-      record { trip = s .pre .1; rooms = s .pre .2 ∙ sym (length-speeds (a .asked) (a .speeds .now)); since = l .inv .0; until = omega arith; closes = c .before .before .before .closing-asked .ensures },
+      record {
+        trip = s .pre .1;
+        rooms = s .pre .2 ∙ sym (length-speeds (a .asked) (a .speeds .now));
+        since = l .inv .0;
+        until = omega arith;
+        closes = c .before .before .before .closing-asked .ensures;
+      },
       c .part-end .ensures,
     )
 
 returns : tie.Need-returns Inv-loop μ-loop
-returns c = λ car L lo.
-    let A = c .before .before .before .before .before .before .before .before .before .pre .1 in
-    let l = c .before .before .before .before .before .loop in
+returns c =
+    let to-loop : tie.At-loop Inv-loop μ-loop = search in
+    let start : tie.Start Inv-loop μ-loop = search in
+    λ car L lo.
+    let A = start .pre .1 in
+    let l = to-loop .loop in
     let to = c .before .before .before .part-end .ensures in
     let D = l .inv .2 car L in
     let T = c .before .before .part-through .ensures car L (D .last) in
@@ -36,13 +45,20 @@ returns c = λ car L lo.
 
 loop-again : tie.Need-loop-again Inv-loop μ-loop
 loop-again c =
-    let l = c .before .before .before .before .before .loop in
-    let to = c .before .before .before .part-end .ensures in
-    (omega (arith, l .inv .0, to .some), to .to, λ car L. let D = l .inv .2 car L in dry-more D (c .before .before .part-through .ensures car L (D .last)) (omega arith))
+    let to-loop : tie.At-loop Inv-loop μ-loop = search in
+    let l = to-loop .loop in
+    let to = c .before .before .before .part-end .ensures in (
+      omega (arith, l .inv .0, to .some),
+      to .to,
+      λ car L. let D = l .inv .2 car L in
+          dry-more D (c .before .before .part-through .ensures car L (D .last)) (omega arith),
+    )
 
 returns-2 : tie.Need-returns-2 Inv-loop μ-loop
-returns-2 c = λ car L lo.
-    let A = c .before .before .before .before .before .pre .1 in
+returns-2 c =
+    let start : tie.Start Inv-loop μ-loop = search in
+    λ car L lo.
+    let A = start .pre .1 in
     dry-ends (c .before .loop .inv .2 car L) (A .order) (omega (arith, c .before .loop .inv .1)) lo
 
 pub wanting-spec : {M : Type 1} → statement M

@@ -8,12 +8,16 @@ use Rattle.cycles.proofs.parts.stretch_of.Tie as tie
 returns-2 : tie.Need-returns-2
 returns-2 c =
     let p = c .before .before in
-    rw (c .last-second .ensures, c .before .first-second .ensures) (sym (stretch-part _ _ (passed (p .before .before .check .ensures) (p .enum-told .given .1))))
+    rw (c .last-second .ensures, c .before .first-second .ensures)
+    (sym (stretch-part _ _ (passed (p .before .before .check-part .ensures) (p .enum-told .given .1))))
 
 pub stretch-of-spec : {M : Type 1} → statement M
 unfolding said
 stretch-of-spec =
-    let answers = tie.spec (λ c κs. search needs) (λ c. search needs) (λ c. search needs) (λ c. sym (no-stretch _ _ (sym (c .before .before .check .ensures) ∙ ap said (c .enum-told2 .given .1))))
-    (λ c κs. search needs) (λ c κs. search needs) (λ c. omega (arith, ordered (c .before .before .before .before .before .args .part) .1, c .last-second .ensures))
-    (λ c. omega (arith, ordered (c .before .before .before .before .before .args .part) .0, c .last-second .ensures, c .before .first-second .ensures)) returns-2 in
+    let answers = tie.spec (λ c κs. search needs) (λ c. search needs) (λ c. search needs)
+    (λ c. sym (no-stretch _ _ (sym (c .before .before .check-part .ensures) ∙ ap said (c .enum-told2 .given .1))))
+    (λ c κs. search needs) (λ c κs. search needs)
+    (λ c. let start : tie.Start = search in omega (arith, ordered (start .args .part) .1, c .last-second .ensures))
+    (λ c. let start : tie.Start = search in omega (arith, ordered (start .args .part) .0, c .last-second .ensures, c .before .first-second .ensures)) returns-2
+    in
     tie.close answers

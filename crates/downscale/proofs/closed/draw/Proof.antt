@@ -18,14 +18,15 @@ loop-again c =
     let start = p .before .before in (
       omega arith,
       omega arith,
-      more h (p .loop .inv .0) (omega arith) _ (c .drawn .ensures ∙ ap (drawn-speed (start .args .whole) (start .args .parts) (start .args .rest)) (h .behind _ (le-refl _))),
+      more h (p .loop .inv .0) (omega arith) _
+          (c .drawn .ensures ∙ ap (drawn-speed (start .args .whole) (start .args .parts) (start .args .rest)) (h .behind _ (le-refl _))),
     )
 
 pub draw-spec : {M : Type 1} → statement M
 draw-spec =
     let answers = tie.spec Inv-loop μ-loop (λ c. (le-refl _, c .before .pre .1, begin _ _ _)) (λ c. search needs)
     (λ c. omega (arith, c .before .before .loop .inv .2 .size))
-    (λ c κs. c .before .before .before .before .pre .0) (λ c. search needs)
+    (λ c κs. let start′ : tie.Start Inv-loop μ-loop = search in start′ .pre .0) (λ c. search needs)
     (λ c. omega (arith, c .before .before .before .loop .inv .2 .size))
     (λ c. search needs) (λ c. search needs) loop-again (λ c. c .before .loop .inv .2 .size)
     (λ c. upto (c .before .loop .inv .2) (omega arith)) in

@@ -13,6 +13,7 @@ sum-most c = drawn-most (c .args .whole) (c .args .parts) (c .args .rest) (c .pr
 pub drawn-spec : {M : Type 1} → statement M
 unfolding drawn-speed drawn
 drawn-spec =
-    let answers = tie.spec (λ c. search needs) (λ c. let h = sum-most c in search needs) (λ c. let h = sum-most c in search needs) (λ c. let h = sum-most c in search needs)
+    let answers = tie.spec (λ c. search needs) (λ c. let h = sum-most c in search needs) (λ c. let h = sum-most c in search needs)
+    (λ c. let h = sum-most c in search needs)
     (λ c κs. (c .pre .from, c .pre .to, sum-most c)) (λ c. c .nearest .ensures) in
     tie.close answers

@@ -7,4 +7,5 @@ product : (c : tie.Start) → c .args .factor * c .args .speed ≤ 487000 * 6553
 product c = let h : c .args .speed ≤ 65535 = omega arith in mul-le-mul (c .pre .0) h
 
 pub step-on-spec : {M : Type 1} → statement M
-step-on-spec = let answers = tie.spec (λ c. let h = product c in search needs) (λ c. let h = product c in search needs) (λ c. search needs) (λ c. search needs) (λ c. search needs) in tie.close answers
+step-on-spec = let answers = tie.spec (λ c. let h = product c in search needs) (λ c. let h = product c in search needs) (λ c. search needs) (λ c. search needs)
+    (λ c. search needs) in tie.close answers

@@ -6,15 +6,19 @@ use Rattle.edits.proofs.buttons.release.Statement.{statement}
 use Rattle.edits.proofs.buttons.release.Tie as tie
 
 -- the way back from the judgement
+abbrev powers : tie.After-judge → tie.After-powers
+powers c = c .before .before .before
+
 abbrev numbers : tie.After-judge → tie.After-numbers-of
-numbers c = c .before .before .before .before .before .before .before .before .before
+numbers c = powers c .before .before .before .before .before .before
 
 abbrev start : tie.After-judge → tie.Start
 start c = numbers c .before .before .before .before
 
 -- judged, of the vehicle itself
 judged-at : (c : tie.After-judge)
-    → let a = start c .args in Judges (a .t1) (Release (a .second)) (a .speeds .now) (a .holds .now) (a .card .now) (c .judge .result) (c .judge .last .1 .1 .1 .1 .1 .1 .0)
+    → let a = start c .args in
+    Judges (a .t1) (Release (a .second)) (a .speeds .now) (a .holds .now) (a .card .now) (c .judge .result) (c .judge .last .1 .1 .1 .1 .1 .1 .0)
 judged-at c = rw (numbers c .numbers-of .ensures) at (c .judge .ensures)
 
 returns : tie.Need-returns
@@ -39,6 +43,7 @@ returns-2 c =
 pub release-spec : {M : Type 1} → statement M
 unfolding second asked-speeds
 release-spec =
-    let answers = tie.spec (λ c κs. search needs) (λ c κs. length-replicate {A = ℕ} 64 0) (λ c. search needs) (λ c. search needs) (λ c. search needs) (λ c. search needs) returns
+    let answers = tie.spec (λ c κs. search needs) (λ c κs. length-replicate {A = ℕ} 64 0) (λ c. search needs) (λ c. search needs) (λ c. search needs)
+    (λ c. search needs) returns
     (λ c. in-holds-at (judged-at (search)) (c .enum-told .given .1)) carry-out-requires (λ c. search needs) (λ c. search needs) returns-2 in
     tie.close answers

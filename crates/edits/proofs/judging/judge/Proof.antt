@@ -17,13 +17,18 @@ its-car s = whole (s .args .k) (s .args .ratio .now) (s .args .n .now) (s .args 
 
 -- a statement of the arguments, at a stage past the opening
 abbrev Of : (Vehicle → List ℕ → List ℕ → List ℕ → Edit → Type 0) → tie.After-enum-told → Type 0
-Of P c = let s = c .before .before .before .before .before .before in P (its-car s) (s .args .speeds .now) (s .args .holds .now) (s .args .card .now) (s .args .edit)
-
-abbrev looked-at→enum-told : tie.After-looked-at → tie.After-enum-told
-looked-at→enum-told c = c .before .before .before .before .before .before .before .before
+Of P c =
+    let s = c .before .before .before .before .before .before in
+    P (its-car s) (s .args .speeds .now) (s .args .holds .now) (s .args .card .now) (s .args .edit)
 
 abbrev derate→enum-told : tie.After-derate → tie.After-enum-told
 derate→enum-told c = c .before .before .before .before .before
+
+abbrev widened→derate : tie.After-widened → tie.After-derate
+widened→derate c = c .before .before .before
+
+abbrev widened→enum-told : tie.After-widened → tie.After-enum-told
+widened→enum-told c = derate→enum-told (widened→derate c)
 
 -- the opening has passed
 opened-at : (c : tie.After-enum-told) → Of (λ car vs hs old e. Opened car vs hs old) c
@@ -34,37 +39,39 @@ inside-at : (c : tie.Else1) → Of (λ car vs hs old e. second e < length vs) (c
 inside-at c = let e = c .before .second-of .ensures in omega arith
 
 -- what is looked at is found
-from-at : (c : tie.After-looked-at) → Of (λ car vs hs old e. c .looked-at .result .lo ≡ span e vs .lo) (looked-at→enum-told c)
+from-at : (c : tie.After-widened) → Of (λ car vs hs old e. c .widened .result .lo ≡ span e vs .lo) (widened→enum-told c)
 from-at c =
     let at-span-of : tie.After-span-of = search in
-    c .looked-at .ensures .0 ∙ at-span-of .span-of .ensures .0
+    c .widened .ensures .0 ∙ at-span-of .span-of .ensures .0
 
-to-at : (c : tie.After-looked-at) → Of (λ car vs hs old e. c .looked-at .result .hi ≡ min (span e vs .hi + 1) (length vs)) (looked-at→enum-told c)
+to-at : (c : tie.After-widened) → Of (λ car vs hs old e. c .widened .result .hi ≡ min (span e vs .hi + 1) (length vs)) (widened→enum-told c)
 to-at c =
     let at-span-of : tie.After-span-of = search in
-    let start : tie.Start = search in
-    let s = start .args in c .looked-at .ensures .1 ∙ ap (λ (b : ℕ). min (b + 1) (length (s .speeds .now))) (at-span-of .span-of .ensures .1)
+    let s₀ : tie.Start = search in
+    let s = s₀ .args in c .widened .ensures .1 ∙ ap (λ (b : ℕ). min (b + 1) (length (s .speeds .now))) (at-span-of .span-of .ensures .1)
 
 -- the checks of the span said what the edit's own checks say, of every vehicle of these parts
 own-says : (c : tie.After-check-span)
     → let at-derate : tie.After-derate = c .before .before .before .before in
-    let at-enum-told : tie.After-enum-told = c .before .before .before .before .before .before .before .before .before in
-    Of (λ car vs hs old e. (one : Vehicle) → Lent one (numbers-of car) (car .ratio) (car .n) (at-derate .derate .last .1 .1 .1 .1 .0) → said (c .check-span .result) ≡ asked-fault one e vs hs) at-enum-told
+    let at-enum-told : tie.After-enum-told = at-derate .before .before .before .before .before in
+    Of (λ car vs hs old e. (one : Vehicle) → Lent one (numbers-of car) (car .ratio) (car .n) (at-derate .derate .last .1 .1 .1 .1 .0)
+    → said (c .check-span .result) ≡ asked-fault one e vs hs) at-enum-told
 own-says c =
     let inside : tie.Else1 = search in
     let at-second-of : tie.After-second-of = search in
-    let start : tie.Start = search in
+    let s₀ : tie.Start = search in
     λ one L.
-    let s = start .args in
+    let s = s₀ .args in
     let O = opened-at (search) in
     c .check-span .ensures one L
-    ∙ rw (c .before .before .asked-of .ensures) (own-at one (s .edit) (s .speeds .now) (s .holds .now) (inside-at inside) (O .holds-long) (L .bounds .ng-to) (from-at (c .before)) (to-at (c .before)))
+    ∙ rw (c .before .before .asked-of .ensures)
+    (own-at one (s .edit) (s .speeds .now) (s .holds .now) (inside-at inside) (O .holds-long) (L .bounds .ng-to) (from-at (c .before)) (to-at (c .before)))
 
 -- the vehicle's own parts
 lent-at : (c : tie.After-derate) → Of (λ car vs hs old e. Lent car (numbers-of car) (car .ratio) (car .n) (c .derate .last .1 .1 .1 .1 .0)) (derate→enum-told c)
 lent-at c =
-    let start : tie.Start = search in
-    powers-lent _ (opened-at (search) .bounds) (record { numbers = refl }) _ (start .pre) (c .derate .ensures)
+    let s₀ : tie.Start = search in
+    powers-lent _ (opened-at (search) .bounds) (record { numbers = refl }) _ (s₀ .pre) (c .derate .ensures)
 
 returns : tie.Need-returns
 returns c =
@@ -87,8 +94,8 @@ asked-of-requires c κs =
 check-span-requires : tie.Need-check-span-requires
 check-span-requires c κs =
     let at-enum-told : tie.After-enum-told = search in
-    let start : tie.Start = search in
-    let s = start .args in
+    let s₀ : tie.Start = search in
+    let s = s₀ .args in
     let O = opened-at (search) in
     let l = inside-at (search) in
     let a = c .before .asked-of .ensures in
@@ -113,18 +120,18 @@ count-requires : tie.Need-count-requires
 count-requires c κs =
     let at-span-of : tie.After-span-of = search in
     let at-enum-told : tie.After-enum-told = search in
-    let start : tie.Start = search in
+    let s₀ : tie.Start = search in
     let r = at-span-of .span-of .ensures in
-    countable-at (opened-at at-enum-told) (start .args .edit) (inside-at (search)) (r .0) (r .1)
+    countable-at (opened-at at-enum-told) (s₀ .args .edit) (inside-at (search)) (r .0) (r .1)
 
 returns-4 : tie.Need-returns-4
 returns-4 c =
     let at-span-of : tie.After-span-of = search in
     let at-enum-told : tie.After-enum-told = search in
-    let start : tie.Start = search in
+    let s₀ : tie.Start = search in
     let x = c .before .before .before in
     let d = c .before .enum-told3 .given .1 in
-    let s = start .args in
+    let s = s₀ .args in
     let r = at-span-of .span-of .ensures in
     let l = inside-at (search) in (
       λ n. sym (ap said d) ∙ own-says x _ (lent-at (search)) ∙ at-span _ _ _ _ _ n (opened-at at-enum-told) l,

@@ -7,8 +7,11 @@ returns : tie.Need-returns
 unfolding around
 returns c =
     let start : tie.Start = search in
-    let a = start .args in
-    (c .before .before2 .ensures ∙ ap (λ (x : ℕ). x - 1) (c .before .before .trip-start .ensures), c .trip-stop .ensures ∙ ap (stop (a .speeds .now)) (add-one (a .second)))
+    let a = start .args in (
+      c .before .before2 .ensures ∙ ap (λ (x : ℕ). x - 1) (c .before .before .trip-start .ensures),
+      c .trip-stop .ensures
+          ∙ ap (stop (a .speeds .now)) (add-one (a .second)),
+    )
 
 pub around-spec : {M : Type 1} → statement M
 around-spec =

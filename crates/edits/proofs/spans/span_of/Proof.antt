@@ -7,7 +7,8 @@ pub span-of-spec : {M : Type 1} → statement M
 unfolding second span
 span-of-spec =
     let answers = tie.spec (λ c. search needs) (λ c κs. let start : tie.Start = search in rw (c .before .edit .given .1) at (start .pre)) (λ c. search needs)
-    (λ c κs. let start : tie.Start = search in rw (c .before .edit2 .given .1) at (start .pre)) (λ c. search needs) (λ c κs. let start : tie.Start = search in rw (c .before .edit3 .given .1) at (start .pre))
+    (λ c κs. let start : tie.Start = search in rw (c .before .edit2 .given .1) at (start .pre)) (λ c. search needs)
+    (λ c κs. let start : tie.Start = search in rw (c .before .edit3 .given .1) at (start .pre))
     (λ c. rw (c .before .before .edit .given .1) (c .held-span .ensures)) (λ c. rw (c .before .before .edit2 .given .1) (c .held-span2 .ensures))
     (λ c. rw (c .before .before .edit3 .given .1) (c .around .ensures)) in
     tie.close answers

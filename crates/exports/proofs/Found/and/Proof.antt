@@ -4,4 +4,5 @@ use Rattle.exports.proofs.Found.and.Statement.{statement}
 use Rattle.exports.proofs.Found.and.Tie as tie
 
 pub and-spec : {M : Type 1} → statement M
-and-spec = let answers = tie.spec (λ c. search needs) (λ c. search needs) (λ c. search needs) (λ c. rw (c .before .met .given .1)) (λ c. rw (c .before .before .met2 .given .1)) (λ c. search needs) in tie.close answers
+and-spec = let answers = tie.spec (λ c. search needs) (λ c. search needs) (λ c. search needs) (λ c. rw (c .before .met .given .1))
+    (λ c. rw (c .before .before .met2 .given .1)) (λ c. search needs) in tie.close answers

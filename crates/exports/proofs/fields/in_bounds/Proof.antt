@@ -9,17 +9,17 @@ returns : tie.Need-returns
 returns c =
     let s = c .before .before in
     let e = c .before .exponent .ensures in
-    sym (beyond (s .args .field) (s .args .x) (s .pre .1) (s .pre .0) (omega arith))
+    sym (beyond _ _ (s .pre .1) (s .pre .0) (omega arith))
 
 returns-2 : tie.Need-returns-2
 unfolding in-bounds units
 returns-2 c =
-    let s = c .before .before .before .before .before .before in
+    let s : tie.Start = search in
     let v = c .before .before .before .scaled .ensures in
     rw (← v .0) (rw (toZ-ofZ (s .pre .1 .lo-held), toZ-ofZ (s .pre .1 .hi-held), toZ-ofZ (v .1)) at (c .within .ensures))
 
 pub in-bounds-spec : {M : Type 1} → statement M
 in-bounds-spec =
-    let answers = tie.spec (λ c. no-nan (c .args .x) (c .pre .0 .number)) (λ c κs. search needs) returns (λ c κs. search needs)
+    let answers = tie.spec (λ c. no-nan _ (c .pre .0 .number)) (λ c κs. search needs) returns (λ c κs. search needs)
     (λ c κs. search needs) returns-2 in
     tie.close answers

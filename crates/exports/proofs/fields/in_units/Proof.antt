@@ -10,8 +10,13 @@ unfolding F0 F2
 returns c =
     let s = c .before .before .before in
     let f = c .before .thousandths .ensures in
-    record { f0-is = c .before .before .whole .ensures; f1-is = rw f (toZ-ofZ (f1-short (s .args .c .f1) (s .pre .f1-in))); f2-is = c .whole2 .ensures }
+    record {
+      f0-is = c .before .before .whole-number .ensures;
+      f1-is = rw f (toZ-ofZ (f1-short _ (s .pre .f1-in)));
+      f2-is = c .whole-number2 .ensures;
+    }
 
 pub in-units-spec : {M : Type 1} → statement M
 unfolding F0 F2
-in-units-spec = let answers = tie.spec (λ c κs. (c .pre .f0-in, f0-plain)) (λ c κs. search needs) (λ c κs. (c .before .before .pre .f2-in, f2-plain)) returns in tie.close answers
+in-units-spec = let answers = tie.spec (λ c κs. (c .pre .f0-in, f0-plain)) (λ c κs. search needs) (λ c κs. (c .before .before .pre .f2-in, f2-plain)) returns in
+    tie.close answers

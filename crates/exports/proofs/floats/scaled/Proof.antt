@@ -9,19 +9,20 @@ returns : tie.Need-returns
 returns c =
     let s = c .before .before in
     let r = c .before .size-of in
-    plain (s .args .scale) (s .args .x) (s .pre) (r .result) (r .ensures .0) (r .ensures .1) (omega arith)
+    plain _ _ (s .pre) (r .result) (r .ensures .0) (r .ensures .1) (omega arith)
 
 sub-result : tie.Need-sub-result
 sub-result c =
     let s = c .before .before in
     let r = c .before .size-of in
-    minus-short (s .args .scale) (s .args .x) (s .pre) (r .result) (r .ensures .0) (r .ensures .1)
+    minus-short _ _ (s .pre) (r .result) (r .ensures .0) (r .ensures .1)
 
 returns-2 : tie.Need-returns-2
 returns-2 c =
     let s = c .before .before in
     let r = c .before .size-of in
-    turned (s .args .scale) (s .args .x) (s .pre) (r .result) (r .ensures .0) (r .ensures .1) (omega arith)
+    turned _ _ (s .pre) (r .result) (r .ensures .0) (r .ensures .1) (omega arith)
 
 pub scaled-spec : {M : Type 1} → statement M
-scaled-spec = let answers = tie.spec (λ c. no-nan (c .args .x) (c .pre .number)) (λ c κs. search needs) (λ c. record { sfits = omega arith }) returns sub-result returns-2 in tie.close answers
+scaled-spec = let answers = tie.spec (λ c. no-nan _ (c .pre .number)) (λ c κs. search needs)
+    (λ c. record { sfits = omega arith }) returns sub-result returns-2 in tie.close answers

@@ -7,6 +7,7 @@ use Rattle.exports.proofs.floats.significand.Tie as tie
 pub significand-spec : {M : Type 1} → statement M
 unfolding significand mantissa
 significand-spec =
-    let answers = tie.spec (λ c. search needs) (λ c κs. search needs) (λ c. (rw (eq-eqb _ 0 (sym (c .before .exponent .ensures .0) ∙ c .if1 .taken)), omega arith)) (λ c. search needs)
+    let answers = tie.spec (λ c. search needs) (λ c κs. search needs)
+    (λ c. (rw (eq-eqb _ 0 (sym (c .before .exponent .ensures .0) ∙ c .if1 .taken)), omega arith)) (λ c. search needs)
     (λ c. (rw (ne-eqb _ 0 (λ e. c .if1 .left (c .before .exponent .ensures .0 ∙ e))), omega arith)) in
     tie.close answers

@@ -28,11 +28,14 @@ returns-2 c =
     let s = c .before .before .before in
     let a = s .args .scale * c .before .before .significand .result in
     let m = product-low (s .args .scale) (c .before .before .significand .result) (omega arith) (omega arith) in
-    let n = sum-low a (c .before .shift .result) m (omega arith) in
-    (rounded a (c .before .shift .result) (omega arith) ∙ rw (c .before .before .significand .ensures .0, c .before .shift .ensures .0), rounded-low _ (c .before .shift .result) n)
+    let n = sum-low a (c .before .shift .result) m (omega arith) in (
+      rounded a (c .before .shift .result) (omega arith) ∙ rw (c .before .before .significand .ensures .0, c .before .shift .ensures .0),
+      rounded-low _ (c .before .shift .result) n,
+    )
 
 pub size-of-spec : {M : Type 1} → statement M
 size-of-spec =
-    let answers = tie.spec (λ c κs. search needs) (λ c. let m = product-low (c .before .args .scale) (c .significand .result) (omega arith) (omega arith) in omega arith) (λ c κs. search needs) returns mul-result (λ c. search needs)
+    let answers = tie.spec (λ c κs. search needs) (λ c. let m = product-low (c .before .args .scale) (c .significand .result) (omega arith) (omega arith) in
+    omega arith) (λ c κs. search needs) returns mul-result (λ c. search needs)
     (λ c. search needs) add-result (λ c. search needs) (λ c. search needs) (λ c. search needs) returns-2 in
     tie.close answers

@@ -8,19 +8,18 @@ use Rattle.exports.proofs.records.float_at.Tie as tie
 
 returns : tie.Need-returns
 returns c =
-    let s = c .before .before in
-    (float-short (s .args .bytes .now) (s .args .spot) (s .args .at) (omega arith), tt)
+    (float-short _ _ _ (omega arith), tt)
 
 returns-2 : tie.Need-returns-2
 returns-2 c =
-    let s = c .before .before .before in
-    (float-short (s .args .bytes .now) (s .args .spot) (s .args .at) (omega arith), tt)
+    (float-short _ _ _ (omega arith), tt)
 
 returns-3 : tie.Need-returns-3
 returns-3 c =
-    let b = c .before .before .bits-at in
-    let s = c .before .before .before .before .before .before in
-    (float-bad (s .args .bytes .now) (s .args .spot) (s .args .at) (omega arith) (rw (← b .ensures) (sym (c .before .exponent .ensures .0) ∙ c .if3 .taken)), tt)
+    let b = c .before .before .bits-at in (
+      float-bad _ _ _ (omega arith) (rw (← b .ensures) (sym (c .before .exponent .ensures .0) ∙ c .if3 .taken)),
+      tt,
+    )
 
 float-from-bits-t12 : tie.Need-float-from-bits-t12
 unfolding exponent
@@ -35,9 +34,8 @@ unfolding float-of
 returns-4 c =
     let b = c .before .before .bits-at in
     let e = c .before .exponent .ensures in
-    let s = c .before .before .before .before .before .before in
     let l : exponent (b .result) < 255 = omega arith in
-    rw (b .ensures) (float-good (s .args .bytes .now) (s .args .spot) (s .args .at) (omega arith) (rw (b .ensures) at l), comes _ (rw (b .ensures) at l))
+    rw (b .ensures) (float-good _ _ _ (omega arith) (rw (b .ensures) at l), comes _ (rw (b .ensures) at l))
 
 pub float-at-spec : {M : Type 1} → statement M
 float-at-spec =

@@ -7,29 +7,33 @@ use Rattle.exports.proofs.records.judged_at.Tie as tie
 returns : tie.Need-returns
 returns c =
     let r = c .before .before .float-at in
-    let s = c .before .before .before .before in
     let g = c .enum-told .given .1 in
-    (rw g (judged-stops (s .args .bytes .now) (s .args .spot) (s .args .at) (s .args .field) (rw g at (r .ensures .0))), rw g tt)
+    (rw g (judged-stops _ _ _ _ (rw g at (r .ensures .0))), rw g tt)
 
 in-bounds-requires : tie.Need-in-bounds-requires
 in-bounds-requires c κs =
-    let s = c .before .before .before .before .before in
+    let s : tie.Start = search in
     (rw (c .before .number .given .1) at (c .before .before .before .float-at .ensures .1), s .pre)
 
 returns-2 : tie.Need-returns-2
 returns-2 c =
-    let r = c .before .before .before .before .before .float-at in
-    let s = c .before .before .before .before .before .before .before in
-    let g = c .before .before .before .number .given .1 in
-    (judged-out (s .args .bytes .now) (s .args .spot) (s .args .at) (s .args .field) (rw g at (r .ensures .0)) (sym (c .before .in-bounds .ensures) ∙ not-true _ (c .if1 .taken)), tt)
+    let at-float-at : tie.After-float-at = search in
+    let r = at-float-at .float-at in
+    let g = c .before .before .before .number .given .1 in (
+      judged-out _ _ _ _ (rw g at (r .ensures .0))
+          (sym (c .before .in-bounds .ensures) ∙ not-true _ (c .if1 .taken)),
+      tt,
+    )
 
 returns-3 : tie.Need-returns-3
 returns-3 c =
-    let r = c .before .before .before .before .before .float-at in
-    let s = c .before .before .before .before .before .before .before in
+    let at-float-at : tie.After-float-at = search in
+    let r = at-float-at .float-at in
     let g = c .before .before .before .number .given .1 in
-    let t = sym (c .before .in-bounds .ensures) ∙ not-false _ (c .if1 .left) in
-    (judged-good (s .args .bytes .now) (s .args .spot) (s .args .at) (s .args .field) (rw g at (r .ensures .0)) t, record { is = rw g at (r .ensures .1); bounded = t })
+    let t = sym (c .before .in-bounds .ensures) ∙ not-false _ (c .if1 .left) in (
+      judged-good _ _ _ _ (rw g at (r .ensures .0)) t,
+      record { is = rw g at (r .ensures .1); bounded = t },
+    )
 
 pub judged-at-spec : {M : Type 1} → statement M
 judged-at-spec =

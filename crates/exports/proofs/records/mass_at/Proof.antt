@@ -8,18 +8,19 @@ use Rattle.exports.proofs.records.mass_at.Tie as tie
 returns : tie.Need-returns
 unfolding TM
 returns c =
-    let s = c .before .before .before .before .before in
     let r = c .before .before .before .judged-at in
-    let g = c .before .enum-told .given .1 in
-    (rw (c .next .ensures, g) (mass-stops (s .args .bytes .now) (s .args .spot) (s .args .at) (rw g at (r .ensures .0))), rw (c .next .ensures, g) (λ found t. tt))
+    let g = c .before .enum-told .given .1 in (
+      rw (c .next .ensures, g) (mass-stops _ _ _ (rw g at (r .ensures .0))),
+      rw (c .next .ensures, g) (λ found t. tt),
+    )
 
 returns-2 : tie.Need-returns-2
 unfolding TM
 returns-2 c =
-    let s = c .before .before .before .before .before in
     let r = c .before .before .before .judged-at in
     let g = c .before .m .given .1 in
-    (mass-comes (s .args .bytes .now) (s .args .spot) (s .args .at) (rw g at (r .ensures .0)), λ found t. (t, rw g at (r .ensures .1)))
+    (mass-comes _ _ _ (rw g at (r .ensures .0)), λ found t. (t, rw g at (r .ensures .1)))
 
 pub mass-at-spec : {M : Type 1} → statement M
-mass-at-spec = let answers = tie.spec (λ c κs. search needs) (λ c. search needs) (λ c. search needs) (λ c κs. search needs) returns returns-2 in tie.close answers
+mass-at-spec = let answers = tie.spec (λ c κs. search needs) (λ c. search needs) (λ c. search needs) (λ c κs. search needs) returns returns-2 in
+    tie.close answers

@@ -6,38 +6,42 @@ use Rattle.exports.proofs.records.record_at.Tie as tie
 
 returns : tie.Need-returns
 returns c =
-    let s = c .before .before in
-    (no-kind (s .args .bytes .now) (s .args .found) (s .args .spot) (omega arith), tt)
+    (no-kind _ _ _ (omega arith), tt)
 
 returns-2 : tie.Need-returns-2
 returns-2 c =
-    let s = c .before .before .before .before .before in
-    (kind-0 (s .args .bytes .now) (s .args .found) (s .args .spot) (omega arith) (c .before .if2 .taken) (c .end-at .ensures .0 (s .args .bytes .now)), c .end-at .ensures .1)
+    let s : tie.Start = search in (
+      kind-0 _ _ _ (omega arith) (c .before .if2 .taken) (c .end-at .ensures .0 _),
+      c .end-at .ensures .1,
+    )
 
 returns-3 : tie.Need-returns-3
 returns-3 c =
-    let s = c .before .before .before .before .before .before in
-    (kind-1-twice (s .args .bytes .now) (s .args .found) (s .args .spot) (omega arith) (c .before .if3 .taken) (c .if4 .taken), tt)
+    (kind-1-twice _ _ _ (omega arith) (c .before .if3 .taken) (c .if4 .taken), tt)
 
 returns-4 : tie.Need-returns-4
 returns-4 c =
-    let s = c .before .before .before .before .before .before .before in
-    (kind-1 (s .args .bytes .now) (s .args .found) (s .args .spot) (omega arith) (c .before .before .if3 .taken) (c .before .if4 .left) (c .coefficients-at .ensures .0), c .coefficients-at .ensures .1 (s .args .found) (c .before .if4 .left))
+    let s : tie.Start = search in (
+      kind-1 _ _ _ (omega arith) (c .before .before .if3 .taken) (c .before .if4 .left)
+          (c .coefficients-at .ensures .0),
+      c .coefficients-at .ensures .1 _ (c .before .if4 .left),
+    )
 
 returns-5 : tie.Need-returns-5
 returns-5 c =
-    let s = c .before .before .before .before .before .before .before in
-    (kind-2-twice (s .args .bytes .now) (s .args .found) (s .args .spot) (omega arith) (c .before .if5 .taken) (c .if6 .taken), tt)
+    (kind-2-twice _ _ _ (omega arith) (c .before .if5 .taken) (c .if6 .taken), tt)
 
 returns-6 : tie.Need-returns-6
 returns-6 c =
-    let s = c .before .before .before .before .before .before .before .before in
-    (kind-2 (s .args .bytes .now) (s .args .found) (s .args .spot) (omega arith) (c .before .before .if5 .taken) (c .before .if6 .left) (c .mass-at .ensures .0), c .mass-at .ensures .1 (s .args .found) (c .before .if6 .left))
+    let s : tie.Start = search in (
+      kind-2 _ _ _ (omega arith) (c .before .before .if5 .taken) (c .before .if6 .left)
+          (c .mass-at .ensures .0),
+      c .mass-at .ensures .1 _ (c .before .if6 .left),
+    )
 
 returns-7 : tie.Need-returns-7
 returns-7 c =
-    let s = c .before .before .before .before .before .before in
-    (kind-unknown (s .args .bytes .now) (s .args .found) (s .args .spot) (omega arith) (c .before .before .if2 .left) (c .before .if3 .left) (c .if5 .left), tt)
+    (kind-unknown _ _ _ (omega arith) (c .before .before .if2 .left) (c .before .if3 .left) (c .if5 .left), tt)
 
 pub record-at-spec : {M : Type 1} → statement M
 record-at-spec =

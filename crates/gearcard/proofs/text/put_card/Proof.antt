@@ -8,5 +8,5 @@ pub put-card-spec : {M : Type 1} → statement M
 unfolding card-text heading
 put-card-spec =
     let answers = tie.spec (λ c. search needs) (λ c κs. search needs) (λ c κs. search needs) (λ c. search needs)
-    (λ c. put-both (c .before .before .before .before .before .before .put .ensures) (c .before .before .put-lines .ensures)) in
+    (λ c. let at-put : tie.After-put = search in put-both (at-put .put .ensures) (c .before .before .put-lines .ensures)) in
     tie.close answers

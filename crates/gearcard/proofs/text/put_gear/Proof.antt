@@ -6,11 +6,14 @@ use Rattle.gearcard.proofs.text.put_gear.Statement.{statement}
 use Rattle.gearcard.proofs.text.put_gear.Tie as tie
 
 returns : tie.Need-returns
-returns c = put-both (c .before .before .before .before .before .before .before .before .before .before .put .ensures) (put-both (c .before .before .before .before .before .before .put-decimal .ensures) (c .before .before .put-pedal .ensures))
+returns c =
+    let at-put-decimal : tie.After-put-decimal = search in
+    let at-put : tie.After-put = search in
+    put-both (at-put .put .ensures) (put-both (at-put-decimal .put-decimal .ensures) (c .before .before .put-pedal .ensures))
 
 pub put-gear-spec : {M : Type 1} → statement M
 put-gear-spec =
     let answers = tie.spec (λ c. search needs) (λ c κs. search needs) (λ c. search needs)
-    (λ c κs. let s = c .before .before .before .before .before .before .before in omega (arith, gear-length (s .args .byte)))
-    (λ c κs. let s = c .before .before .before .before .before .before .before .before .before .before .before in omega (arith, gear-length (s .args .byte))) (λ c. search needs) returns in
+    (λ c κs. let s : tie.Start = search in omega (arith, gear-length (s .args .byte)))
+    (λ c κs. let s : tie.Start = search in omega (arith, gear-length (s .args .byte))) (λ c. search needs) returns in
     tie.close answers

@@ -12,16 +12,21 @@ abbrev μ-loop : tie.MeasureT-loop
 
 put-line-requires : tie.Need-put-line-requires Inv-loop μ-loop
 put-line-requires c κs =
-    let l = c .before .before .before .before .loop in
-    let a = c .before .before .before .before .before .before .before .before .args in
+    let to-loop : tie.At-loop Inv-loop μ-loop = search in
+    let start : tie.Start Inv-loop μ-loop = search in
+    let l = to-loop .loop in
+    let a = start .args in
     let v : getD (a .speeds .now) (l .i) 0 < 65536 = omega (arith, c .before .before .shared-slice-known3 .given (l .i)) in
     omega (arith, line-short (l .i) (getD (a .speeds .now) (l .i) 0) (getD (a .card .now) (l .i) 0) (omega arith) v)
 
 loop-again : tie.Need-loop-again Inv-loop μ-loop
 loop-again c =
-    let l = c .before .before .before .before .before .before .before .loop in
-    let a = c .before .before .before .before .before .before .before .before .before .before .before .args in
-    let v : getD (a .speeds .now) (l .i) 0 < 65536 = omega (arith, c .before .before .before .before .before .shared-slice-known3 .given (l .i)) in
+    let at-shared-slice-known3 : tie.After-shared-slice-known3 Inv-loop μ-loop = search in
+    let to-loop : tie.At-loop Inv-loop μ-loop = search in
+    let start : tie.Start Inv-loop μ-loop = search in
+    let l = to-loop .loop in
+    let a = start .args in
+    let v : getD (a .speeds .now) (l .i) 0 < 65536 = omega (arith, at-shared-slice-known3 .shared-slice-known3 .given (l .i)) in
     lines-again _ _ _ _ (l .inv) (omega arith) (omega arith) v (c .before .before .put-line .ensures)
 
 pub put-lines-spec : {M : Type 1} → statement M

@@ -6,8 +6,9 @@ use Rattle.gearcard.proofs.text.put_pedal.Tie as tie
 
 pub put-pedal-spec : {M : Type 1} → statement M
 put-pedal-spec =
-    let answers = tie.spec (λ c. search needs) (λ c κs. let s = c .before .before .before .before in omega (arith, rw (pedal-down (s .args .byte) (omega arith)) at (s .pre))) (λ c. search needs)
-    (λ c. let s = c .before .before .before .before .before .before .before in rw (pedal-down (s .args .byte) (omega arith)) (c .before .before .put .ensures)) (λ c. search needs)
-    (λ c κs. let s = c .before .before .before .before in omega (arith, rw (pedal-up (s .args .byte) (omega arith)) at (s .pre))) (λ c. search needs)
-    (λ c. let s = c .before .before .before .before .before .before .before in rw (pedal-up (s .args .byte) (omega arith)) (c .before .before .put2 .ensures)) in
+    let answers = tie.spec (λ c. search needs) (λ c κs. let s : tie.Start = search in omega (arith, rw (pedal-down (s .args .byte) (omega arith)) at (s .pre)))
+    (λ c. search needs)
+    (λ c. let s : tie.Start = search in rw (pedal-down (s .args .byte) (omega arith)) (c .before .before .put .ensures)) (λ c. search needs)
+    (λ c κs. let s : tie.Start = search in omega (arith, rw (pedal-up (s .args .byte) (omega arith)) at (s .pre))) (λ c. search needs)
+    (λ c. let s : tie.Start = search in rw (pedal-up (s .args .byte) (omega arith)) (c .before .before .put2 .ensures)) in
     tie.close answers

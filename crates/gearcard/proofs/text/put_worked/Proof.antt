@@ -6,18 +6,18 @@ use Rattle.gearcard.proofs.text.put_worked.Tie as tie
 
 returns : tie.Need-returns
 returns c =
-    let p = c .before .before .before .before .before in
-    let w = p .before .before .before .before in
-    let s = w .before .before .before .before .before .before in
+    let p : tie.After-enum-told = search in
+    let w : tie.After-work = search in
+    let s : tie.Start = search in
     rw (done-text (s .args .vehicle) (s .args .speeds .now) (s .args .holds .now) (s .args .card .now) (s .pre .1 .0)
     (w .work .ensures .0) (p .enum-told .given .1) (w .work .ensures .1))
     (c .before .before .put-card .ensures)
 
 returns-2 : tie.Need-returns-2
 returns-2 c =
-    let p = c .before .before .before .before .before in
-    let w = p .before .before .before .before in
-    let s = w .before .before .before .before .before .before in
+    let p : tie.After-answer = search in
+    let w : tie.After-work = search in
+    let s : tie.Start = search in
     rw (stop-text (s .args .vehicle) (s .args .speeds .now) (s .args .holds .now) (s .args .card .now) (s .pre .1 .0)
     (w .work .ensures .0) (p .answer .given .1))
     (c .before .before .put-refusal .ensures)

@@ -18,6 +18,7 @@ spell-spec =
     (λ c. omega (arith, spell-place (c .before .before .loop .inv) (omega arith)))
     (λ c. search needs)
     (λ c. spell-more (c .before .before .loop .inv) (c .digit .ensures) (omega arith))
-    (λ c κs. search needs) (λ c. search needs) (λ c. simp length-set (c .before .before .loop .inv .size ∙ sym (c .before .before .before .before .pre)))
+    (λ c κs. search needs) (λ c. search needs)
+    (λ c. let s : tie.Start Inv-loop μ-loop = search in simp length-set (c .before .before .loop .inv .size ∙ sym (s .pre)))
     (λ c. spell-last (c .before .before .loop .inv) (c .digit2 .ensures) (omega arith)) in
     tie.close answers

@@ -6,5 +6,6 @@ use Rattle.gears.proofs.bounds.ends_good.Tie as tie
 pub ends-good-spec : {M : Type 1} → statement M
 unfolding _and_
 ends-good-spec =
-    let answers = tie.spec (λ c. search needs) (λ c. rw (lt-leb _ _ (c .if1 .taken))) (λ c. search needs) (λ c. search needs) (λ c. search needs) (λ c. rw (le-leb _ _ (c .before .if1 .left))) in
+    let answers = tie.spec (λ c. search needs) (λ c. rw (lt-leb _ _ (c .if1 .taken))) (λ c. search needs) (λ c. search needs) (λ c. search needs)
+    (λ c. rw (le-leb _ _ (c .before .if1 .left))) in
     tie.close answers

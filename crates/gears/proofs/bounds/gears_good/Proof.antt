@@ -15,5 +15,6 @@ pub gears-good-spec : {M : Type 1} → statement M
 unfolding _and_
 gears-good-spec =
     let answers = tie.spec (λ c. rw (lt-leb _ _ (c .if1 .taken))) (λ c κs. search needs)
-    (λ c. rw (le-leb _ _ (c .before .before .if1 .left), ← c .before .placed .ensures, not-true (c .before .placed .result) (c .if2 .taken))) (λ c. search needs) (λ c κs. search needs) returns-3 in
+    (λ c. rw (le-leb _ _ (c .before .before .if1 .left), ← c .before .placed .ensures, not-true (c .before .placed .result) (c .if2 .taken)))
+    (λ c. search needs) (λ c κs. search needs) returns-3 in
     tie.close answers

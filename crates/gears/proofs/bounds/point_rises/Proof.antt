@@ -8,5 +8,6 @@ pub point-rises-spec : {M : Type 1} → statement M
 unfolding _or_
 point-rises-spec =
     let answers = tie.spec (λ c. rw (eq-eqb _ _ (c .if1 .taken))) (λ c. search needs) (λ c. search needs) (λ c. search needs) (λ c. search needs)
-    (λ c. search needs) (λ c. rw (ne-eqb _ _ (c .before .before .before .if1 .left)) (rise-none _ _ (c .if2 .taken))) (λ c. search needs) (λ c. rw (ne-eqb _ _ (c .before .before .before .if1 .left)) (rise-within _ _ (c .if2 .left))) in
+    (λ c. search needs) (λ c. rw (ne-eqb _ _ (c .before .before .before .if1 .left)) (rise-none _ _ (c .if2 .taken))) (λ c. search needs)
+    (λ c. rw (ne-eqb _ _ (c .before .before .before .if1 .left)) (rise-within _ _ (c .if2 .left))) in
     tie.close answers

@@ -1,5 +1,5 @@
 -- `gears::bounds::within` meets its contract: the two tests of `within`, one after the other.
-use Rattle.rules.proofs.Offered.{le-leb, lt-leb, _and_, within}
+use Rattle.rules.proofs.Offered.{le-leb, lt-leb, within, _and_}
 use Rattle.gears.proofs.bounds.within.Statement.{statement}
 use Rattle.gears.proofs.bounds.within.Tie as tie
 

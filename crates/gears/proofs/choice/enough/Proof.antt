@@ -1,5 +1,5 @@
 -- `gears::choice::enough` meets its contract: both products stay inside an i64, by the sizes of their parts.
-use Rattle.rules.proofs.Offered.{pos, needs, E, lit, var, _⊗_, le-read}
+use Rattle.rules.proofs.Offered.{pos, E, lit, var, _⊗_, le-read}
 use Rattle.rules.proofs.Laws.Range.{fits}
 use Rattle.gears.specs.Choosing.{most-E, enough-for}
 use Rattle.gears.proofs.choice.enough.Statement.{statement}
@@ -15,8 +15,10 @@ asked c = var (c .args .e) most-E (c .pre .e-in) ⊗ var (c .args .a .w) 1000 (c
 returns : tie.Need-returns
 unfolding enough-for
 returns c =
-    let s = c .before .before .before .before in
+    let s : tie.Start = search in
     le-read (asked s) (q s ⊗ lit (pos 3240000)) tt tt
 
 pub enough-spec : {M : Type 1} → statement M
-enough-spec = let answers = tie.spec (λ c. fits (q (c .before .before) ⊗ lit (pos 3240000)) tt) (λ c. fits (asked (c .before .before .before .before)) tt) returns in tie.close answers
+enough-spec =
+    let answers = tie.spec (λ c. fits (q (c .before .before) ⊗ lit (pos 3240000)) tt) (λ c. let s : tie.Start = search in fits (asked s) tt) returns in
+    tie.close answers

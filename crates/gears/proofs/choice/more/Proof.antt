@@ -13,6 +13,6 @@ right c = var (c .args .a .q) 1000000000000 (c .pre .0 .q-in) ⊗ var (c .args .
 pub more-spec : {M : Type 1} → statement M
 unfolding more
 more-spec =
-    let answers = tie.spec (λ c. fits (left (c .before .before .before .before)) tt) (λ c. fits (right (c .before .before .before .before .before .before .before .before)) tt)
-    (λ c. let s = c .before .before .before .before .before .before .before .before in lt-read (left s) (right s) tt tt) in
+    let answers = tie.spec (λ c. let s : tie.Start = search in fits (left s) tt) (λ c. let s : tie.Start = search in fits (right s) tt)
+    (λ c. let s : tie.Start = search in lt-read (left s) (right s) tt tt) in
     tie.close answers

@@ -23,5 +23,6 @@ derate-spec =
     let answers = tie.spec Inv-loop μ-loop (λ c. (omega arith, begun _ _ _ _)) (λ c. search needs) (λ c. search needs)
     (λ c. search needs) (λ c. search needs)
     (λ c κs. let l = c .before .before .before in l .before .pre .left (l .loop .i) (omega arith))
-    (λ c. search needs) (λ c. search needs) (λ c. search needs) (λ c. search needs) (λ c. let l = c .before .before .before .before in (omega arith, goes-on _ _ _ _ (l .loop .i) (l .loop .inv .1) (c .derated .ensures))) returns in
+    (λ c. search needs) (λ c. search needs) (λ c. search needs) (λ c. search needs)
+    (λ c. let l : tie.At-loop Inv-loop μ-loop = search in (omega arith, goes-on _ _ _ _ (l .loop .i) (l .loop .inv .1) (c .derated .ensures))) returns in
     tie.close answers

@@ -9,7 +9,8 @@ use Rattle.gears.proofs.curve.power_at.Statement.{statement}
 use Rattle.gears.proofs.curve.power_at.Tie as tie
 
 -- the speed at which power is read, of any vehicle of these parts
-speed : (c : tie.After-power-speed) → let s = c .before .before in (car : Vehicle) → Lent car (s .args .k) (s .args .ratio .now) (s .args .n .now) (s .args .p .now)
+speed : (c : tie.After-power-speed) → let s = c .before .before in (car : Vehicle)
+    → Lent car (s .args .k) (s .args .ratio .now) (s .args .n .now) (s .args .p .now)
     → c .power-speed .result ≡ power-speed car (s .args .v) (s .args .g)
 speed c car L = let s = c .before .before in speed-is L (s .args .v) (s .args .g) (c .power-speed .ensures) (c .before .engine .ensures)
 
@@ -20,7 +21,8 @@ found c = rw (c .power-speed .ensures, c .before .engine .ensures) (c .before .b
 
 pub power-at-spec : {M : Type 1} → statement M
 power-at-spec =
-    let answers = tie.spec (λ c κs. let L = c .pre .0 .lent in record { from = c .pre .1 .from; to = omega (arith, c .pre .1 .to, ng-of (L .has .counts), L .bounds .ng-to) }) (λ c κs. search needs)
+    let answers = tie.spec (λ c κs. let L = c .pre .0 .lent in record
+    { from = c .pre .1 .from; to = omega (arith, c .pre .1 .to, ng-of (L .has .counts), L .bounds .ng-to) }) (λ c κs. search needs)
     (λ c κs. let s = c .before .before in let L = s .pre .0 .lent in turning-segment L _ _ (s .pre .1) (speed c (s .pre .0 .car) L) (found c))
     (λ c. λ car L. c .on-segment .ensures ∙ power-is L _ _ (c .before .before .before .pre .1) (speed (c .before) car L) (found (c .before))) in
     tie.close answers

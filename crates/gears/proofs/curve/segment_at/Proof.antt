@@ -12,4 +12,7 @@ segment-near-requires c κs =
 
 pub segment-at-spec : {M : Type 1} → statement M
 unfolding turned
-segment-at-spec = let answers = tie.spec (λ c κs. search needs) (λ c κs. search needs) segment-near-requires (λ c. rw (c .before .power-speed .ensures, c .before .before .engine .ensures) at (c .segment-near .ensures)) in tie.close answers
+segment-at-spec =
+    let answers = tie.spec (λ c κs. search needs) (λ c κs. search needs) segment-near-requires
+    (λ c. rw (c .before .power-speed .ensures, c .before .before .engine .ensures) at (c .segment-near .ensures)) in
+    tie.close answers

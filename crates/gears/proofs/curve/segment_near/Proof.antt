@@ -25,8 +25,8 @@ segment-near-spec =
     (λ c. higher (c .before .before .before .loop .inv) (omega arith))
     (λ c. turn (c .before .before .before .loop .inv) (omega arith))
     (λ c. search needs) (λ c. search needs) (λ c κs. search needs)
-    (λ c. ends (c .before .before .before .before .loop2 .inv) (inr (omega arith)))
+    (λ c. let l : tie.At-loop2 Inv-loop μ-loop Inv-loop2 μ-loop2 = search in ends (l .loop2 .inv) (inr (omega arith)))
     (λ c. search needs) (λ c. search needs)
-    (λ c. down (c .before .before .before .before .loop2 .inv) (omega arith) (omega arith))
+    (λ c. let l : tie.At-loop2 Inv-loop μ-loop Inv-loop2 μ-loop2 = search in down (l .loop2 .inv) (omega arith) (omega arith))
     (λ c. ends (c .before .loop2 .inv) (inl (omega arith))) in
     tie.close answers

@@ -12,18 +12,35 @@ low-is : (c : tie.After-lowest) (car : Vehicle) → Counts car (c .before .befor
 low-is c car C = low-of C ∙ sym (c .lowest .ensures)
 
 returns : tie.Need-returns
-returns c = (λ car C. rw (minimum-one car _ (c .before .before .before .before .args .g) (rw (low-is (c .before) car C) (c .match .keys1)), idle-of C) (c .before .before .before .wide .ensures .0), search needs)
+returns c =
+    let s : tie.Start = search in
+    let idle : tie.After-wide = search in
+    (λ car C. rw (minimum-one car _ (s .args .g) (rw (low-is (c .before) car C) (c .match .keys1)), idle-of C) (idle .wide .ensures .0), search needs)
 
 returns-2 : tie.Need-returns-2
-returns-2 c = (λ car C. rw (minimum-two car _ (c .before .before .before .before .before .args .g) (rw (low-is (c .before .before) car C) (c .before .match .keys2))) (c .next-minimum .ensures .0 car C), search needs)
+returns-2 c =
+    let s : tie.Start = search in (
+      λ car C. rw (minimum-two car _ (s .args .g) (rw (low-is (c .before .before) car C) (c .before .match .keys2))) (c .next-minimum .ensures .0 car C),
+      search
+          needs,
+    )
 
 returns-3 : tie.Need-returns-3
-returns-3 c = (
-  λ car C.
-      let e = low-is (c .before) car C in
-      rw (minimum-above car _ (c .before .before .before .before .args .g) (rw e (c .match .rest .0 .1)) (rw e (c .match .rest .1)), idle-of C, rated-of C, c .before .before .before .wide .ensures .0, c .before .before .wide2 .ensures .0),
-  search needs,
-)
+returns-3 c =
+    let s : tie.Start = search in
+    let idle : tie.After-wide = search in
+    let rated : tie.After-wide2 = search in (
+      λ car C.
+          let e = low-is (c .before) car C in
+          rw (
+            minimum-above car _ (s .args .g) (rw e (c .match .rest .0 .1)) (rw e (c .match .rest .1)),
+            idle-of C,
+            rated-of C,
+            idle .wide .ensures .0,
+            rated .wide2 .ensures .0,
+          ),
+      search needs,
+    )
 
 pub minimum-spec : {M : Type 1} → statement M
 minimum-spec =

@@ -7,8 +7,10 @@ use Rattle.gears.proofs.second.next_minimum.Tie as tie
 pub next-minimum-spec : {M : Type 1} → statement M
 unfolding next-minimum
 next-minimum-spec =
-    let answers = tie.spec (λ c κs. search needs) (λ c. search needs) (λ c. search needs) (λ c. search needs) (λ c. search needs) (λ c. search needs) (λ c. search needs) (λ c. search needs)
-    (λ c. search needs) (λ c. search needs) (λ c. search needs) (λ c. (λ car C. rw (c .enum-told .given .1, idle-of C, c .before .before .wide .ensures .0), search needs))
+    let answers = tie.spec (λ c κs. search needs) (λ c. search needs) (λ c. search needs) (λ c. search needs) (λ c. search needs) (λ c. search needs)
+    (λ c. search needs) (λ c. search needs)
+    (λ c. search needs) (λ c. search needs) (λ c. search needs)
+    (λ c. (λ car C. rw (c .enum-told .given .1, idle-of C, c .before .before .wide .ensures .0), search needs))
     (λ c. (λ car C. rw (c .enum-told2 .given .1, idle-of C, c .before .before .wide .ensures .0), search needs))
     (λ c. (λ car C. rw (c .enum-told3 .given .1, idle-of C, c .before .before .wide .ensures .0), search needs))
     (λ c. (λ car C. rw (c .enum-told4 .given .1, idle-of C, c .before .before .wide .ensures .0), search needs)) in

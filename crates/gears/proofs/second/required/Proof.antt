@@ -41,11 +41,13 @@ power s = v s ⊗ outer s
 
 pub required-spec : {M : Type 1} → statement M
 required-spec =
-    let answers = tie.spec (λ c. search needs) (λ c. search needs) (λ c. fits (lit (pos 9000000) ⊗ f0 (c .before)) tt) (λ c. fits (lit (pos 2575000) ⊗ d (c .before)) tt) (λ c. search needs)
+    let answers = tie.spec (λ c. search needs) (λ c. search needs) (λ c. fits (lit (pos 9000000) ⊗ f0 (c .before)) tt)
+    (λ c. fits (lit (pos 2575000) ⊗ d (c .before)) tt) (λ c. search needs)
     (λ c. fits (mass (c .before .before)) tt) (λ c. fits (lit (pos 9000000) ⊗ f0 (c .before .before) ⊕ mass (c .before .before)) tt)
-    (λ c. from-i32-fits (small-i32 (c .before .before .before .before .args .k .f1) (omega (arith, c .before .before .before .before .pre .f1-in))))
-    (λ c. fits (lit (pos 9000) ⊗ f1 (c .before .before .before .before)) tt) (λ c. search needs) (λ c. fits (square (c .before .before .before .before .before)) tt)
-    (λ c. fits (v (c .before .before .before .before .before) ⊗ square (c .before .before .before .before .before)) tt) (λ c. fits (inner (c .before .before .before .before .before)) tt)
-    (λ c. fits (v (c .before .before .before .before .before) ⊗ inner (c .before .before .before .before .before)) tt) (λ c. fits (outer (c .before .before .before .before .before)) tt)
-    (λ c. fits (power (c .before .before .before .before .before)) tt) (λ c. λ car C. let s = c .before .before .before .before .before in read (power s) tt ∙ required-of C (s .args .v) (s .args .d)) in
+    (λ c. let s : tie.Start = search in from-i32-fits (small-i32 (s .args .k .f1) (omega (arith, s .pre .f1-in))))
+    (λ c. let s : tie.Start = search in fits (lit (pos 9000) ⊗ f1 s) tt) (λ c. search needs) (λ c. let s : tie.Start = search in fits (square s) tt)
+    (λ c. let s : tie.Start = search in fits (v s ⊗ square s) tt) (λ c. let s : tie.Start = search in fits (inner s) tt)
+    (λ c. let s : tie.Start = search in fits (v s ⊗ inner s) tt) (λ c. let s : tie.Start = search in fits (outer s) tt)
+    (λ c. let s : tie.Start = search in fits (power s) tt) (λ c. let s : tie.Start = search in λ car C. read (power s) tt ∙ required-of C (s .args .v)
+    (s .args .d)) in
     tie.close answers

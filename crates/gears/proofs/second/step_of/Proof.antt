@@ -11,4 +11,5 @@ abbrev next : tie.Start → E
 next c = var (pos (c .args .next)) 65535 (omega arith)
 
 pub step-of-spec : {M : Type 1} → statement M
-step-of-spec = let answers = tie.spec (λ c. search needs) (λ c. search needs) (λ c. fits (next c ⊖ this c) tt) (λ c. read (next c ⊖ this c) tt) in tie.close answers
+step-of-spec =
+    let answers = tie.spec (λ c. search needs) (λ c. search needs) (λ c. fits (next c ⊖ this c) tt) (λ c. read (next c ⊖ this c) tt) in tie.close answers

@@ -6,7 +6,9 @@ use Rattle.reading.proofs.groups.fill_speeds.Statement.{statement}
 use Rattle.reading.proofs.groups.fill_speeds.Tie as tie
 
 abbrev Inv-loop : tie.InvT-loop
-Inv-loop job at room₀ next₀ i₀ room next i = (i ≤ length room₀) × (length room ≡ length room₀) × Many value job (length room₀) i next (sets room i) (used (sets room₀ 0) (many value (length room₀)) job at)
+Inv-loop job at room₀ next₀ i₀ room next i =
+    (i ≤ length room₀) × (length room ≡ length room₀)
+    × Many value job (length room₀) i next (sets room i) (used (sets room₀ 0) (many value (length room₀)) job at)
 
 abbrev μ-loop : tie.MeasureT-loop
 μ-loop job at room₀ next₀ i₀ room next i = length room₀ - i
@@ -23,8 +25,7 @@ loop-again c =
 
 returns : tie.Need-returns Inv-loop μ-loop
 returns c =
-    let s : tie.Start Inv-loop μ-loop = search in
-    filled-all (s .args .job .now) (s .args .room .now) (s .args .at) (ends (c .before .loop .inv .2) (omega arith))
+    filled-all _ _ _ (ends (c .before .loop .inv .2) (omega arith))
 
 pub fill-speeds-spec : {M : Type 1} → statement M
 fill-speeds-spec =

@@ -6,7 +6,8 @@ use Rattle.reading.proofs.groups.fill_values.Statement.{statement}
 use Rattle.reading.proofs.groups.fill_values.Tie as tie
 
 abbrev Inv-loop : tie.InvT-loop
-Inv-loop job at count values₀ next₀ i₀ values next i = (i ≤ count) × (length values ≡ length values₀) × Many value job count i next (sets values i) (used (sets values₀ 0) (many value count) job at)
+Inv-loop job at count values₀ next₀ i₀ values next i =
+    (i ≤ count) × (length values ≡ length values₀) × Many value job count i next (sets values i) (used (sets values₀ 0) (many value count) job at)
 
 abbrev μ-loop : tie.MeasureT-loop
 μ-loop job at count values₀ next₀ i₀ values next i = count - i
@@ -21,8 +22,11 @@ returns c =
 loop-again : tie.Need-loop-again Inv-loop μ-loop
 loop-again c =
     let c₁ = c .before .before .before in
-    let c₂ = c₁ .before .before in
-    (omega arith, simp length-set (c₂ .loop .inv .1), rw add-one (rw add-one at (value-again (c₂ .loop .inv .2) (omega arith) (rw (c .before .g .given .1) at (c₁ .group-at .ensures)))))
+    let c₂ = c₁ .before .before in (
+      omega arith,
+      simp length-set (c₂ .loop .inv .1),
+      rw add-one (rw add-one at (value-again (c₂ .loop .inv .2) (omega arith) (rw (c .before .g .given .1) at (c₁ .group-at .ensures)))),
+    )
 
 pub fill-values-spec : {M : Type 1} → statement M
 fill-values-spec =

@@ -10,12 +10,15 @@ returns-2 c =
     let job = s .args .job .now in
     let i = s .args .at in
     let b = short-last job i (s .pre) (omega arith) in
-    rw (c .before .before .job-byte .ensures .is, c .job-byte2 .ensures .is, of₃ (two-is (at job i) (at job (i + 1))) (omega (arith, b))) (sym (of₅ (two job i) (omega (arith, b, second-some job i (s .pre .there) (omega arith)))))
+    rw (c .before .before .job-byte .ensures .is, c .job-byte2 .ensures .is, of₃ (two-is (at job i) (at job (i + 1))) (omega (arith, b)))
+    (sym (of₅ (two job i) (omega (arith, b, second-some job i (s .pre .there) (omega arith)))))
 
 pub short-at-spec : {M : Type 1} → statement M
 short-at-spec =
-    let answers = tie.spec (λ c κs. let s = c .before in first-there (s .args .job .now) (s .args .at) (s .pre .there)) (λ c. search needs)
-    (λ c. let s = c .before .before .before in rw (c .before .job-byte .ensures .is) (sym (one (s .args .job .now) (s .args .at) (omega arith) (omega arith)))) (λ c. search needs)
-    (λ c κs. let s = c .before .before .before in second-there (s .args .job .now) (s .args .at) (s .pre .there) (omega arith)) (λ c. search needs) (λ c. search needs) (λ c. search needs)
+    let answers = tie.spec (λ c κs. let s = c .before in first-there _ _ (s .pre .there)) (λ c. search needs)
+    (λ c. let s = c .before .before .before in rw (c .before .job-byte .ensures .is) (sym (one _ _ (omega arith) (omega arith))))
+    (λ c. search needs)
+    (λ c κs. let s = c .before .before .before in second-there _ _ (s .pre .there) (omega arith)) (λ c. search needs)
+    (λ c. search needs) (λ c. search needs)
     (λ c. search needs) returns-2 in
     tie.close answers

@@ -1,5 +1,6 @@
 -- `reading::holds::clear` meets its contract. The loop's invariant: the places before i are 0, the others as they were.
-use Rattle.rules.proofs.Offered.{ℕ, _≤_, _-_, arith, List, _++_, append-nil, _≡_, refl, _∙_, ap, length-set, length, replicate, drop, set, drop-length, fill-more, needs}
+use Rattle.rules.proofs.Offered.{ℕ, _≤_, _-_, arith, List, _++_, append-nil, _≡_, refl, _∙_, ap, length-set, length, replicate, drop, set, drop-length}
+use Rattle.rules.proofs.Offered.{fill-more, needs}
 use Rattle.reading.proofs.holds.clear.Statement.{statement}
 use Rattle.reading.proofs.holds.clear.Tie as tie
 
@@ -10,7 +11,12 @@ abbrev μ-loop : tie.MeasureT-loop
 μ-loop room₀ i₀ room i = length room₀ - i
 
 loop-again : tie.Need-loop-again Inv-loop μ-loop
-loop-again c = (omega arith, simp length-set (c .before .loop .inv .1), ap (λ (l : List ℕ). set l (c .before .loop .i) 0) (c .before .loop .inv .2) ∙ fill-more (c .before .loop .i) 0 (c .before .before .args .room .now) (omega arith))
+loop-again c = (
+  omega arith,
+  simp length-set (c .before .loop .inv .1),
+  ap (λ (l : List ℕ). set l (c .before .loop .i) 0) (c .before .loop .inv .2)
+      ∙ fill-more (c .before .loop .i) 0 (c .before .before .args .room .now) (omega arith),
+)
 
 returns : tie.Need-returns Inv-loop μ-loop
 returns c =

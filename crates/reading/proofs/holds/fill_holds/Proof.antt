@@ -6,7 +6,9 @@ use Rattle.reading.proofs.holds.fill_holds.Statement.{statement}
 use Rattle.reading.proofs.holds.fill_holds.Tie as tie
 
 abbrev Inv-loop : tie.InvT-loop
-Inv-loop job at holds room₀ place₀ i₀ room place i = (i ≤ holds) × (length room ≡ length room₀) × Putting (length room₀) job holds i place room (used (λ hs. put hs room₀) (hold-row (length room₀) holds) job at)
+Inv-loop job at holds room₀ place₀ i₀ room place i =
+    (i ≤ holds) × (length room ≡ length room₀)
+    × Putting (length room₀) job holds i place room (used (λ hs. put hs room₀) (hold-row (length room₀) holds) job at)
 
 abbrev μ-loop : tie.MeasureT-loop
 μ-loop job at holds room₀ place₀ i₀ room place i = holds - i
@@ -44,5 +46,7 @@ fill-holds-spec =
     let answers = tie.spec Inv-loop μ-loop (λ c κs. search needs) loop-holds (λ c κs. put-short (c .before .loop .inv .2) (omega arith))
     (λ c. gear-there (c .before .before .before .loop .inv .2) (omega arith) (c .before .short-at .ensures)) slice-write-room add-place
     (λ c. omega (arith, c .shared-slice-known2 .given (c .before .short-at .result .next)))
-    add-place-2 (λ c. search needs) (λ c. search needs) loop-again (λ c. search needs) (λ c. let at-clear : tie.After-clear Inv-loop μ-loop = search in rw (at-clear .clear .ensures, length-replicate) at (put-ends (c .before .loop .inv .2) (omega arith))) in
+    add-place-2 (λ c. search needs) (λ c. search needs) loop-again (λ c. search needs)
+    (λ c. let at-clear : tie.After-clear Inv-loop μ-loop = search in
+    rw (at-clear .clear .ensures, length-replicate) at (put-ends (c .before .loop .inv .2) (omega arith))) in
     tie.close answers

@@ -1,72 +1,79 @@
--- `reading::vehicle::car_at` meets its contract: one law for each `return`.
-use borrow.Author.Needs.{needs}
+-- `reading::vehicle::car_at` meets its contract: what each group gave is said once, and one law answers each `return`.
+use Rattle.rules.proofs.Offered.{List, ℕ, _≡_, replicate, sets, needs, got, value, bounded, many, profile, gearbox}
+use Rattle.reading.specs.Progress.{used, gears}
 use Rattle.reading.proofs.StageAnswers.{profile-in, version-stops, profile-stops, gears-stop, numbers-stop, car-on}
 use Rattle.reading.proofs.vehicle.car_at.Statement.{statement}
 use Rattle.reading.proofs.vehicle.car_at.Tie as tie
 
+-- ---- the way back from group to group
+
+abbrev profile→version : tie.After-profile → tie.After-version
+profile→version c = c .before .before .before .before
+
+abbrev gears→profile : tie.After-gears → tie.After-profile
+gears→profile c = c .before .before .before .before
+
+abbrev eight→gears : tie.After-eight → tie.After-gears
+eight→gears c = c .before .before .before .before .before .before
+
+abbrev job : tie.After-version → List ℕ
+job c = c .before .before .before .before .args .job .now
+
+-- ---- what each gave
+
+versioned : (c : tie.After-version) → got (c .version .given .0 .0) (c .version .given .0 .1 .0) ≡ bounded 1 3 14 0 .read (job c) 0
+versioned c = rw (c .version .given .1) at (c .before .before .bounded .ensures)
+
+profiled : (c : tie.After-profile) → let v = profile→version c in
+    got (c .profile .given .0 .0) (c .profile .given .0 .1 .0) ≡ profile (v .version .given .0 .0) .read (job v) (v .version .given .0 .1 .0)
+profiled c = rw (c .profile .given .1) at (c .before .before .profile-at .ensures)
+
+geared : (c : tie.After-gears) → let p = gears→profile c in let b = c .before .before .gearbox-at .result in
+    got (b .ng, b .ratio) (c .gears .given .0 .0) ≡ used gears (gearbox (p .profile .given .0 .0)) (job (profile→version p)) (p .profile .given .0 .1 .0)
+geared c = rw (c .gears .given .1) at (c .before .before .gearbox-at .ensures)
+
+numbered : (c : tie.After-eight) → let g = eight→gears c in
+    got (c .before .before .before .fill-values .last .1 .1 .1 .0) (c .eight .given .0 .0)
+    ≡ used (sets (replicate 8 0) 0) (many value 8) (job (profile→version (gears→profile g))) (g .gears .given .0 .0)
+numbered c = rw (c .eight .given .1) at (c .before .before .before .fill-values .ensures)
+
+-- ---- the returns
+
 returns : tie.Need-returns
 returns c =
-    let c₁ = c .before .before in
-    let c₂ = c₁ .before .before in
-    let s = c₂ .before .before in
-    let g = c₁ .enum-told .given .1 in
-    rw (c .no-car .ensures, c .before .came .ensures, g) (version-stops (s .args .job .now) 0 (rw g at (c₂ .bounded .ensures)))
+    let r : tie.After-bounded = search in
+    let g = c .before .before .enum-told .given .1 in
+    rw (c .no-car .ensures, c .before .came .ensures, g) (version-stops _ 0 (rw g at (r .bounded .ensures)))
 
 returns-2 : tie.Need-returns-2
 returns-2 c =
-    let c₁ = c .before .before in
-    let c₂ = c₁ .before .before in
-    let c₃ = c₂ .before .before in
-    let c₄ = c₃ .before .before in
-    let s = c₄ .before .before in
-    let g = c₁ .enum-told2 .given .1 in
-    rw (c .no-car2 .ensures, c .before .came2 .ensures, g) (profile-stops (s .args .job .now) 0 (rw (c₃ .version .given .1) at (c₄ .bounded .ensures)) (rw g at (c₂ .profile-at .ensures)))
+    let r : tie.After-profile-at = search in
+    let g = c .before .before .enum-told2 .given .1 in
+    rw (c .no-car2 .ensures, c .before .came2 .ensures, g) (profile-stops _ 0 (versioned (search)) (rw g at (r .profile-at .ensures)))
 
 gearbox-at-requires : tie.Need-gearbox-at-requires
-gearbox-at-requires c κs =
-    let start : tie.Start = search in
-    let c₁ = c .before in
-    let c₂ = c₁ .before .before in
-    let c₃ = c₂ .before .before in
-    let s = start in
-    profile-in (s .args .job .now) _ _ (rw (c₁ .profile .given .1) at (c₂ .profile-at .ensures))
+gearbox-at-requires c κs = profile-in _ _ _ (profiled (search))
 
 returns-3 : tie.Need-returns-3
 returns-3 c =
-    let c₁ = c .before .before .before in
-    let c₂ = c₁ .before .before in
-    let c₃ = c₂ .before .before in
-    let c₄ = c₃ .before .before in
-    let c₅ = c₄ .before .before in
-    let s = c₅ .before .before in
+    let r : tie.After-gearbox-at = search in
     let g = c .before .enum-told3 .given .1 in
-    rw (c .no-car3 .ensures, g) (gears-stop (s .args .job .now) 0 (rw (c₄ .version .given .1) at (c₅ .bounded .ensures)) (rw (c₂ .profile .given .1) at (c₃ .profile-at .ensures)) (rw g at (c₁ .gearbox-at .ensures)))
+    rw (c .no-car3 .ensures, g) (gears-stop _ 0 (versioned (search)) (profiled (search)) (rw g at (r .gearbox-at .ensures)))
 
 returns-4 : tie.Need-returns-4
 returns-4 c =
-    let c₁ : tie.After-fill-values = search in
-    let c₂ = c₁ .before .before .before in
-    let c₃ = c₂ .before .before in
-    let c₄ = c₃ .before .before in
-    let c₅ = c₄ .before .before in
-    let c₆ = c₅ .before .before in
-    let c₇ = c₆ .before .before in
-    let s = c₇ .before .before in
+    let r : tie.After-fill-values = search in
+    let p : tie.After-profile = search in
     let g = c .before .enum-told4 .given .1 in
-    rw (c .no-car4 .ensures, g) (numbers-stop (s .args .job .now) 0 (rw (c₆ .version .given .1) at (c₇ .bounded .ensures)) (rw (c₄ .profile .given .1) at (c₅ .profile-at .ensures)) (rw (c₂ .gears .given .1) at (c₃ .gearbox-at .ensures)) (rw g at (c₁ .fill-values .ensures)))
+    rw (c .no-car4 .ensures, g) (numbers-stop _ 0 (versioned (search)) (profiled p) (geared (search)) (rw g at (r .fill-values .ensures)))
 
 returns-5 : tie.Need-returns-5
 returns-5 c =
-    let c₁ = c .before .before .before in
-    let c₂ = c₁ .before .before .before in
-    let c₃ = c₂ .before .before .before in
-    let c₄ = c₃ .before .before in
-    let c₅ = c₄ .before .before in
-    let c₆ = c₅ .before .before in
-    let c₇ = c₆ .before .before in
-    let c₈ = c₇ .before .before in
-    let s = c₈ .before .before in
-    rw (c .vehicle-of .ensures) (car-on (s .args .job .now) 0 (rw (c₇ .version .given .1) at (c₈ .bounded .ensures)) (rw (c₅ .profile .given .1) at (c₆ .profile-at .ensures)) (rw (c₃ .gears .given .1) at (c₄ .gearbox-at .ensures)) (rw (c₁ .eight .given .1) at (c₂ .fill-values .ensures)) (c .before .curve-at .result .at) _ (c .before .curve-at .ensures))
+    let n : tie.After-eight = search in
+    let g : tie.After-gears = search in
+    let p : tie.After-profile = search in
+    let r = c .before .curve-at in
+    rw (c .vehicle-of .ensures) (car-on _ 0 (versioned (search)) (profiled p) (geared g) (numbered n) (r .result .at) _ (r .ensures))
 
 pub car-at-spec : {M : Type 1} → statement M
 car-at-spec =

@@ -8,16 +8,14 @@ use Rattle.reading.proofs.vehicle.curve_at.Tie as tie
 returns : tie.Need-returns
 returns c =
     let c₁ = c .before .before .before in
-    let s = c₁ .before .before in
     let g = c .before .enum-told .given .1 in
-    rw (c .came .ensures, g) (curve-stops (s .args .job .now) (s .args .at) (s .args .version) (rw g at (c₁ .bounded .ensures)))
+    rw (c .came .ensures, g) (curve-stops _ _ _ (rw g at (c₁ .bounded .ensures)))
 
 fill-points-requires : tie.Need-fill-points-requires
 fill-points-requires c κs =
     let c₁ : tie.After-count = search in
     let c₂ = c₁ .before .before in
-    let s = c₂ .before .before in
-    let b = bounded-in (s .args .job .now) 2 64 3 11 (s .args .at) (rw (c₁ .count .given .1) at (c₂ .bounded .ensures)) in omega arith
+    let b = bounded-in _ 2 64 3 11 _ (rw (c₁ .count .given .1) at (c₂ .bounded .ensures)) in omega arith
 
 returns-2 : tie.Need-returns-2
 returns-2 c =
@@ -25,9 +23,9 @@ returns-2 c =
     let c₁ = c .before .before .before in
     let c₂ = at-count in
     let c₃ = c₂ .before .before in
-    let s = c₃ .before .before in
     let last = c₁ .fill-points .last .1 .1 .1 .1 in
-    curve-on (s .args .job .now) (s .args .at) (s .args .version) (rw (c₂ .count .given .1) at (c₃ .bounded .ensures)) (c₁ .fill-points .result) (last .0, (last .1 .0, last .1 .1 .0)) (c₁ .fill-points .ensures)
+    curve-on _ _ _ (rw (c₂ .count .given .1) at (c₃ .bounded .ensures)) (c₁ .fill-points .result)
+    (last .0, (last .1 .0, last .1 .1 .0)) (c₁ .fill-points .ensures)
 
 pub curve-at-spec : {M : Type 1} → statement M
 curve-at-spec =

@@ -5,4 +5,6 @@ use Rattle.reasons.proofs.explain.byte_of.Tie as tie
 
 pub byte-of-spec : {M : Type 1} → statement M
 unfolding byte-of
-byte-of-spec = let answers = tie.spec (λ c κs. search needs) (λ c. search needs) (λ c. rw (← c .before .pedal-down .ensures, c .if1 .taken)) (λ c. rw (← c .before .pedal-down .ensures, c .if1 .left)) in tie.close answers
+byte-of-spec =
+    let answers = tie.spec (λ c κs. search needs) (λ c. search needs) (λ c. rw (← c .before .pedal-down .ensures, c .if1 .taken))
+    (λ c. rw (← c .before .pedal-down .ensures, c .if1 .left)) in tie.close answers

@@ -9,7 +9,9 @@ returns-2 : tie.Need-returns-2
 returns-2 c =
     let s : tie.Start = search in
     λ car H.
-    pedal-rising car _ _ _ (sym (c .before .before .before .moving .ensures) ∙ not-false (c .before .before .before .moving .result) (c .before .before .if1 .left)) (rises (s .args .speeds .now) (s .args .second) (s .pre) (c .if2 .taken))
+    pedal-rising car _ _ _
+    (sym (c .before .before .before .moving .ensures) ∙ not-false (c .before .before .before .moving .result) (c .before .before .if1 .left))
+    (rises (s .args .speeds .now) (s .args .second) (s .pre) (c .if2 .taken))
 
 returns-3 : tie.Need-returns-3
 returns-3 c =
@@ -20,7 +22,8 @@ returns-3 c =
     λ car H.
     let x = engine-of H (s .args .g) (at (s .args .speeds .now) (s .args .second)) in
     let y = idle-of (H .counts) in
-    pedal-slow car _ _ _ (sym (at-moving .moving .ensures) ∙ not-false (at-moving .moving .result) (else1 .if1 .left)) (falls (s .args .speeds .now) (s .args .second) (s .pre) (else2 .if2 .left)) (omega (arith, c .if3 .taken, c .before .before .turning .ensures, x, y))
+    pedal-slow car _ _ _ (sym (at-moving .moving .ensures) ∙ not-false (at-moving .moving .result) (else1 .if1 .left))
+    (falls (s .args .speeds .now) (s .args .second) (s .pre) (else2 .if2 .left)) (omega (arith, c .if3 .taken, c .before .before .turning .ensures, x, y))
 
 returns-4 : tie.Need-returns-4
 returns-4 c =
@@ -31,11 +34,13 @@ returns-4 c =
     λ car H.
     let x = engine-of H (s .args .g) (at (s .args .speeds .now) (s .args .second)) in
     let y = idle-of (H .counts) in
-    pedal-turns car _ _ _ (sym (at-moving .moving .ensures) ∙ not-false (at-moving .moving .result) (else1 .if1 .left)) (falls (s .args .speeds .now) (s .args .second) (s .pre) (else2 .if2 .left)) (omega (arith, c .if3 .left, c .before .before .turning .ensures, x, y))
+    pedal-turns car _ _ _ (sym (at-moving .moving .ensures) ∙ not-false (at-moving .moving .result) (else1 .if1 .left))
+    (falls (s .args .speeds .now) (s .args .second) (s .pre) (else2 .if2 .left)) (omega (arith, c .if3 .left, c .before .before .turning .ensures, x, y))
 
 pub clutch-reason-spec : {M : Type 1} → statement M
 clutch-reason-spec =
-    let answers = tie.spec (λ c. search needs) (λ c. search needs) (λ c κs. search needs) (λ c. λ car H. pedal-before car _ _ _ (sym (c .before .moving .ensures) ∙ not-true (c .before .moving .result) (c .if1 .taken))) (λ c. search needs)
+    let answers = tie.spec (λ c. search needs) (λ c. search needs) (λ c κs. search needs)
+    (λ c. λ car H. pedal-before car _ _ _ (sym (c .before .moving .ensures) ∙ not-true (c .before .moving .result) (c .if1 .taken))) (λ c. search needs)
     (λ c. search needs) (λ c. search needs) returns-2 (λ c κs. search needs) (λ c. search needs) (λ c. search needs)
     returns-3 returns-4 in
     tie.close answers

@@ -26,8 +26,11 @@ returns : tie.Need-returns
 returns c =
     let s = c .before .before in
     let B = s .pre .0 in
-    let e = result (c .required .ok) in
-    (λ car C. e ∙ (rw (is-D (c .before)) at (c .required .ensures car C)), rw (e, rw (is-D (c .before)) at (c .required .ensures (B .car) (B .counts))) (required-size (B .car) (B .bounds) (s .args .v) (s .pre .1 .v-to) _ (s .pre .1 .d-in)))
+    let e = result (c .required .ok) in (
+      λ car C. e ∙ (rw (is-D (c .before)) at (c .required .ensures car C)),
+      rw (e, rw (is-D (c .before)) at (c .required .ensures (B .car) (B .counts)))
+          (required-size (B .car) (B .bounds) (s .args .v) (s .pre .1 .v-to) _ (s .pre .1 .d-in)),
+    )
 
 pub required-at-spec : {M : Type 1} → statement M
 required-at-spec = let answers = tie.spec (λ c κs. search needs) required-requires returns in tie.close answers

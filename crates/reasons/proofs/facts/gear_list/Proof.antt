@@ -15,12 +15,25 @@ returns c =
     let s : tie.Start = search in
     λ car d L e.
     let q = toZ-ofZ (s .fits .e) ∙ e in
-    rw (at-gear-facts .gear-facts .ensures car d L q, at-gear-facts2 .gear-facts2 .ensures car d L q, at-gear-facts3 .gear-facts3 .ensures car d L q, at-gear-facts4 .gear-facts4 .ensures car d L q, at-gear-facts5 .gear-facts5 .ensures car d L q, at-gear-facts6 .gear-facts6 .ensures car d L q, c .before .before .before .gear-facts7 .ensures car d L q, c .before .before .gear-facts8 .ensures car d L q, c .before .gear-facts9 .ensures car d L q, c .gear-facts10 .ensures car d L q)
+    rw (
+      at-gear-facts .gear-facts .ensures car d L q,
+      at-gear-facts2 .gear-facts2 .ensures car d L q,
+      at-gear-facts3 .gear-facts3 .ensures car d L q,
+      at-gear-facts4 .gear-facts4 .ensures car d L q,
+      at-gear-facts5 .gear-facts5 .ensures car d L q,
+      at-gear-facts6 .gear-facts6 .ensures car d L q,
+      c .before .before .before .gear-facts7 .ensures car d L q,
+      c .before .before .gear-facts8 .ensures car d L q,
+      c .before .gear-facts9 .ensures car d L q,
+      c .gear-facts10 .ensures car d L q,
+    )
 
 pub gear-list-spec : {M : Type 1} → statement M
 gear-list-spec =
-    let answers = tie.spec (λ c κs. let s = c in (s .pre .0, rw (toZ-ofZ (s .fits .e)) (s .pre .1))) (λ c κs. let s = c .before in (s .pre .0, rw (toZ-ofZ (s .fits .e)) (s .pre .1)))
-    (λ c κs. let s = c .before .before in (s .pre .0, rw (toZ-ofZ (s .fits .e)) (s .pre .1))) (λ c κs. let s = c .before .before .before in (s .pre .0, rw (toZ-ofZ (s .fits .e)) (s .pre .1)))
+    let answers = tie.spec (λ c κs. let s = c in (s .pre .0, rw (toZ-ofZ (s .fits .e)) (s .pre .1)))
+    (λ c κs. let s = c .before in (s .pre .0, rw (toZ-ofZ (s .fits .e)) (s .pre .1)))
+    (λ c κs. let s = c .before .before in (s .pre .0, rw (toZ-ofZ (s .fits .e)) (s .pre .1)))
+    (λ c κs. let s = c .before .before .before in (s .pre .0, rw (toZ-ofZ (s .fits .e)) (s .pre .1)))
     (λ c κs. let s : tie.Start = search in (s .pre .0, rw (toZ-ofZ (s .fits .e)) (s .pre .1)))
     (λ c κs. let s : tie.Start = search in (s .pre .0, rw (toZ-ofZ (s .fits .e)) (s .pre .1)))
     (λ c κs. let s : tie.Start = search in (s .pre .0, rw (toZ-ofZ (s .fits .e)) (s .pre .1)))

@@ -14,7 +14,10 @@ turns c =
     record { from = omega (arith, D .from); to = D .to; under = omega (arith, c .if1 .left, c .before .engine .ensures, c .before .before .top .ensures) }
 
 returns : tie.Need-returns
-returns c = (λ car L. power-past (L .has) _ _ (omega (arith, c .if1 .taken, c .before .engine .ensures, c .before .before .top .ensures)), record { q-in = lit≤ tt; w-in = lit≤ tt })
+returns c = (
+  λ car L. power-past (L .has) _ _ (omega (arith, c .if1 .taken, c .before .engine .ensures, c .before .before .top .ensures)),
+  record { q-in = lit≤ tt; w-in = lit≤ tt },
+)
 
 segment-at-requires : tie.Need-segment-at-requires
 segment-at-requires c κs =
@@ -36,5 +39,6 @@ returns-2 c =
 
 pub listed-power-spec : {M : Type 1} → statement M
 listed-power-spec =
-    let answers = tie.spec (λ c κs. search needs) (λ c κs. search needs) returns segment-at-requires (λ c κs. let start : tie.Start = search in (start .pre .0, turns (c .before), c .segment-at .ensures)) returns-2 in
+    let answers = tie.spec (λ c κs. search needs) (λ c κs. search needs) returns segment-at-requires
+    (λ c κs. let start : tie.Start = search in (start .pre .0, turns (c .before), c .segment-at .ensures)) returns-2 in
     tie.close answers

@@ -6,4 +6,6 @@ use Rattle.reasons.proofs.facts.minimum_rule.Tie as tie
 
 pub minimum-rule-spec : {M : Type 1} → statement M
 unfolding minimum-rule
-minimum-rule-spec = let answers = tie.spec (λ c κs. search needs) (λ c. rw (c .match .keys1)) (λ c. rw (c .before .match .keys2) (c .next-rule .ensures)) (λ c. rule-above _ _ (c .match .rest .0 .1) (c .match .rest .1)) in tie.close answers
+minimum-rule-spec =
+    let answers = tie.spec (λ c κs. search needs) (λ c. rw (c .match .keys1)) (λ c. rw (c .before .match .keys2) (c .next-rule .ensures))
+    (λ c. rule-above _ _ (c .match .rest .0 .1) (c .match .rest .1)) in tie.close answers

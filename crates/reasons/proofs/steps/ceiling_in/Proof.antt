@@ -9,7 +9,8 @@ returns-4 : tie.Need-returns-4
 returns-4 c =
     let else2 : tie.Else2 = search in
     let else1 : tie.Else1 = search in
-    λ car. ceiling-second _ _ (omega (arith, c .if4 .taken)) ∙ looks-up car _ _ _ _ (else1 .if1 .left) (omega (arith, else2 .if2 .left)) (omega (arith, c .before .before .if3 .left))
+    λ car. ceiling-second _ _ (omega (arith, c .if4 .taken))
+    ∙ looks-up car _ _ _ _ (else1 .if1 .left) (omega (arith, else2 .if2 .left)) (omega (arith, c .before .before .if3 .left))
 
 add-result : tie.Need-add-result
 add-result c =
@@ -23,7 +24,9 @@ returns-5 c =
     let else2 : tie.Else2 = search in
     let else1 : tie.Else1 = search in
     let s : tie.Start = search in
-    let e : s .args .j - 1 - 1 ≡ s .args .j - 2 = omega arith in λ car. ceiling-same _ _ (omega (arith, else2 .if2 .left, c .before .before .if4 .left)) (c .if5 .taken ∙ rw e) ∙ looks-up car _ _ _ _ (else1 .if1 .left) (omega (arith, else2 .if2 .left)) (omega (arith, else3 .if3 .left))
+    let e : s .args .j - 1 - 1 ≡ s .args .j - 2 = omega arith in
+    λ car. ceiling-same _ _ (omega (arith, else2 .if2 .left, c .before .before .if4 .left)) (c .if5 .taken ∙ rw e)
+    ∙ looks-up car _ _ _ _ (else1 .if1 .left) (omega (arith, else2 .if2 .left)) (omega (arith, else3 .if3 .left))
 
 returns-6 : tie.Need-returns-6
 returns-6 c =
@@ -31,7 +34,9 @@ returns-6 c =
     let else2 : tie.Else2 = search in
     let else1 : tie.Else1 = search in
     let s : tie.Start = search in
-    let e : s .args .j - 1 - 1 ≡ s .args .j - 2 = omega arith in λ car. ceiling-other _ _ (λ z. c .if5 .left (z ∙ rw e)) ∙ looks-up car _ _ _ _ (else1 .if1 .left) (omega (arith, else2 .if2 .left)) (omega (arith, else3 .if3 .left))
+    let e : s .args .j - 1 - 1 ≡ s .args .j - 2 = omega arith in
+    λ car. ceiling-other _ _ (λ z. c .if5 .left (z ∙ rw e))
+    ∙ looks-up car _ _ _ _ (else1 .if1 .left) (omega (arith, else2 .if2 .left)) (omega (arith, else3 .if3 .left))
 
 pub ceiling-in-spec : {M : Type 1} → statement M
 ceiling-in-spec =

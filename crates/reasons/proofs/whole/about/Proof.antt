@@ -12,4 +12,6 @@ returns c =
     (omega (arith, moving-in vs _ (next-moves vs (s .args .second) e)), add-one (s .args .second) ∙ about-next vs (s .args .second) e)
 
 pub about-spec : {M : Type 1} → statement M
-about-spec = let answers = tie.spec (λ c. search needs) returns (λ c. let s = c .before in (s .pre .0, about-itself (s .args .speeds .now) (s .args .second) (λ z. c .if1 .left (s .pre .1 ∙ z)))) in tie.close answers
+about-spec =
+    let answers = tie.spec (λ c. search needs) returns
+    (λ c. let s = c .before in (s .pre .0, about-itself (s .args .speeds .now) (s .args .second) (λ z. c .if1 .left (s .pre .1 ∙ z)))) in tie.close answers

@@ -4,4 +4,5 @@ use Rattle.rules.proofs.Answer.number.Statement.{statement}
 use Rattle.rules.proofs.Answer.number.Tie as tie
 
 pub number-spec : {M : Type 1} → statement M
-number-spec = let answers = tie.spec (λ c. search needs) (λ c. search needs) (λ c κs. search needs) (λ c. search needs) (λ c. rw (c .before .before .self .given .1) (c .number .ensures)) in tie.close answers
+number-spec = let answers = tie.spec (λ c. search needs) (λ c. search needs) (λ c κs. search needs) (λ c. search needs)
+    (λ c. rw (c .before .before .self .given .1) (c .number .ensures)) in tie.close answers

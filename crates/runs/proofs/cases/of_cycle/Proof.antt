@@ -4,4 +4,5 @@ use Rattle.runs.proofs.cases.of_cycle.Statement.{statement}
 use Rattle.runs.proofs.cases.of_cycle.Tie as tie
 
 pub of-cycle-spec : {M : Type 1} → statement M
-of-cycle-spec = let answers = tie.spec (λ c κs. search needs) (λ c κs. search needs) (λ c. search needs) (λ c. sym (length-take-le _ _ (omega arith))) (λ c κs. search needs) (λ c κs. search needs) (λ c. search needs) in tie.close answers
+of-cycle-spec = let answers = tie.spec (λ c κs. search needs) (λ c κs. search needs) (λ c. search needs) (λ c. sym (length-take-le _ _ (omega arith)))
+    (λ c κs. search needs) (λ c κs. search needs) (λ c. search needs) in tie.close answers

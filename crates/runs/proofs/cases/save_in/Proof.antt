@@ -4,4 +4,5 @@ use Rattle.runs.proofs.cases.save_in.Statement.{statement}
 use Rattle.runs.proofs.cases.save_in.Tie as tie
 
 pub save-in-spec : {M : Type 1} → statement M
-save-in-spec = let answers = tie.spec (λ c κs. search needs) (λ c κs. search needs) (λ c. search needs) (λ c. sym (length-take-le _ _ (omega arith))) (λ c κs. search needs) (λ c. search needs) in tie.close answers
+save-in-spec = let answers = tie.spec (λ c κs. search needs) (λ c κs. search needs) (λ c. search needs) (λ c. sym (length-take-le _ _ (omega arith)))
+    (λ c κs. search needs) (λ c. search needs) in tie.close answers

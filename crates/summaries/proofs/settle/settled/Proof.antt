@@ -5,4 +5,6 @@ use Rattle.summaries.proofs.settle.settled.Statement.{statement}
 use Rattle.summaries.proofs.settle.settled.Tie as tie
 
 pub settled-spec : {M : Type 1} → statement M
-settled-spec = let answers = tie.spec (λ c. search needs) (λ c. stops-low _ _ _ (omega arith)) (λ c. stops-high _ _ _ (omega arith)) (λ c. search needs) (λ c. between _ _ _ (omega arith)) in tie.close answers
+settled-spec =
+    let answers = tie.spec (λ c. search needs) (λ c. stops-low _ _ _ (omega arith)) (λ c. stops-high _ _ _ (omega arith)) (λ c. search needs)
+    (λ c. between _ _ _ (omega arith)) in tie.close answers

@@ -12,8 +12,10 @@ abbrev μ-loop : tie.MeasureT-loop
 
 pub settled-gears-spec : {M : Type 1} → statement M
 settled-gears-spec =
-    let answers = tie.spec Inv-loop μ-loop (λ c. search needs) (λ c. search needs) (λ c. search needs) (λ c. search needs) (λ c. search needs) (λ c. search needs) (λ c. search needs)
+    let answers = tie.spec Inv-loop μ-loop (λ c. search needs) (λ c. search needs) (λ c. search needs) (λ c. search needs) (λ c. search needs)
+    (λ c. search needs) (λ c. search needs)
     (λ c. search needs) (λ c. search needs) (λ c κs. search needs) (λ c. search needs) (λ c. search needs) (λ c. search needs) (λ c. search needs)
-    (λ c. let l = c .before .before .before .before .before .loop in (omega arith, settled-more _ _ _ (l .k) (omega arith) (l .inv .1) (c .settled .ensures)))
+    (λ c. let here : tie.At-loop Inv-loop μ-loop = search in let l = here .loop in
+    (omega arith, settled-more _ _ _ (l .k) (omega arith) (l .inv .1) (c .settled .ensures)))
     (λ c. let l = c .before .loop in settled-done _ _ _ (l .k) (l .inv .1) (omega arith)) in
     tie.close answers

@@ -12,25 +12,32 @@ abbrev μ-loop : tie.MeasureT-loop
 
 add-counts : tie.Need-add-counts Inv-loop μ-loop
 add-counts c =
-    let l = c .before .before .before .before .before .loop in
-    let s = c .before .before .before .before .before .before .before .before in
-    omega (arith, fill-room (s .args .speeds .now) (s .args .card .now) (s .args .span .lo) (l .inv .1) {hi = s .args .span .hi} (omega arith) (s .pre .few) (c .place-of .result) (omega (arith, c .place-of .ensures .1)))
+    let to-loop : tie.At-loop Inv-loop μ-loop = search in
+    let s : tie.Start Inv-loop μ-loop = search in
+    let l = to-loop .loop in
+    omega (
+      arith,
+      fill-room (s .args .speeds .now) (s .args .card .now) (s .args .span .lo) (l .inv .1) {hi = s .args .span .hi} (omega arith) (s .pre .few)
+          (c .place-of .result) (omega (arith, c .place-of .ensures .1)),
+    )
 
 loop-again : tie.Need-loop-again Inv-loop μ-loop
 loop-again c =
-    let l = c .before .before .before .before .before .loop in
-    let s = c .before .before .before .before .before .before .before .before in
+    let to-loop : tie.At-loop Inv-loop μ-loop = search in
+    let s : tie.Start Inv-loop μ-loop = search in
+    let l = to-loop .loop in
     (omega arith, fill-more (s .args .speeds .now) (s .args .card .now) (s .args .span .lo) (l .inv .1) (c .place-of .ensures .0) (c .place-of .ensures .1))
 
 returns : tie.Need-returns Inv-loop μ-loop
 returns c =
+    let s : tie.Start Inv-loop μ-loop = search in
     let l = c .before .before .loop in
-    let s = c .before .before .before .before .before in
     fill-done (s .args .speeds .now) (s .args .card .now) (s .args .span .lo) (l .inv .1) (s .args .span .hi) (omega (arith, l .inv .0))
 
 pub counts-in-spec : {M : Type 1} → statement M
 counts-in-spec =
-    let answers = tie.spec Inv-loop μ-loop (λ c. let s = c .before .before in (s .pre .order, fill-none (s .args .speeds .now) (s .args .card .now) (s .args .span .lo))) (λ c. search needs) (λ c. search needs) (λ c. search needs)
+    let answers = tie.spec Inv-loop μ-loop (λ c. let s = c .before .before in
+    (s .pre .order, fill-none (s .args .speeds .now) (s .args .card .now) (s .args .span .lo))) (λ c. search needs) (λ c. search needs) (λ c. search needs)
     (λ c κs. search needs) (λ c. search needs) (λ c. search needs) add-counts (λ c. search needs) (λ c. search needs)
     (λ c. search needs) loop-again returns in
     tie.close answers

@@ -14,16 +14,24 @@ returns c =
 count-requires : tie.Need-count-requires
 unfolding summary-fault
 count-requires c κs =
-    let s = c .before .before .before .before .before .before .args in
+    let start : tie.Start = search in
+    let s = start .args in
     all-countable (s .speeds .now) (s .card .now) (said-none (c .before .before .check-lengths .ensures _ _ _ refl refl refl) (c .enum-told .given .1))
 
 returns-2 : tie.Need-returns-2
 unfolding summary-fault counted-summary
 returns-2 c =
-    let e = c .before .before .before .before .before .check-lengths .ensures _ _ _ refl refl refl in
+    let at-check-lengths : tie.After-check-lengths = search in
+    let at-no-counts : tie.After-no-counts = search in
+    let start : tie.Start = search in
+    let e = at-check-lengths .check-lengths .ensures _ _ _ refl refl refl in
     let done = c .before .before .before .enum-told .given .1 in
-    let s = c .before .before .before .before .before .before .before .before .before .args in
-    (said-done e done, c .updated .ensures ∙ whole-settled (s .speeds .now) (s .card .now) (said-none e done) (c .before .before .before .before .before .before .no-counts .ensures) (c .before .nothing .ensures) (c .before .before .count .ensures))
+    let s = start .args in (
+      said-done e done,
+      c .updated .ensures
+          ∙ whole-settled (s .speeds .now) (s .card .now) (said-none e done) (at-no-counts .no-counts .ensures) (c .before .none-counted .ensures)
+          (c .before .before .count .ensures),
+    )
 
 pub summary-of-spec : {M : Type 1} → statement M
 summary-of-spec =

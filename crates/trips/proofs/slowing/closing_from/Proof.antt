@@ -12,18 +12,30 @@ abbrev μ-loop : tie.MeasureT-loop
 
 returns : tie.Need-returns Inv-loop μ-loop
 returns c =
-    let s = c .before .before .before .before in
+    let s : tie.Start Inv-loop μ-loop = search in
     run-never (s .args .us .now) (s .pre .0) _ (omega arith) (rw (c .before .moving .ensures) at (c .if1 .taken))
 
 returns-2 : tie.Need-returns-2 Inv-loop μ-loop
-returns-2 c = run-stops (c .before .before .before .before .before .before .before .before .before .args .us .now) (c .before .before .before .before .loop .inv) (c .before .before .before .before .before .before .before .before .before .pre .0) (omega arith) (omega arith)
+returns-2 c =
+    let l : tie.At-loop Inv-loop μ-loop = search in
+    let s : tie.Start Inv-loop μ-loop = search in
+    run-stops (s .args .us .now) (l .loop .inv) (s .pre .0) (omega arith) (omega arith)
 
 loop-again : tie.Need-loop-again Inv-loop μ-loop
-loop-again c = run-more (c .before .before .before .before .before .before .before .before .before .args .us .now) (c .before .before .before .before .loop .inv) (omega arith) (omega arith)
+loop-again c =
+    let l : tie.At-loop Inv-loop μ-loop = search in
+    let s : tie.Start Inv-loop μ-loop = search in
+    run-more (s .args .us .now) (l .loop .inv) (omega arith) (omega arith)
+
+loop-holds : tie.Need-loop-holds Inv-loop μ-loop
+loop-holds c = let s : tie.Start Inv-loop μ-loop = search in run-start (s .args .us .now) _ (omega arith) (rw (c .before .moving .ensures) at (c .if1 .left))
+
+returns-3 : tie.Need-returns-3 Inv-loop μ-loop
+returns-3 c = let s : tie.Start Inv-loop μ-loop = search in run-whole (s .args .us .now) (c .before .loop .inv) (omega arith)
 
 pub closing-from-spec : {M : Type 1} → statement M
 closing-from-spec =
-    let answers = tie.spec Inv-loop μ-loop (λ c. search needs) (λ c. search needs) (λ c. search needs) (λ c κs. search needs) returns
-    (λ c. run-start (c .before .before .before .before .args .us .now) _ (omega arith) (rw (c .before .moving .ensures) at (c .if1 .left))) (λ c. search needs) (λ c. search needs) (λ c. search needs) (λ c. search needs) (λ c. search needs)
-    returns-2 (λ c. search needs) loop-again (λ c. run-whole (c .before .before .before .before .before .before .args .us .now) (c .before .loop .inv) (omega arith)) in
+    let answers = tie.spec Inv-loop μ-loop (λ c. search needs) (λ c. search needs) (λ c. search needs) (λ c κs. search needs) returns loop-holds
+    (λ c. search needs)
+    (λ c. search needs) (λ c. search needs) (λ c. search needs) (λ c. search needs) returns-2 (λ c. search needs) loop-again returns-3 in
     tie.close answers

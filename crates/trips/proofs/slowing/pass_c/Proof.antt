@@ -1,6 +1,7 @@
--- `trips::slowing::pass_c` meets its contract. The loop's invariant: the slice is what pass C has made of it up to second j, which is in the closing run and not
--- the trip's first.
-use Rattle.rules.proofs.Offered.{ℕ, suc, _≤_, _<_, _+_, _-_, min, max, _≡_, refl, sym, _∙_, arith, List, length, length-set, le-leb, lt-leb, ⊎-elim, needs, at, pass, low, slowing, by-order}
+-- `trips::slowing::pass_c` meets its contract. The loop's invariant: the slice is what pass C has made of it up to second j, which is in the
+-- closing run and not the trip's first.
+use Rattle.rules.proofs.Offered.{ℕ, suc, _≤_, _<_, _+_, _-_, min, max, _≡_, refl, sym, _∙_, arith, List, length, length-set, le-leb, lt-leb, ⊎-elim, needs, at}
+use Rattle.rules.proofs.Offered.{pass, low, slowing, by-order}
 use Rattle.rules.specs.declared.Vehicle.{Vehicle}
 use Rattle.gears.proofs.Parts.{low-of}
 use Rattle.trips.specs.Trip.{RunFrom}
@@ -19,25 +20,27 @@ abbrev μ-loop : tie.MeasureT-loop
 μ-loop run hs gs₀ lowest j₀ gs j = length gs - j
 
 -- the trip's first second and those before the closing run stay
-stays : (car : Vehicle) (us hs gs : List ℕ) {run : ℕ} → length us ≡ suc (length hs) → RunFrom us run → (i : ℕ) → i < max run 1 → i < length hs → slowing car us hs i gs ≡ at gs i
+stays : (car : Vehicle) (us hs gs : List ℕ) {run : ℕ} → length us ≡ suc (length hs) → RunFrom us run → (i : ℕ) → i < max run 1 → i < length hs
+    → slowing car us hs i gs ≡ at gs i
 stays car us hs gs {run} n R i h l =
     by-order i run
     (λ b. slowing-open car us hs i gs (R .run i (omega arith) ∙ lt-leb run i b))
-    (λ b. let z : i ≡ 0 = omega arith in rw z (sym (slowing-first car us hs gs)))
+    (λ b. let z : i ≡ 0 = omega arith in rw z (sym (slowing-first .same car us hs gs)))
 
 -- the loop begins with the closing run, or past the trip's first second
-first-turn : (c : tie.Joined1 Inv-loop μ-loop) → c .if1 .j ≡ max (c .before .before .before .before .args .run) 1
-first-turn c = ⊎-elim (λ t. omega (arith, t .0 .taken, t .1)) (λ t. omega (arith, t .0 .left, t .1)) (c .if1 .came)
-
 loop-holds : tie.Need-loop-holds Inv-loop μ-loop
 loop-holds c =
     let s : tie.Start Inv-loop μ-loop = search in
     let a = s .args in
-    let from : c .if1 .j ≡ max (a .run) 1 = first-turn c in
-    (omega (arith, from), refl, λ car us o n R. sym (pass-skip (slowing car us (a .hs .now)) (a .gs .now) _ (λ i h. stays car us (a .hs .now) (a .gs .now) n R i (omega (arith, from)) (omega arith))))
+    let from : c .if1 .j ≡ max (a .run) 1 = ⊎-elim (λ t. omega (arith, t .0 .taken, t .1)) (λ t. omega (arith, t .0 .left, t .1)) (c .if1 .came) in (
+      omega (arith, from),
+      refl,
+      λ car us o n R. sym (pass-skip (slowing car us (a .hs .now)) (a .gs .now) _
+          (λ i h. stays car us (a .hs .now) (a .gs .now) n R i (omega (arith, from)) (omega arith))),
+    )
 
-slowing-at-requires : tie.Need-slowing-at-requires Inv-loop μ-loop
-slowing-at-requires c κs =
+slowed-requires : tie.Need-slowed-requires Inv-loop μ-loop
+slowed-requires c κs =
     let low : tie.After-lowest Inv-loop μ-loop = search in
     let s : tie.Start Inv-loop μ-loop = search in
     omega (arith, low .lowest .ensures, s .pre .0 .ng-to, s .pre .0 .low-to)
@@ -48,15 +51,17 @@ loop-again c =
     let s : tie.Start Inv-loop μ-loop = search in
     let a = s .args in
     let l = at-loop .loop in
-    let made : tie.After-slowing-at Inv-loop μ-loop = search in
+    let made : tie.After-slowed Inv-loop μ-loop = search in
     let n = length (a .hs .now) in
     let m : l .j < n = omega (arith, c, l .inv .1, s .pre .1 .gears) in
     let here : min (l .j) n ≡ l .j = omega (arith, m) in
     let on : min (l .j + 1) n ≡ l .j + 1 = omega (arith, m) in (
       omega (arith, l .inv .0),
       simp length-set (l .inv .1),
-      λ car us o z q. rw on (pass-more (slowing car us (a .hs .now)) (a .gs .now) (l .gs) (l .j) (made .slowing-at .result) (rw here at (l .inv .2 car us o z q))
-          (rw (slowing-is car us (a .hs .now) (l .j) (l .gs) (omega (arith, l .inv .0)) (q .run (l .j) (omega (arith, m)) ∙ le-leb (a .run) (l .j) (omega (arith, l .inv .0))), o) (made .slowing-at .ensures))),
+      λ car us o z q.
+          let closes = q .run (l .j) (omega (arith, m)) ∙ le-leb (a .run) (l .j) (omega (arith, l .inv .0)) in
+          rw on (pass-more (slowing car us (a .hs .now)) (a .gs .now) (l .gs) (l .j) (made .slowed .result) (rw here at (l .inv .2 car us o z q))
+          (rw (slowing-is car us (a .hs .now) (l .j) (l .gs) (omega (arith, l .inv .0)) closes, o) (made .slowed .ensures))),
     )
 
 returns : tie.Need-returns Inv-loop μ-loop
@@ -71,7 +76,8 @@ returns c =
 
 pub pass-c-spec : {M : Type 1} → statement M
 pass-c-spec =
-    let answers = tie.spec Inv-loop μ-loop (λ c κs. search needs) (λ c. let s : tie.Start Inv-loop μ-loop = search in let q = s .pre .0 in omega (arith, c .lowest .ensures, q .ng-to, q .low-to)) loop-holds (λ c. omega arith)
-    (λ c. let s : tie.Start Inv-loop μ-loop = search in omega (arith, c, s .pre .1 .gears)) slowing-at-requires (λ c. omega arith) (λ c. omega arith) (λ c. simp length-set (omega arith)) loop-again
-    (λ c. c .before .loop .inv .1) returns in
+    let answers = tie.spec Inv-loop μ-loop (λ c κs. search needs)
+    (λ c. let s : tie.Start Inv-loop μ-loop = search in omega (arith, c .lowest .ensures, s .pre .0 .ng-to, s .pre .0 .low-to)) loop-holds (λ c. omega arith)
+    (λ c. let s : tie.Start Inv-loop μ-loop = search in omega (arith, c, s .pre .1 .gears)) slowed-requires (λ c. omega arith) (λ c. omega arith)
+    (λ c. simp length-set (omega arith)) loop-again (λ c. c .before .loop .inv .1) returns in
     tie.close answers

@@ -1,18 +1,21 @@
 -- `trips::work::choice_at` meets its contract: what is handed on is what the second is, and D.
-use Rattle.rules.proofs.Offered.{arith, needs}
+use Rattle.rules.proofs.Offered.{_+_, _<_, arith, length, needs}
 use Rattle.trips.proofs.Clutch.{rise-here}
 use Rattle.trips.proofs.work.choice_at.Statement.{statement}
 use Rattle.trips.proofs.work.choice_at.Tie as tie
 
 choice-after-requires : tie.Need-choice-after-requires
 choice-after-requires c κs =
-    let s = c .before .before .before .before .before in
+    let s : tie.Start = search in
+    let a = s .args in
     let l = s .pre .2 in
-    (s .pre .0, record { v-to = s .pre .1 .speed (s .args .j) (l .inside); d-in = rw (← rise-here (s .args .us .now) (s .args .j) (omega (arith, l .speeds, l .inside))) (s .pre .1 .step (s .args .j) (l .inside)) }, s .pre .3)
+    let next : a .j + 1 < length (a .us .now) = omega (arith, l .speeds, l .inside) in
+    let pace = s .pre .1 in
+    (s .pre .0, record { v-to = pace .speed (a .j) (l .inside); d-in = rw (← rise-here (a .us .now) (a .j) next) (pace .step (a .j) (l .inside)) }, s .pre .3)
 
 returns : tie.Need-returns
 returns c =
-    let s = c .before .before .before .before .before .before in
+    let s : tie.Start = search in
     let a = s .args in
     let l = s .pre .2 in
     (λ car L. rw (rise-here (a .us .now) (a .j) (omega (arith, l .speeds, l .inside))) (c .choice-after .ensures .0 car L), c .choice-after .ensures .1)

@@ -10,17 +10,29 @@ engine-requires c κs =
     let d = c .before .before .before .pre in
     record { from = omega (arith, l); to = omega (arith, l, d .low-to, d .ng-to) }
 
+-- where no gear is held, the engine speed of the lowest against that of nmax
 returns-2 : tie.Need-returns-2
-returns-2 c = λ car H b d. first-none H b _ d _ (c .before .before .before .before .if1 .left) (c .before .before .before .lowest .ensures) (rw (c .before .before .top .ensures, c .before .engine .ensures) at (c .if2 .taken))
+returns-2 c =
+    let free : tie.Else1 = search in
+    let low : tie.After-lowest = search in
+    λ car H b d. first-none H b _ d _ (free .if1 .left) (low .lowest .ensures)
+    (rw (c .before .before .top .ensures, c .before .engine .ensures) at (c .if2 .taken))
 
 cast-result : tie.Need-cast-result
 cast-result c =
-    let l = c .before .before .before .lowest .ensures in
-    let d = c .before .before .before .before .before .pre in
-    omega (arith, l, d .low-to, d .ng-to)
+    let low : tie.After-lowest = search in
+    let s : tie.Start = search in
+    omega (arith, low .lowest .ensures, s .pre .low-to, s .pre .ng-to)
 
 returns-3 : tie.Need-returns-3
-returns-3 c = λ car H b d. first-one H b _ d _ (c .before .before .before .before .if1 .left) (c .before .before .before .lowest .ensures) (rw (c .before .before .top .ensures, c .before .engine .ensures) at (c .if2 .left))
+returns-3 c =
+    let free : tie.Else1 = search in
+    let low : tie.After-lowest = search in
+    λ car H b d. first-one H b _ d _ (free .if1 .left) (low .lowest .ensures)
+    (rw (c .before .before .top .ensures, c .before .engine .ensures) at (c .if2 .left))
 
 pub choice-first-spec : {M : Type 1} → statement M
-choice-first-spec = let answers = tie.spec (λ c. λ car H b d. first-held car _ d _ (c .if1 .taken)) (λ c κs. search needs) (λ c κs. search needs) engine-requires returns-2 cast-result returns-3 in tie.close answers
+choice-first-spec =
+    let answers = tie.spec (λ c. λ car H b d. first-held car _ d _ (c .if1 .taken)) (λ c κs. search needs) (λ c κs. search needs) engine-requires returns-2
+    cast-result returns-3 in
+    tie.close answers

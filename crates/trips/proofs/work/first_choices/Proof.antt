@@ -27,9 +27,14 @@ returns-2 c =
     let s : tie.Start = search in
     let a = s .args in
     let f = at-first .choice-first in
-    λ car L. at-later .later-choices .ensures car L (a .begins) (a .last) (a .gs .now) (and-no _ _ refl) (sym (getD-set-same (a .gs .now) 0 (f .result) 0 (at-begins .before .if1 .left)))
-    (pass-more (on-way car (a .us .now) (a .hs .now) (a .begins) (a .run) (a .last)) (a .gs .now) (a .gs .now) 0 (f .result) (pass-start _ _)
-    (way-begins car (a .us .now) (a .hs .now) (a .begins) (a .run) (a .last) (a .gs .now) (at-begins .if2 .taken) (f .ensures car (L .has) (L .bounds) (rise (a .us .now) 0))))
+    λ car L.
+    let begun = way-begins car (a .us .now) (a .hs .now) (a .begins) (a .run) (a .last) (a .gs .now) (at-begins .if2 .taken)
+    (f .ensures car (L .has) (L .bounds) (rise (a .us .now) 0)) in
+    at-later .later-choices .ensures car L (a .begins) (a .last) (a .gs .now) (record {
+      not-first = and-no _ _ refl;
+      last-is = sym (getD-set-same (a .gs .now) 0 (f .result) 0 (at-begins .before .if1 .left));
+      so-far = pass-more (on-way car (a .us .now) (a .hs .now) (a .begins) (a .run) (a .last)) (a .gs .now) (a .gs .now) 0 (f .result) (pass-start _ _) begun;
+    })
 
 returns-3 : tie.Need-returns-3
 returns-3 c =
@@ -37,11 +42,13 @@ returns-3 c =
     let at-goes : tie.Else2 = search in
     let s : tie.Start = search in
     let a = s .args in
-    λ car L. at-later .later-choices2 .ensures car L (a .begins) (a .last) (a .gs .now) (no-and (a .begins) true (at-goes .if2 .left)) refl (pass-start _ (a .gs .now))
+    λ car L. at-later .later-choices2 .ensures car L (a .begins) (a .last) (a .gs .now)
+    (record { not-first = no-and (a .begins) true (at-goes .if2 .left); last-is = refl; so-far = pass-start _ (a .gs .now) })
 
 pub first-choices-spec : {M : Type 1} → statement M
 first-choices-spec =
-    let answers = tie.spec returns (λ c. search needs) (λ c. search needs) (λ c κs. let s : tie.Start = search in gears-few (s .pre .0)) (λ c. search needs) later-choices-requires
+    let answers = tie.spec returns (λ c. search needs) (λ c. search needs) (λ c κs. let s : tie.Start = search in gears-few (s .pre .0)) (λ c. search needs)
+    later-choices-requires
     (λ c. let s : tie.Start = search in c .before .gs .given ∙ length-set (s .args .gs .now) 0 _) returns-2
     (λ c κs. let s : tie.Start = search in (s .pre .0, s .pre .1, s .pre .2, omega arith)) (λ c. search needs) returns-3 in
     tie.close answers

@@ -1,23 +1,18 @@
 -- `trips::work::later_choices` meets its contract. The loop's invariant: the slice holds the first choices up to second j.
-use Rattle.rules.proofs.Offered.{ℕ, _+_, _-_, _≤_, _<_, _≡_, refl, sym, ap, _∙_, arith, Bool, List, needs, length, length-set, getD-set-same, false, eqb, ne-eqb, if_then_else_, _and_, at, pass, and-no}
-use Rattle.trips.specs.Trip.{on-way}
+use Rattle.rules.proofs.Offered.{ℕ, _+_, _-_, _≤_, _<_, _≡_, refl, sym, ap, _∙_, arith, Bool, List, needs, length, length-set, getD-set-same, false, eqb}
+use Rattle.rules.proofs.Offered.{ne-eqb, pass, and-no}
+use Rattle.trips.specs.Trip.{on-way, WayTo}
 use Rattle.trips.proofs.Trip.{way-step, first-segment}
 use Rattle.trips.proofs.Passes.{pass-more}
-use Rattle.rules.specs.declared.Vehicle.{Vehicle}
-use Rattle.gears.specs.Parts.{Lent}
+use Rattle.gears.specs.Parts.{OfLent}
 use Rattle.trips.proofs.work.later_choices.Statement.{statement}
 use Rattle.trips.proofs.work.later_choices.Tie as tie
-
--- none of the seconds is the trip's first, `last` is the first choice before second j, and the slice holds those up to it
-pub record Way (car : Vehicle) (us hs : List ℕ) (run : ℕ) (begins : Bool) (before : ℕ) (base gs : List ℕ) (last j : ℕ) : Type 0 where
-  pub not-first : (begins and eqb j 0) ≡ false
-  pub last-is : last ≡ (if eqb j 0 then before else at gs (j - 1))
-  pub so-far : gs ≡ pass (on-way car us hs begins run before) j base
 
 abbrev Inv-loop : tie.InvT-loop
 Inv-loop k ratio n p us hs run last from gs₀ j₀ before₀ gs j before =
     (j ≤ length gs) × (length gs ≡ length gs₀) × (before .segment + 1 < k .points)
-    × ((car : Vehicle) → Lent car k ratio n p → (begins : Bool) (was : ℕ) (base : List ℕ) → Way car us hs run begins was base gs₀ (before₀ .gear) j₀ → Way car us hs run begins was base gs (before .gear) j)
+    × OfLent k ratio n p (λ car. (begins : Bool) (was : ℕ) (base : List ℕ) → WayTo car us hs run begins was base gs₀ (before₀ .gear) j₀
+    → WayTo car us hs run begins was base gs (before .gear) j)
 
 abbrev μ-loop : tie.MeasureT-loop
 μ-loop k ratio n p us hs run last from gs₀ j₀ before₀ gs j before = length gs - j
@@ -48,7 +43,8 @@ loop-again c =
         not-first = and-no _ _ y;
         last-is = rw (y, x) (sym (getD-set-same (l .gs) (l .j) (c .choice-at .result .gear) 0 (omega arith)));
         so-far = pass-more (on-way car (a .us .now) (a .hs .now) begins (a .run) was) base (l .gs) (l .j) (c .choice-at .result .gear) (w .so-far)
-            (way-step car (a .us .now) (a .hs .now) begins (a .run) was (l .before .gear) (l .j) (l .gs) (w .not-first) (w .last-is) (c .choice-at .ensures .0 car L));
+            (way-step car (a .us .now) (a .hs .now) begins (a .run) was (l .before .gear) (l .j) (l .gs) (w .not-first) (w .last-is)
+            (c .choice-at .ensures .0 car L));
       },
     )
 
@@ -58,7 +54,8 @@ returns c =
     let a = s .args in
     let l = c .before .loop in
     let e : l .j ≡ length (a .hs .now) = search needs in
-    λ car L begins was base f t d. l .inv .3 car L begins was base record { not-first = f; last-is = t; so-far = d } .so-far ∙ ap (λ (i : ℕ). pass (on-way car (a .us .now) (a .hs .now) begins (a .run) was) i base) e
+    λ car L begins was base w.
+    l .inv .3 car L begins was base w .so-far ∙ ap (λ (i : ℕ). pass (on-way car (a .us .now) (a .hs .now) begins (a .run) was) i base) e
 
 pub later-choices-spec : {M : Type 1} → statement M
 later-choices-spec =

@@ -5,4 +5,5 @@ use Rattle.writing.proofs.numbers.numbers_between.Tie as tie
 
 pub numbers-between-spec : {M : Type 1} → statement M
 unfolding parts-of
-numbers-between-spec = let answers = tie.spec (λ c κs. search needs) (λ c. rw (c .unsigned .ensures, toZ-ofZ (small-i32 (c .before .before .args .car .f1) (omega (arith, c .before .before .pre))))) in tie.close answers
+numbers-between-spec = let answers = tie.spec (λ c κs. search needs)
+    (λ c. rw (c .unsigned .ensures, toZ-ofZ (small-i32 (c .before .before .args .car .f1) (omega (arith, c .before .before .pre))))) in tie.close answers

@@ -14,7 +14,9 @@ at-least : (n : ℕ) (z : ℤ) → pos n ≡ z → T (nonNeg z)
 at-least n z e = rw (← e) tt
 
 cast-result : tie.Need-cast-result
-cast-result c = rw (toZ-ofZ (small (c .args .f1) (c .pre)), toZ-ofZ (sum (c .args .f1) (c .pre))) (at-least _ _ (shifted (c .args .f1) (c .pre) .0), omega (arith, shifted (c .args .f1) (c .pre) .1))
+cast-result c = rw (toZ-ofZ (small (c .args .f1) (c .pre)), toZ-ofZ (sum (c .args .f1) (c .pre)))
+    (at-least _ _ (shifted (c .args .f1) (c .pre) .0), omega (arith, shifted (c .args .f1) (c .pre) .1))
 
 pub unsigned-spec : {M : Type 1} → statement M
-unsigned-spec = let answers = tie.spec (λ c. rw (toZ-ofZ (small (c .args .f1) (c .pre))) (sum (c .args .f1) (c .pre))) cast-result (λ c. rw (toZ-ofZ (small (c .args .f1) (c .pre)), toZ-ofZ (sum (c .args .f1) (c .pre)))) in tie.close answers
+unsigned-spec = let answers = tie.spec (λ c. rw (toZ-ofZ (small (c .args .f1) (c .pre))) (sum (c .args .f1) (c .pre))) cast-result
+    (λ c. rw (toZ-ofZ (small (c .args .f1) (c .pre)), toZ-ofZ (sum (c .args .f1) (c .pre)))) in tie.close answers

@@ -13,7 +13,14 @@ put-group-requires c κs =
 put-values-requires : tie.Need-put-values-requires
 put-values-requires c κs =
     let s : tie.Start = search in
-    omega (arith, s .pre, c .before .before .before .put-group .ensures, length-append (form (s .args .count)) (values-bytes (s .args .values .now) (s .args .count)))
+    omega (
+      arith,
+      s .pre,
+      c .before .before .before .put-group .ensures,
+      length-append (form (s .args .count)) (values-bytes (s .args .values .now) (s .args .count)),
+    )
 
 pub put-counted-spec : {M : Type 1} → statement M
-put-counted-spec = let answers = tie.spec put-group-requires put-values-requires (λ c. search needs) (λ c. let at-put-group : tie.After-put-group = search in put-both (at-put-group .put-group .ensures) (c .before .before .put-values .ensures)) in tie.close answers
+put-counted-spec = let answers = tie.spec put-group-requires put-values-requires (λ c. search needs)
+    (λ c. let at-put-group : tie.After-put-group = search in put-both (at-put-group .put-group .ensures) (c .before .before .put-values .ensures)) in
+    tie.close answers

@@ -27,14 +27,18 @@ returns-3 c =
     let at-put-byte4 : tie.After-put-byte4 = search in
     let at-put-byte2 : tie.After-put-byte2 = search in
     let start : tie.Start = search in
-    rw (form-three (start .args .v) (omega arith)) (put-both (at-put-byte2 .put-byte2 .ensures) (put-both (at-put-byte4 .put-byte4 .ensures) (c .before .before .put-byte5 .ensures)))
+    rw (form-three (start .args .v) (omega arith))
+    (put-both (at-put-byte2 .put-byte2 .ensures) (put-both (at-put-byte4 .put-byte4 .ensures) (c .before .before .put-byte5 .ensures)))
 
 pub put-group-spec : {M : Type 1} → statement M
 put-group-spec =
     let answers = tie.spec (λ c. search needs)
     (λ c κs. omega (arith, form-size (c .before .before .before .args .v) .0))
-    (λ c. search needs) (λ c. let start : tie.Start = search in rw (form-one (start .args .v) (omega arith)) (c .before .before .put-byte .ensures)) (λ c. search needs) (λ c. search needs)
+    (λ c. search needs) (λ c. let start : tie.Start = search in rw (form-one (start .args .v) (omega arith)) (c .before .before .put-byte .ensures))
+    (λ c. search needs) (λ c. search needs)
     (λ c κs. omega (arith, form-size (c .before .before .before .args .v) .0))
-    (λ c. search needs) (λ c κs. let start : tie.Start = search in omega (arith, two (start .args .v) (omega arith) (omega arith))) (λ c. search needs) returns-2 (λ c. search needs) (λ c. search needs)
-    (λ c κs. let start : tie.Start = search in omega (arith, three (start .args .v) (omega arith))) (λ c. search needs) put-byte-requires-5 (λ c. search needs) returns-3 in
+    (λ c. search needs) (λ c κs. let start : tie.Start = search in omega (arith, two (start .args .v) (omega arith) (omega arith)))
+    (λ c. search needs) returns-2 (λ c. search needs) (λ c. search needs)
+    (λ c κs. let start : tie.Start = search in omega (arith, three (start .args .v) (omega arith))) (λ c. search needs) put-byte-requires-5
+    (λ c. search needs) returns-3 in
     tie.close answers

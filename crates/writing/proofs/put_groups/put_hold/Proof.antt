@@ -27,10 +27,12 @@ returns-2 c =
     let at-put-short : tie.After-put-short = search in
     let else1 : tie.Else1 = search in
     let s : tie.Start = search in
-    rw (a-hold (s .args .second) (s .args .gear) (else1 .if1 .left), form-one (s .args .gear) (s .pre .1)) (put-both (at-put-short .put-short .ensures) (c .before .before .put-byte .ensures))
+    rw (a-hold (s .args .second) (s .args .gear) (else1 .if1 .left), form-one (s .args .gear) (s .pre .1))
+    (put-both (at-put-short .put-short .ensures) (c .before .before .put-byte .ensures))
 
 pub put-hold-spec : {M : Type 1} → statement M
 put-hold-spec =
     let answers = tie.spec (λ c. rw (no-hold (c .before .before .args .second) (c .before .before .args .gear) (c .if1 .taken)) (put-none (omega arith)))
-    (λ c κs. let s = c .before .before .before in (s .pre .0, omega (arith, s .pre .2, size (s .args .second) (s .args .gear) (c .before .if1 .left)))) put-byte-requires (λ c. search needs) returns-2 in
+    (λ c κs. let s = c .before .before .before in (s .pre .0, omega (arith, s .pre .2, size (s .args .second) (s .args .gear) (c .before .if1 .left))))
+    put-byte-requires (λ c. search needs) returns-2 in
     tie.close answers

@@ -17,7 +17,9 @@ pub put-short-spec : {M : Type 1} → statement M
 put-short-spec =
     let answers = tie.spec (λ c. search needs)
     (λ c κs. omega (arith, form-size (c .before .before .before .args .v) .0))
-    (λ c. search needs) (λ c. let start : tie.Start = search in rw (form-one (start .args .v) (omega arith)) (c .before .before .put-byte .ensures)) (λ c. search needs) (λ c. search needs)
+    (λ c. search needs) (λ c. let start : tie.Start = search in rw (form-one (start .args .v) (omega arith)) (c .before .before .put-byte .ensures))
+    (λ c. search needs) (λ c. search needs)
     (λ c κs. omega (arith, form-size (c .before .before .before .args .v) .0))
-    (λ c. search needs) (λ c κs. let start : tie.Start = search in omega (arith, two (start .args .v) (omega arith) (omega arith))) (λ c. search needs) returns-2 in
+    (λ c. search needs) (λ c κs. let start : tie.Start = search in omega (arith, two (start .args .v) (omega arith) (omega arith)))
+    (λ c. search needs) returns-2 in
     tie.close answers

@@ -6,10 +6,12 @@ use Rattle.writing.proofs.put_groups.put_since.Statement.{statement}
 use Rattle.writing.proofs.put_groups.put_since.Tie as tie
 
 returns : tie.Need-returns
-returns c = let s = c .before .before in rw (since-early (s .args .first) (s .args .version) (s .args .v) (lt-leb _ _ (c .if1 .taken))) (put-none (omega (arith, s .pre)))
+returns c = let s = c .before .before in
+    rw (since-early (s .args .first) (s .args .version) (s .args .v) (lt-leb _ _ (c .if1 .taken))) (put-none (omega (arith, s .pre)))
 
 put-group-requires : tie.Need-put-group-requires
-put-group-requires c κs = let s = c .before .before .before in rw (since-late (s .args .first) (s .args .version) (s .args .v) (le-leb _ _ (c .before .if1 .left))) at (s .pre)
+put-group-requires c κs = let s = c .before .before .before in
+    rw (since-late (s .args .first) (s .args .version) (s .args .v) (le-leb _ _ (c .before .if1 .left))) at (s .pre)
 
 returns-2 : tie.Need-returns-2
 returns-2 c =

@@ -1,13 +1,13 @@
 -- `writing::put_groups::put_values` meets its contract. The loop's invariant: the bytes of the values that are left, put from here, make all.
 use Rattle.rules.proofs.Offered.{suc, _-_, _≤_, arith, add-one, needs, form, at}
 use Rattle.writing.specs.Writing.{values-bytes}
-use Rattle.reading.proofs.PutInTurn.{Left, fewer-left, has-space, none-left, said-as}
+use Rattle.reading.proofs.PutInTurn.{LeftToPut, fewer-left, has-space, none-left, said-as}
 use Rattle.writing.proofs.BytesLeft.{values-left, values-more, values-none, values-begin}
 use Rattle.writing.proofs.put_groups.put_values.Statement.{statement}
 use Rattle.writing.proofs.put_groups.put_values.Tie as tie
 
 abbrev Inv-loop : tie.InvT-loop
-Inv-loop room₀ at values count next₀ i₀ room next i = (i ≤ count) × Left room₀ at (values-bytes values count) room next (values-left values count i)
+Inv-loop room₀ at values count next₀ i₀ room next i = (i ≤ count) × LeftToPut room₀ at (values-bytes values count) room next (values-left values count i)
 
 abbrev μ-loop : tie.MeasureT-loop
 μ-loop room₀ at values count next₀ i₀ room next i = count - i

@@ -2,7 +2,7 @@
 use Rattle.rules.proofs.Offered.{ℕ, _+_, arith, List, _++_, needs, form, points-of, parts-of, vehicle}
 use Rattle.rules.specs.declared.Vehicle.{Vehicle}
 use Rattle.writing.specs.Writing.{values-bytes, since, points-bytes}
-use Rattle.reading.proofs.PutInTurn.{all-left, fewer-left, has-space, last-left, said-as}
+use Rattle.reading.proofs.PutInTurn.{LeftToPut, all-left, fewer-left, has-space, last-left, said-as}
 use Rattle.writing.proofs.Bytes.{vehicle-bytes, eight-long}
 use Rattle.writing.proofs.put_groups.put_vehicle.Statement.{statement}
 use Rattle.writing.proofs.put_groups.put_vehicle.Tie as tie
@@ -29,87 +29,90 @@ after-gears v car = eight car ++ after-eight v car
 abbrev after-crawler : ℕ → Vehicle → List ℕ
 after-crawler v car = gears car ++ after-gears v car
 
+-- ---- the way back from piece to piece, and what is left to put after each
+
+abbrev start : tie.After-put-since → tie.Start
+start c = c .before .before .before .before
+
+abbrev counted→since : tie.After-put-counted → tie.After-put-since
+counted→since c = c .before .before .before .before .before .before .before
+
+abbrev values→counted : tie.After-put-values → tie.After-put-counted
+values→counted c = c .before .before .before .before .before
+
+abbrev group→values : tie.After-put-group → tie.After-put-values
+group→values c = c .before .before .before .before
+
+-- of the whole vehicle, this is left, from here on, in the room as it is
+abbrev Rest : tie.Start → List ℕ → ℕ → List ℕ → Type 0
+Rest s room next left = let a = s .args in LeftToPut (a .room .now) (a .at) (vehicle (a .version) .write (a .t4)) room next left
+
+at-first : (s : tie.Start) → let a = s .args in Rest s (a .room .now) (a .at) (crawler (a .version) (a .t4) ++ after-crawler (a .version) (a .t4))
+at-first s = let a = s .args in said-as (vehicle-bytes (a .version) (a .t4)) (all-left (a .room .now) (a .at) _ (s .pre .1))
+
+after-profile : (c : tie.After-put-since) → let a = start c .args in
+    Rest (start c) (c .put-since .last .0) (c .put-since .result) (after-crawler (a .version) (a .t4))
+after-profile c = fewer-left (at-first (search)) (c .put-since .ensures)
+
+after-ratios : (c : tie.After-put-counted) → let s = start (counted→since c) in
+    Rest s (c .put-counted .last .0) (c .put-counted .result) (after-gears (s .args .version) (s .args .t4))
+after-ratios c = fewer-left (after-profile (search)) (c .put-counted .ensures)
+
+after-numbers : (c : tie.After-put-values) → let s = start (counted→since (values→counted c)) in
+    Rest s (c .put-values .last .0) (c .put-values .result) (after-eight (s .args .version) (s .args .t4))
+after-numbers c =
+    let g : tie.After-put-counted = search in
+    let n : tie.After-numbers-between = search in
+    fewer-left (after-ratios g) (rw (n .numbers-between .ensures) at (c .put-values .ensures))
+
+after-count : (c : tie.After-put-group) → let s = start (counted→since (values→counted (group→values c))) in
+    Rest s (c .put-group .last .0) (c .put-group .result) (points (s .args .version) (s .args .t4))
+after-count c = fewer-left (after-numbers (search)) (c .put-group .ensures)
+
+-- ---- what each call asks, and the return
+
 put-since-requires : tie.Need-put-since-requires
 put-since-requires c κs =
-    let s = c .before .before .before in
-    let v = s .args .version in
-    let car = s .args .t4 in
-    let l₀ = said-as (vehicle-bytes v car) (all-left (s .args .room .now) (s .args .at) (vehicle v .write car) (s .pre .1)) in
-    omega (arith, has-space (crawler v car) (after-crawler v car) l₀)
+    let s : tie.Start = search in
+    let a = s .args in
+    omega (arith, has-space (crawler (a .version) (a .t4)) (after-crawler (a .version) (a .t4)) (at-first s))
 
 put-counted-requires : tie.Need-put-counted-requires
 put-counted-requires c κs =
-    let at-put-since : tie.After-put-since = search in
+    let p : tie.After-put-since = search in
     let s : tie.Start = search in
-    let v = s .args .version in
     let car = s .args .t4 in
-    let l₀ = said-as (vehicle-bytes v car) (all-left (s .args .room .now) (s .args .at) (vehicle v .write car) (s .pre .1)) in
-    let l₁ = fewer-left l₀ (at-put-since .put-since .ensures) in
-    omega (arith, s .pre .0 .ng-to, has-space (gears car) (after-gears v car) l₁)
+    omega (arith, s .pre .0 .ng-to, has-space (gears car) (after-gears (s .args .version) car) (after-profile p))
 
 put-values-requires : tie.Need-put-values-requires
 put-values-requires c κs =
-    let at-put-counted : tie.After-put-counted = search in
-    let at-put-since : tie.After-put-since = search in
-    let at-numbers-between : tie.After-numbers-between = search in
+    let g : tie.After-put-counted = search in
+    let n : tie.After-numbers-between = search in
     let s : tie.Start = search in
-    let v = s .args .version in
     let car = s .args .t4 in
-    let l₀ = said-as (vehicle-bytes v car) (all-left (s .args .room .now) (s .args .at) (vehicle v .write car) (s .pre .1)) in
-    let l₁ = fewer-left l₀ (at-put-since .put-since .ensures) in
-    let l₂ = fewer-left l₁ (at-put-counted .put-counted .ensures) in
-    let r = at-numbers-between .numbers-between .ensures in
-    (rw r (omega (arith, eight-long car)), rw r (omega (arith, has-space (eight car) (after-eight v car) l₂)))
+    let r = n .numbers-between .ensures in
+    (rw r (omega (arith, eight-long car)), rw r (omega (arith, has-space (eight car) (after-eight (s .args .version) car) (after-ratios g))))
 
 put-group-requires : tie.Need-put-group-requires
 put-group-requires c κs =
-    let at-put-counted : tie.After-put-counted = search in
-    let at-put-since : tie.After-put-since = search in
-    let at-numbers-between : tie.After-numbers-between = search in
+    let n : tie.After-put-values = search in
+    let g : tie.After-put-counted = search in
     let s : tie.Start = search in
-    let v = s .args .version in
     let car = s .args .t4 in
-    let l₀ = said-as (vehicle-bytes v car) (all-left (s .args .room .now) (s .args .at) (vehicle v .write car) (s .pre .1)) in
-    let l₁ = fewer-left l₀ (at-put-since .put-since .ensures) in
-    let l₂ = fewer-left l₁ (at-put-counted .put-counted .ensures) in
-    let l₃ = fewer-left l₂ (rw (at-numbers-between .numbers-between .ensures) at (c .before .before .before .put-values .ensures)) in
-    omega (arith, has-space (form (car .points)) (points v car) l₃)
+    omega (arith, has-space (form (car .points)) (points (s .args .version) car) (after-numbers n))
 
 put-points-requires : tie.Need-put-points-requires
 put-points-requires c κs =
-    let at-room4 : tie.After-room4 = search in
-    let at-put-group : tie.After-put-group = search in
-    let at-put-values : tie.After-put-values = search in
-    let at-put-counted : tie.After-put-counted = search in
-    let at-put-since : tie.After-put-since = search in
-    let at-numbers-between : tie.After-numbers-between = search in
+    let k : tie.After-put-group = search in
+    let g : tie.After-put-counted = search in
     let s : tie.Start = search in
-    let v = s .args .version in
-    let car = s .args .t4 in
-    let l₀ = said-as (vehicle-bytes v car) (all-left (s .args .room .now) (s .args .at) (vehicle v .write car) (s .pre .1)) in
-    let l₁ = fewer-left l₀ (at-put-since .put-since .ensures) in
-    let l₂ = fewer-left l₁ (at-put-counted .put-counted .ensures) in
-    let l₃ = fewer-left l₂ (rw (at-numbers-between .numbers-between .ensures) at (at-put-values .put-values .ensures)) in
-    let l₄ = fewer-left l₃ (at-put-group .put-group .ensures) in
-    omega (arith, c, s .pre .0 .points-to, l₄ .fits)
+    omega (arith, c, s .pre .0 .points-to, after-count k .fits)
 
 returns : tie.Need-returns
 returns c =
-    let at-car2 : tie.After-car2 = search in
-    let at-put-group : tie.After-put-group = search in
-    let at-put-values : tie.After-put-values = search in
-    let at-put-counted : tie.After-put-counted = search in
-    let at-put-since : tie.After-put-since = search in
-    let at-numbers-between : tie.After-numbers-between = search in
-    let s : tie.Start = search in
-    let v = s .args .version in
-    let car = s .args .t4 in
-    let l₀ = said-as (vehicle-bytes v car) (all-left (s .args .room .now) (s .args .at) (vehicle v .write car) (s .pre .1)) in
-    let l₁ = fewer-left l₀ (at-put-since .put-since .ensures) in
-    let l₂ = fewer-left l₁ (at-put-counted .put-counted .ensures) in
-    let l₃ = fewer-left l₂ (rw (at-numbers-between .numbers-between .ensures) at (at-put-values .put-values .ensures)) in
-    let l₄ = fewer-left l₃ (at-put-group .put-group .ensures) in
-    last-left l₄ (c .before .before .put-points .ensures)
+    let r : tie.After-car2 = search in
+    let k : tie.After-put-group = search in
+    last-left (after-count k) (c .before .before .put-points .ensures)
 
 pub put-vehicle-spec : {M : Type 1} → statement M
 put-vehicle-spec =

@@ -17,5 +17,6 @@ returns-2 c =
 
 pub held-size-spec : {M : Type 1} → statement M
 held-size-spec =
-    let answers = tie.spec returns (λ c κs. omega (arith, c .before .before .pre .0 .seconds)) (λ c. search needs) (λ c. search needs) (λ c. search needs) returns-2 in
+    let answers = tie.spec returns (λ c κs. omega (arith, c .before .before .pre .0 .seconds)) (λ c. search needs) (λ c. search needs)
+    (λ c. search needs) returns-2 in
     tie.close answers

@@ -6,4 +6,5 @@ use Rattle.writing.proofs.sizes.one.Tie as tie
 
 pub one-spec : {M : Type 1} → statement M
 unfolding held-one
-one-spec = let answers = tie.spec (λ c. rw (eq-eqb (c .before .args .gear) 0 (c .if1 .taken))) (λ c. rw (ne-eqb (c .before .args .gear) 0 (c .if1 .left))) in tie.close answers
+one-spec = let answers = tie.spec (λ c. rw (eq-eqb (c .before .args .gear) 0 (c .if1 .taken))) (λ c. rw (ne-eqb (c .before .args .gear) 0 (c .if1 .left))) in
+    tie.close answers

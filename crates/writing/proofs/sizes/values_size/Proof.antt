@@ -26,8 +26,11 @@ loop-again c =
     let i = c₀ .loop .i in
     let v = at vs i in
     let e = ap length (values-more vs n i (omega arith)) in
-    let m = c₀ .loop .inv .2 .sum in
-    (omega arith, omega (arith, c .more .ensures, form-size v .1), rw add-one (record { sum = omega (arith, m, c .more .ensures, e, length-append (form v) (values-left vs n (suc i))) }))
+    let m = c₀ .loop .inv .2 .sum in (
+      omega arith,
+      omega (arith, c .more .ensures, form-size v .1),
+      rw add-one (record { sum = omega (arith, m, c .more .ensures, e, length-append (form v) (values-left vs n (suc i))) }),
+    )
 
 returns : tie.Need-returns Inv-loop μ-loop
 returns c =
@@ -37,6 +40,7 @@ returns c =
 
 pub values-size-spec : {M : Type 1} → statement M
 values-size-spec =
-    let answers = tie.spec Inv-loop μ-loop (λ c. (omega arith, omega arith, measured-none (values-all (c .before .args .values .now) (c .before .args .count)))) (λ c. search needs) (λ c. search needs) (λ c κs. search needs) add-extra
+    let answers = tie.spec Inv-loop μ-loop (λ c. (omega arith, omega arith, measured-none (values-all (c .before .args .values .now) (c .before .args .count))))
+    (λ c. search needs) (λ c. search needs) (λ c κs. search needs) add-extra
     (λ c. search needs) (λ c. search needs) loop-again (λ c. search needs) (λ c. search needs) returns in
     tie.close answers

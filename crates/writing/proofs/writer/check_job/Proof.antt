@@ -1,6 +1,6 @@
 -- `writing::writer::check_job` meets its contract: one law of `Checked` for each `return`.
 use Rattle.rules.proofs.Offered.{refl, sym, arith, needs}
-use Rattle.gears.specs.Parts.{Counts, Has}
+use Rattle.gears.specs.Parts.{Counts}
 use Rattle.checks.proofs.Rows.{Opened, spanned}
 use Rattle.writing.proofs.Checked.{job-told, told-opened, job-seconds}
 use Rattle.writing.proofs.writer.check_job.Statement.{statement}
@@ -16,7 +16,8 @@ numbers-of→start c = c .before .before .before .before .before .before
 opened-at : (p : tie.After-enum-told) → let s = (enum-told→start p) in Opened (s .args .t2) (s .args .speeds .now) (s .args .holds .now) (s .args .holds .now)
 opened-at p =
     let s : tie.Start = search in
-    told-opened (s .args .version) (s .args .t2) (s .args .speeds .now) (s .args .holds .now) (p .before .before .check-told .ensures _ _ refl refl) (p .enum-told .given .1)
+    told-opened (s .args .version) (s .args .t2) (s .args .speeds .now) (s .args .holds .now) (p .before .before .check-told .ensures _ _ refl refl)
+    (p .enum-told .given .1)
 
 -- the numbers are the vehicle's
 counts-at : (c : tie.After-numbers-of) → Counts ((numbers-of→start c) .args .t2) (c .numbers-of .result)
@@ -25,13 +26,15 @@ counts-at c = record { numbers = sym (c .numbers-of .ensures) }
 returns : tie.Need-returns
 returns c =
     let s : tie.Start = search in
-    job-told (s .args .version) (s .args .t2) (s .args .speeds .now) (s .args .holds .now) (c .before .before .check-told .ensures _ _ refl refl) (c .enum-told2 .given .1)
+    job-told (s .args .version) (s .args .t2) (s .args .speeds .now) (s .args .holds .now) (c .before .before .check-told .ensures _ _ refl refl)
+    (c .enum-told2 .given .1)
 
 returns-2 : tie.Need-returns-2
 returns-2 c =
     let p : tie.After-enum-told = search in
-    let s = p .before .before .before .before .before in
-    job-seconds (s .args .version) (s .args .t2) (s .args .speeds .now) (s .args .holds .now) (p .before .before .check-told .ensures _ _ refl refl) (p .enum-told .given .1) 0 0 _
+    let s : tie.Start = search in
+    job-seconds (s .args .version) (s .args .t2) (s .args .speeds .now) (s .args .holds .now) (p .before .before .check-told .ensures _ _ refl refl)
+    (p .enum-told .given .1) 0 0 _
     (c .check-seconds .ensures _ (record { counts = counts-at (c .before .before .before); ratios = refl }))
 
 pub check-job-spec : {M : Type 1} → statement M

@@ -35,7 +35,8 @@ put-job-requires c κs =
     let s : tie.Start = search in
     let vs = s .args .speeds .now in
     let hs = s .args .holds .now in
-    let e = rw (c .before .before .before .hold-sizes .ensures .0, c .before .before .before .hold-sizes .ensures .1) at (c .before .before .job-size .ensures) in
+    let e = rw (c .before .before .before .hold-sizes .ensures .0, c .before .before .before .hold-sizes .ensures .1) at (c .before .before .job-size .ensures)
+    in
     let m = job-length (s .args .version) (s .args .vehicle) vs hs (within-hi 1 3 _ (writable (s .args .version) (s .args .vehicle) vs hs (s .pre) .known)) in
     (s .pre, c .before .before .before .hold-sizes .ensures .0, omega (arith, e, m))
 

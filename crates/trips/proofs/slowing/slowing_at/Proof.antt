@@ -1,8 +1,0 @@
--- `trips::slowing::slowing_at` meets its contract, by one law of pass C for each return.
-use Rattle.rules.proofs.Offered.{needs}
-use Rattle.trips.proofs.Seconds.{slowed-other, slowed-still, slowed-up}
-use Rattle.trips.proofs.slowing.slowing_at.Statement.{statement}
-use Rattle.trips.proofs.slowing.slowing_at.Tie as tie
-
-pub slowing-at-spec : {M : Type 1} → statement M
-slowing-at-spec = let answers = tie.spec (λ c. slowed-other _ _ _ (c .if1 .taken)) (λ c. slowed-still _ _ _ (c .if2 .taken)) (λ c. search needs) (λ c. slowed-up _ _ _ (c .if2 .left) (c .before .if1 .left)) in tie.close answers
