@@ -20,20 +20,21 @@ def own() -> Path:
     return kit() / "on" / platform.machine()
 
 
-def words(verb: str, name: str, crate: Path, rlibs: Path, uses: dict[str, list[str]]) -> list:
+def words(verb: str, name: str, crate: Path, rlibs: Path, uses: dict[str, list[str]]) -> list[str | Path]:
     """rattle VERB on the crate in that folder, over the libraries in that other one."""
-    said = [own() / "bin/rattle", verb, "--crate-name", name, crates.root_of(crate), "--extern", f"std={own()}/rlib/std.rlib"]
+    said: list[str | Path] = [own() / "bin/rattle", verb, "--crate-name", name, crates.root_of(crate), "--extern", f"std={own()}/rlib/std.rlib"]
     for below in uses[name]:
         said += ["--extern", f"{below}={rlibs if below in uses else own() / 'rlib'}/{below}.rlib"]
     said += ["-L", f"dependency={rlibs}", "-L", f"dependency={own()}/rlib"]
     return said + ["--antt-project", kit() / "logic/antt-project.json", "--logic-built", own() / "logic-built"]
 
 
-def run(said: list) -> tuple[int, str, float]:
+def run(said: list[str | Path]) -> tuple[int, str, float]:
     """Status, what was printed, whole, and seconds of processor time."""
     done = subprocess.Popen(said, stdin=subprocess.DEVNULL, stdout=subprocess.PIPE, stderr=subprocess.STDOUT)
-    printed = done.stdout.read().decode(errors="replace")
-    done.stdout.close()
+    assert done.stdout is not None
+    with done.stdout:
+        printed = done.stdout.read().decode(errors="replace")
     _, status, usage = os.wait4(done.pid, 0)
     done.returncode = os.waitstatus_to_exitcode(status)
     return done.returncode, printed, usage.ru_utime + usage.ru_stime

@@ -1,12 +1,13 @@
 /* The C library behind a pipe: takes requests from standard input, calls the function asked for, and answers on standard output. So one program compares the
    library of every processor. The other end is src/library.rs; driver.mjs is the same for WebAssembly.
 
-   A request: kind (u32), gear (u32), second (u64), the vehicle's fields in order, the summary's counts in order (u16 each); for the speeds, the holds and the third slice (the job where kind
-   is READ, the export where it is EXPORT, the room where it is WRITE, else the card) the number of elements of the guard before it, of the slice and of the guard after it (u32 each);
-   then the elements of the three, guards included. An answer: number (u32), place (u64); where kind is READ the version (u16), the vehicle's fields and the count (u64), where
-   it is EXPORT F0, F1, F2 and TM, where it is WRITE the length (u64), where it is HOLD, RELEASE, MEND or SUMMARY the summary, where it is WHY the fields of the reasons in order; then the elements again. Where kind is CYCLE or CYCLE_PART the second is the part's number and the speeds are the room;
-   CYCLE_PART answers the count as number and the first second as place. Where kind is DOWNSCALE the second is the factor, where it is MEND the gear is the
-   speed, where it is WRITE the version. All little-endian, as the processors are.
+   A request: kind (u32), gear (u32), second (u64), the vehicle's fields in order, the summary's counts in order (u16 each); for the speeds, the holds and the
+   third slice (the job where kind is READ, the export where it is EXPORT, the room where it is WRITE, else the card) the number of elements of the guard
+   before it, of the slice and of the guard after it (u32 each); then the elements of the three, guards included. An answer: number (u32), place (u64); where
+   kind is READ the version (u16), the vehicle's fields and the count (u64), where it is EXPORT F0, F1, F2 and TM, where it is WRITE the length (u64), where
+   it is HOLD, RELEASE, MEND or SUMMARY the summary, where it is WHY the fields of the reasons in order; then the elements again. Where kind is CYCLE or
+   CYCLE_PART the second is the part's number and the speeds are the room; CYCLE_PART answers the count as number and the first second as place. Where kind is
+   DOWNSCALE the second is the factor, where it is MEND the gear is the speed, where it is WRITE the version. All little-endian, as the processors are.
    Exit 0 at the end of the requests, 2 where one is cut or past the limits here. */
 #include "gearcard.h"
 

@@ -1,5 +1,5 @@
-//! `gearcard_downscale` for every factor, against Annex 1 of document 000 ("Downscaling procedure for Class 3 vehicles") step by step in fractions in lowest terms, and the
-//! refusals of document 02, request Eleven.
+//! `gearcard_downscale` for every factor, against Annex 1 of document 000 ("Downscaling procedure for Class 3 vehicles") step by step in fractions in lowest
+//! terms, and the refusals of document 02, request Eleven.
 
 use crate::cycles;
 use crate::library::{Library, Loan};

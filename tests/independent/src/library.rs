@@ -177,7 +177,8 @@ impl Loan {
         Finished { vehicle, speeds: self.speeds.content(), holds: self.holds.content(), card: self.third.content() }
     }
 
-    /// What an edit of this leaves of a summary, `after` being the trace and the card that it leaves, or none where it is refused. And the paper against itself: a right summary stays right.
+    /// What an edit of this leaves of a summary, `after` being the trace and the card that it leaves, or none where it
+    /// is refused. And the paper against itself: a right summary stays right.
     fn kept(&self, was: Summary, after: Option<Shown>) -> Result<Summary, String> {
         let before = Shown { speeds: self.speeds.content(), card: self.third.content() };
         let Some(after) = after else {

@@ -1,10 +1,15 @@
-//! Compares the gear card library with a working of its own, written from docs/01-scope.md and requests One, Five, Eight and Nine of document 02 alone; margins and versions from request Six.
+//! Compares the gear card library with a working of its own, written from docs/01-scope.md and requests One, Five,
+//! Eight and Nine of document 02 alone; margins and versions from request Six.
 //!
-//!   independent [--seed S] [--cases N] [--cycles DIR] -- DRIVER..    the cycles of DIR, the built-in and the scaled cycle, the long traces, then N cases of each kind (read, work, hold, release, export, write, mend, summary, why)
+//!   independent [--seed S] [--cases N] [--cycles DIR] -- DRIVER..    the cycles of DIR, the built-in and the scaled cycle, the long traces, then N cases
+//!   of each kind (read, work, hold, release, export, write, mend, summary, why)
 //!   with --class-3 FILE: that job must have the speeds of the built-in cycle
+//!   with --few: not everything that can happen must be met
 //!   with --threads N: so many, each with a driver of its own, where else there is one for each processor; the cases and the counts are the same
 //!   independent [--seed S] --case KIND I -- DRIVER..                 one case again (KIND as above)
+//!   independent [--seed S] --cycles DIR --only cycles -- DRIVER..    the built-in and the scaled cycle alone
 //!   independent --job FILE                                           what the card program would print of a job, from the reference alone
+//!   independent --table FILE                                         what `./gearcard table --csv` would print of it
 
 mod builtin;
 mod cases;
@@ -18,10 +23,12 @@ mod library;
 mod long;
 mod paper;
 mod parts;
+mod rare;
 mod revs;
 mod rng;
 mod summary;
 mod sums;
+mod tables;
 mod traces;
 mod vehicle;
 mod vehicles;
@@ -58,6 +65,10 @@ struct Options {
     case: Option<(usize, u64)>,
     cycles: Option<String>,
     class_3: Option<String>,
+    /// The built-in and the scaled cycle alone.
+    only_cycles: bool,
+    /// Not everything that can happen must be met.
+    few: bool,
     threads: usize,
 }
 
@@ -65,7 +76,10 @@ fn main() {
     let words: Vec<String> = std::env::args().skip(1).collect();
     if let [option, file] = &words[..] {
         if option == "--job" {
-            return print_job(file);
+            return print_of(file, paper::printed);
+        }
+        if option == "--table" {
+            return print_of(file, tables::printed);
         }
     }
     let Some(split) = words.iter().position(|word| word == "--") else { usage() };
@@ -76,6 +90,7 @@ fn main() {
     }
     let outcome = match options.case {
         Some((kind, index)) => Library::start(driver).and_then(|library| one_case(library, options.seed, kind, index)),
+        None if options.only_cycles => Library::start(driver).and_then(|library| cycles_alone(library, &options)),
         None => run(driver, &options),
     };
     if let Err(why) = outcome {
@@ -85,13 +100,14 @@ fn main() {
 }
 
 fn usage() -> ! {
-    eprintln!("use: [--seed S] [--cases N] [--cycles DIR [--class-3 FILE]] [--threads N] -- DRIVER.. | [--seed S] --case KIND I -- DRIVER.. | --job FILE");
+    eprintln!("use: [--seed S] [--cases N] [--cycles DIR [--class-3 FILE] [--only cycles]] [--few] [--threads N] -- DRIVER..");
+    eprintln!("     [--seed S] --case KIND I -- DRIVER.. | --job FILE | --table FILE");
     exit(2)
 }
 
 fn options(words: &[String]) -> Options {
     let threads = thread::available_parallelism().map_or(1, |count| count.get());
-    let mut options = Options { seed: DEFAULT_SEED, cases: DEFAULT_CASES, case: None, cycles: None, class_3: None, threads };
+    let mut options = Options { seed: DEFAULT_SEED, cases: DEFAULT_CASES, case: None, cycles: None, class_3: None, only_cycles: false, few: false, threads };
     let mut words = words.iter().map(String::as_str);
     while let Some(option) = words.next() {
         let mut value = || words.next().unwrap_or_else(|| usage());
@@ -100,6 +116,8 @@ fn options(words: &[String]) -> Options {
             "--cases" => options.cases = number(value()),
             "--cycles" => options.cycles = Some(String::from(value())),
             "--class-3" => options.class_3 = Some(String::from(value())),
+            "--only" if value() == "cycles" => options.only_cycles = true,
+            "--few" => options.few = true,
             "--threads" => options.threads = number(value()).clamp(1, 64) as usize,
             "--case" => options.case = Some((kind(value()), number(value()))),
             _ => usage(),
@@ -116,9 +134,9 @@ fn kind(word: &str) -> usize {
     cases::KINDS.iter().position(|name| *name == word).unwrap_or_else(|| usage())
 }
 
-fn print_job(file: &str) {
+fn print_of(file: &str, printed: fn(&[u8]) -> String) {
     match std::fs::read(file) {
-        Ok(bytes) => print!("{}", paper::printed(&bytes)),
+        Ok(bytes) => print!("{}", printed(&bytes)),
         Err(why) => {
             eprintln!("{file}: {why}");
             exit(2)
@@ -129,6 +147,11 @@ fn print_job(file: &str) {
 fn one_case(mut library: Library, seed: u64, kind: usize, index: u64) -> Result<(), String> {
     let met = cases::run(&mut library, seed, kind, index)?;
     println!("agreed, answer {}", met.number);
+    library.end()
+}
+
+fn cycles_alone(mut library: Library, options: &Options) -> Result<(), String> {
+    filled(&mut library, options)?;
     library.end()
 }
 
@@ -145,17 +168,27 @@ fn run(driver: &[String], options: &Options) -> Result<(), String> {
     events::print();
     print_counts(&tally.met);
     print_profiles(&tally);
+    if options.few {
+        return Ok(());
+    }
     why::all_met()?;
     all_met(&tally)
 }
 
 /// What is driven whole, or filled, before the cases.
 fn opening(library: &mut Library, options: &Options) -> Result<(), String> {
+    rare::run(library, options.seed)?;
     let Some(dir) = options.cycles.as_deref().map(Path::new) else { return Ok(()) };
     drives::run(library, options.seed, dir)?;
-    builtin::run(library, options.seed, dir, options.class_3.as_deref().map(Path::new))?;
-    downscale::run(library, options.seed, dir)?;
+    filled(library, options)?;
     long::run(library, options.seed, dir)
+}
+
+/// The built-in and the scaled cycle.
+fn filled(library: &mut Library, options: &Options) -> Result<(), String> {
+    let Some(dir) = options.cycles.as_deref().map(Path::new) else { usage() };
+    builtin::run(library, options.seed, dir, options.class_3.as_deref().map(Path::new))?;
+    downscale::run(library, options.seed, dir)
 }
 
 fn print_counts(met: &Counts) {

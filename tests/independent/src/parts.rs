@@ -1,5 +1,5 @@
-//! A run in parts, which threads take one after the other, each with a driver of its own: which cases are run, what is counted and which difference is told do not
-//! hang on how many threads there are.
+//! A run in parts, which threads take one after the other, each with a driver of its own: which cases are run, what is counted and which difference is told
+//! do not hang on how many threads there are.
 
 use crate::cases::{self, Met};
 use crate::events;
@@ -25,7 +25,12 @@ pub struct Tally {
 
 impl Tally {
     fn new() -> Tally {
-        Tally { met: [[0; 23]; cases::KINDS.len()], profiles: [[0; cases::KINDS.len()]; 3], vans: [0; cases::KINDS.len()], spent: [Duration::ZERO; cases::KINDS.len()] }
+        Tally {
+            met: [[0; 23]; cases::KINDS.len()],
+            profiles: [[0; cases::KINDS.len()]; 3],
+            vans: [0; cases::KINDS.len()],
+            spent: [Duration::ZERO; cases::KINDS.len()],
+        }
     }
 
     fn add(&mut self, other: &Tally) {

@@ -2,6 +2,7 @@
 
 use crate::jobs;
 use crate::paper::{self, Lies, Trip, LIES};
+use crate::rare;
 use crate::summary::{self, Shown, Summary};
 use crate::vehicle::{car_z, with_crawler, without_crawler, Vehicle};
 
@@ -14,6 +15,7 @@ pub fn check() {
     written();
     vans();
     summaries();
+    rare::check();
 }
 
 /// Request Thirteen: car Z with a crawler of 200 min^-1 per km/h.
@@ -41,7 +43,10 @@ fn vans() {
     assert!(paper::read(&bytes, 5, 5).is_ok_and(|job| job.version == 3 && job.vehicle == van));
     assert_eq!([1, 2].map(|version| paper::write(version, &van, &speeds, &[0; 5], 80)), [Err((3, 1)), Err((3, 1))]);
     let refusal = |bytes: &[u8]| paper::read(bytes, 9, 9).err();
-    assert_eq!([refusal(&[3]), refusal(&[3, 2]), refusal(&[3, 1, 2]), refusal(&[3, 0, 2]), refusal(&[3, 1, 3])], [Some((12, 1)), Some((3, 1)), Some((3, 1)), Some((12, 3)), Some((12, 3))]);
+    assert_eq!(
+        [refusal(&[3]), refusal(&[3, 2]), refusal(&[3, 1, 2]), refusal(&[3, 0, 2]), refusal(&[3, 1, 3])],
+        [Some((12, 1)), Some((3, 1)), Some((3, 1)), Some((12, 3)), Some((12, 3))]
+    );
 }
 
 fn one_second() {

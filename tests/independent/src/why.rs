@@ -82,7 +82,7 @@ fn told(v: &Vehicle, speeds: &[u16], holds: &[u8], second: usize, kind: u8, abou
     let wanting = chosen.iter().position(|gear| *gear == 0).map(|k| (10, trip.first + k));
     let opens = about == trip.first;
     let before = if opens { None } else { Some(chosen[about - 1 - trip.first]) };
-    let lies = if opens { Lies::Elsewhere } else { paper::lies(v, speeds, about, before) };
+    let lies = paper::lies(v, speeds, about, before);
     let required = paper::required(v, speeds[about], paper::change(speeds, about));
     let gears: [Gear; 10] = std::array::from_fn(|k| gear_at(v, k as u8 + 1, speeds[about], required, opens, lies));
     let choice = chosen[about - trip.first];
@@ -143,7 +143,7 @@ fn gear_at(v: &Vehicle, gear: u8, speed: u16, required: i128, opens: bool, lies:
         minimum: minimum as u32,
         rule,
         allowed: (is_lowest || !opens) as u8,
-        over_minimum: (is_lowest || x >= 1000 * minimum) as u8,
+        over_minimum: (x >= 1000 * minimum) as u8,
         under_nmax: under as u8,
         fits: paper::fits(v, gear, speed, opens, lies) as u8,
         enough: (under && q * 3_240_000 >= required * w) as u8,
@@ -180,7 +180,7 @@ fn corrected(v: &Vehicle, speeds: &[u16], holds: &[u8], second: usize, trip: Tri
 
 // ---------------------------------------------------------------- each reason met and counted
 
-const NAMES: [&str; 22] = [
+const NAMES: [&str; 24] = [
     "standing, before a trip",
     "moving",
     "role: the trip's first second",
@@ -203,6 +203,8 @@ const NAMES: [&str; 22] = [
     "clutch: D above 0",
     "clutch: X at least idle",
     "clutch down while moving",
+    "minimum: idle, at a first second in the closing run",
+    "the lowest gear fits below its minimum",
 ];
 
 static COUNTS: [AtomicU64; NAMES.len()] = [const { AtomicU64::new(0) }; NAMES.len()];
@@ -211,6 +213,8 @@ fn note(reasons: &Reasons) {
     let mut met = vec![reasons.kind as usize - 1, reasons.role as usize + 1, reasons.sentence as usize + 5];
     met.extend(reasons.gears.iter().filter(|gear| gear.rule != 0).map(|gear| gear.rule as usize + 10));
     met.dedup();
+    met.extend((reasons.role == 1 && reasons.gears.iter().any(|gear| gear.rule == 3)).then_some(22));
+    met.extend(reasons.gears.iter().any(|gear| gear.fits == 1 && gear.over_minimum == 0).then_some(23));
     if reasons.byte != 0 {
         let steps = [reasons.choice, reasons.after_a, reasons.after_b, reasons.after_c];
         met.extend((0..3).filter(|&k| steps[k] != steps[k + 1]).map(|k| 16 + k));
