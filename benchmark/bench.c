@@ -156,10 +156,10 @@ static const struct {
 } sides[3] = {{gearcard_work, gearcard_hold, gearcard_release, gearcard_mend, gearcard_summary_of, gearcard_read, gearcard_write, gearcard_cycle,
                gearcard_downscale, gearcard_export},
               {twin_work, twin_hold, twin_release, twin_mend, twin_summary_of, twin_read, twin_write, twin_cycle, twin_downscale, twin_export},
-              {hints_work, hints_hold, hints_release, hints_mend}};
+              {hints_work, hints_hold, hints_release, hints_mend, NULL, hints_read, NULL, NULL, NULL, NULL}};
 static enum side last_twin(void) { return hints_work ? HINTS : TWIN; }
 static int is_edit(const case_t *c) { return c->kind == HOLD || c->kind == AGAIN || c->kind == RELEASE || c->kind == MEND; }
-static int has_hints(const case_t *c) { return last_twin() == HINTS && (c->kind == WORK || is_edit(c)); }
+static int has_hints(const case_t *c) { return last_twin() == HINTS && (c->kind == WORK || c->kind == READ || is_edit(c)); }
 static int has_bare(const case_t *c) { return c->kind == HOLD || c->kind == MEND; }
 
 static uint16_t room_v[ROOM];
@@ -326,10 +326,15 @@ static uint32_t same_count(const uint16_t *v, size_t n, const uint8_t *card, siz
 static uint32_t same_read(const uint8_t *s, size_t len, size_t rs, size_t rh) {
   static uint16_t v1[ROOM + 64], v2[ROOM + 64];
   static uint8_t h1[ROOM + 64], h2[ROOM + 64];
-  memset(v1, 0xa5, sizeof v1), memset(v2, 0xa5, sizeof v2), memset(h1, 0xa5, sizeof h1), memset(h2, 0xa5, sizeof h2);
-  job_t a = gearcard_read(s, len, v1, rs, h1, rh), b = twin_read(s, len, v2, rs, h2, rh);
-  if (a.version != b.version || !same_car(&a.vehicle, &b.vehicle) || a.count != b.count || memcmp(v1, v2, sizeof v1) || memcmp(h1, h2, sizeof h1)) stop("read: bytes differ");
-  same_verdict("read", a.verdict, b.verdict);
+  memset(v1, 0xa5, sizeof v1), memset(h1, 0xa5, sizeof h1);
+  job_t a = gearcard_read(s, len, v1, rs, h1, rh);
+  for (enum side t = TWIN; t <= last_twin(); t++) {
+    memset(v2, 0xa5, sizeof v2), memset(h2, 0xa5, sizeof h2);
+    job_t b = sides[t].read(s, len, v2, rs, h2, rh);
+    same_verdict("read", a.verdict, b.verdict);
+    if (a.version != b.version || !same_car(&a.vehicle, &b.vehicle) || a.count != b.count) stop("read: answers differ");
+    if (memcmp(v1, v2, sizeof v1) || memcmp(h1, h2, sizeof h1)) stop("read: bytes differ");
+  }
   return told(a.verdict);
 }
 
@@ -433,7 +438,12 @@ static void random_checks(long rounds) {
     for (int k = 0; k < 6; k++) { /* a little more or less, at rest, as a neighbour, or anything */
       size_t second = rnd((uint32_t)n + (rnd(8) == 0));
       uint16_t now = second < n ? v[second] : 0;
-      uint32_t how = rnd(8), speed = how < 3 ? now + rnd(40) : how < 5 ? rnd(16) : how < 6 ? (uint32_t)v[second ? second - 1 : 0] + rnd(20) : how < 7 ? now : rnd(2200);
+      uint32_t how = rnd(8);
+      uint32_t speed = how < 3   ? now + rnd(40)
+                       : how < 5 ? rnd(16)
+                       : how < 6 ? (uint32_t)v[second ? second - 1 : 0] + rnd(20)
+                       : how < 7 ? now
+                                 : rnd(2200);
       same_edit(MEND, &car, v, n, h, card, second, (uint16_t)speed);
     }
     if (no == 0) { /* the quick way gave what the whole working gives */
@@ -796,7 +806,7 @@ int main(int argc, char **argv) {
     case_t *c = named(argv[3]);
     enum side side = !strcmp(argv[4], "lib") ? LIB : !strcmp(argv[4], "twin") ? TWIN : !strcmp(argv[4], "hints") ? HINTS : BARE;
     if (side == BARE && !has_bare(c)) stop("only a hold or a mended sample is bare");
-    if (side == HINTS && !has_hints(c)) stop("only a working or an edit has a second twin, where that is linked");
+    if (side == HINTS && !has_hints(c)) stop("only a working, an edit or a reading has a second twin, where that is linked");
     call(c, side, atol(argv[5]));
     return 0;
   }
@@ -828,7 +838,8 @@ int main(int argc, char **argv) {
   random_checks(6000);
   export_checks(6000);
   filled_checks();
-  printf("same bytes on 6000 random cars and traces (work, writes, summaries, 6 holds, 6 mended samples, reads each), 6000 random exports, every factor and part;");
+  printf("same bytes on 6000 random cars and traces (work, writes, summaries, 6 holds, 6 mended samples, reads each), 6000 random "
+         "exports, every factor and part;");
   printf(" answers by number:");
   for (int i = 0; i < 24; i++) printf(" %d:%ld", i, numbers[i]);
   printf("; counts brought to 0: %ld, to 65535: %ld\n", stops[0], stops[1]);

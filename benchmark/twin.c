@@ -9,14 +9,15 @@
    - first choice, passes A and B and the bytes in one loop over a trip, the gears of the seconds before in registers; pass C on the tail after it;
    - braking (E at most 0) asks for no power, so nothing is looked up; most power is kept along on the way down, so there is no second loop;
    - a summary is brought up to date from the first to the last second that changed: the bytes before are kept aside, and most of a span's stay the same;
-   - a job is parsed once, into buffers, copied when all of it has passed;
+   - a job is parsed twice, for its faults and then into the rooms: nothing is written before the last check, and no array is as long as a trace;
    - a job that is written passes the same quick look; its speeds, which are then at most 2,000, are measured and put without a branch.
 
    To see what each of these is worth, they can be left out one by one at compile time, for the plain way in C: PLAIN_CHECK (each second
    judged in full), PLAIN_CHOOSE (each gear from the top by products; a second loop for most power; no short way when braking), PLAIN_PASSES
-   (first choices, A, B, C and bytes as five loops), PLAIN_READ (the job parsed twice).
+   (first choices, A, B, C and bytes as five loops).
 
-   This twin is the fixed mark. With HINTS it is the second one, whose way to a first choice is in hints.h; all else is this file's. */
+   This twin is the fixed mark. With HINTS it is the second one, whose way to a first choice is in hints.h, and which parses a job once, into arrays as long as
+   the longest trace, copied when all of it has passed; all else is this file's. */
 #include "twin.h"
 #include <string.h>
 
@@ -468,7 +469,8 @@ enum { STANDING = 16, CHANGES, COUNTS };
 
 /* Counts the seconds of [lo, hi), and the changes with a second of them on either side, each as often as sign says. The card's bytes are given from
    second `from` on; the speed of one second, where that is in the trace, is taken as `speed`. */
-INLINE void count(int32_t *counts, const uint16_t *v, size_t n, size_t second, uint16_t speed, const uint8_t *card, size_t from, size_t lo, size_t hi, int32_t sign) {
+INLINE void count(int32_t *counts, const uint16_t *v, size_t n, size_t second, uint16_t speed, const uint8_t *card, size_t from, size_t lo,
+                  size_t hi, int32_t sign) {
   unsigned last = 255; /* the gear before, where it was moving */
   for (size_t i = lo ? lo - 1 : 0; i < n && i <= hi; i++) {
     uint16_t x = i == second ? speed : v[i];
@@ -497,9 +499,10 @@ INLINE size_t aside(uint8_t *old, const uint8_t *card, size_t n, size_t lo, size
   return from;
 }
 
-/* The summary, where the bytes of [lo, hi) may be new and were `old`, from second `from` on; and the speed of one second, where that is in the trace, was another. */
-INLINE void bring(struct gearcard_summary *s, const uint16_t *v, size_t n, const uint8_t *card, const uint8_t *old, size_t from, size_t lo, size_t hi, size_t second,
-                  uint16_t was) {
+/* The summary, where the bytes of [lo, hi) may be new and were `old`, from second `from` on; and the speed of one second, where that is in
+   the trace, was another. */
+INLINE void bring(struct gearcard_summary *s, const uint16_t *v, size_t n, const uint8_t *card, const uint8_t *old, size_t from, size_t lo,
+                  size_t hi, size_t second, uint16_t was) {
   while (lo < hi && lo != second && card[lo] == old[lo - from]) lo++;
   while (lo < hi && hi - 1 != second && card[hi - 1] == old[hi - 1 - from]) hi--;
   if (lo == hi) return;
@@ -589,7 +592,7 @@ struct gearcard_counted NAMED(mend)(car_t vehicle, uint16_t *v, size_t n, const 
   return (struct gearcard_counted){r, summary};
 }
 
-#ifndef HINTS /* nothing below is another in the second twin */
+#ifndef HINTS /* nothing below but the reading is another in the second twin */
 struct gearcard_counted twin_summary_of(const uint16_t *v, size_t n, const uint8_t *card, size_t nc) {
   struct gearcard_counted r;
   memset(&r, 0, sizeof r);
@@ -612,6 +615,8 @@ verdict_t bare_release(car_t vehicle, const uint16_t *v, size_t n, uint8_t *h, s
 verdict_t bare_mend(car_t vehicle, uint16_t *v, size_t n, const uint8_t *h, size_t nh, uint8_t *card, size_t nc, size_t second, uint16_t speed) {
   return mend(&vehicle, v, n, h, nh, card, nc, second, speed, NULL);
 }
+
+#endif
 
 /* A group at *at into *out; 0, or the number of its fault. */
 INLINE uint32_t group(const uint8_t *s, size_t end, size_t *at, uint32_t *out) {
@@ -692,7 +697,7 @@ INLINE verdict_t parse(struct gearcard_job *r, const uint8_t *s, size_t end, uin
   if (x - 1u >= GEARCARD_LONGEST) return say(1, 0);
   uint32_t count = x;
   if (rs < count || rh < count) return say(2, 0);
-#ifdef PLAIN_READ
+#ifndef HINTS
   size_t trace = at, first;
   uint32_t held, next = 0, i;
   for (i = 0; i < count; i++) {
@@ -767,7 +772,7 @@ INLINE verdict_t parse(struct gearcard_job *r, const uint8_t *s, size_t end, uin
   return say(0, 0);
 }
 
-struct gearcard_job twin_read(const uint8_t *job, size_t nj, uint16_t *speeds, size_t rs, uint8_t *holds, size_t rh) {
+struct gearcard_job NAMED(read)(const uint8_t *job, size_t nj, uint16_t *speeds, size_t rs, uint8_t *holds, size_t rh) {
   struct gearcard_job r;
   memset(&r, 0, sizeof r);
   verdict_t said = parse(&r, job, nj, speeds, rs, holds, rh);
@@ -776,6 +781,7 @@ struct gearcard_job twin_read(const uint8_t *job, size_t nj, uint16_t *speeds, s
   return r;
 }
 
+#ifndef HINTS
 /* The first refusal of 4 to 9 on a whole trace, exactly. */
 static __attribute__((noinline)) verdict_t exact_written(const car_t *c, const uint16_t *v, size_t n, const uint8_t *h) {
   uint32_t best = 10;

@@ -20,8 +20,10 @@ WORKING(twin_work, twin_hold, twin_release, twin_mend)
 #pragma weak hints_release
 #pragma weak hints_mend
 WORKING(hints_work, hints_hold, hints_release, hints_mend)
-
+#pragma weak hints_read
 struct gearcard_job twin_read(const uint8_t *job, size_t job_length, uint16_t *speeds, size_t speeds_length, uint8_t *holds, size_t holds_length);
+struct gearcard_job hints_read(const uint8_t *job, size_t job_length, uint16_t *speeds, size_t speeds_length, uint8_t *holds, size_t holds_length);
+
 struct gearcard_counted twin_summary_of(const uint16_t *speeds, size_t speeds_length, const uint8_t *card, size_t card_length);
 struct gearcard_written twin_write(uint16_t version, struct gearcard_vehicle vehicle, const uint16_t *speeds, size_t speeds_length, const uint8_t *holds,
                                    size_t holds_length, uint8_t *room, size_t room_length);
