@@ -14,8 +14,19 @@
 #include <stddef.h>
 #include <stdint.h>
 
-/* The version of the library that is linked or loaded: "1.0.0" or another. */
-extern const char gearcard_version[];
+#ifdef __cplusplus
+extern "C" {
+#endif
+
+/* On Windows a datum of a DLL has to be declared as such; functions need nothing. */
+#ifdef _WIN32
+#define GEARCARD_DATA extern __declspec(dllimport)
+#else
+#define GEARCARD_DATA extern
+#endif
+
+/* The version of the library that is linked or loaded: "1.1.0" or another. */
+GEARCARD_DATA const char gearcard_version[];
 
 /* The longest trace, in seconds. */
 #define GEARCARD_LONGEST 16384
@@ -166,12 +177,13 @@ struct gearcard_gear {
   int64_t w;
   uint32_t engine;   /* engine speed X, thousandths of min^-1 */
   uint32_t minimum;  /* the gear's minimum speed there, min^-1 */
-  uint8_t rule;      /* of that minimum: 1 the lowest gear, idle; of the next gear 2 nine tenths of idle, 3 in the closing run idle itself, 4 after a second
-                        whose first choice is the lowest gear 1.15 times idle; 5 the gears above, idle plus an eighth of rated less idle */
+  uint8_t rule;      /* of that minimum: 1 the lowest gear, idle; of the next gear 2 nine tenths of idle, 3 in the closing run, at a trip's first second too,
+                        idle itself, 4 after a second whose first choice is the lowest gear 1.15 times idle; 5 the gears above, idle plus an eighth of
+                        rated less idle */
   bool allowed;      /* at the first second of a trip only the lowest gear may fit */
-  bool over_minimum; /* X is at least 1000 x minimum; the lowest gear also fits below */
+  bool over_minimum; /* X is at least 1000 x minimum */
   bool under_nmax;   /* X is at most 1000 x nmax */
-  bool fits;         /* all three */
+  bool fits;         /* all three; the lowest gear also fits below its minimum */
   bool enough;       /* enough power, 3,240,000 q >= required w; said up to nmax of gears that do not fit too */
 };
 
@@ -250,15 +262,19 @@ struct gearcard_coefficients gearcard_export(const uint8_t *bytes, size_t length
 
      gearcard_read        1,832
      gearcard_write       1,232
-     gearcard_work        1,704
+     gearcard_work        1,808
      gearcard_summary_of     56
-     gearcard_hold        2,232
-     gearcard_release     2,232
-     gearcard_mend        2,232
-     gearcard_why        18,952
+     gearcard_hold        2,336
+     gearcard_release     2,336
+     gearcard_mend        2,336
+     gearcard_why        18,832
      gearcard_cycle          32
      gearcard_cycle_part      0
      gearcard_downscale      64
      gearcard_export        352 */
+
+#ifdef __cplusplus
+}
+#endif
 
 #endif

@@ -124,28 +124,70 @@ up_to_date() {
   [ -e "$1" ] && [ -z "$(find "${@:2}" -newer "$1" -print -quit)" ]
 }
 
+# take_turn, end_turn: of all that make something in this folder one does at a time, so that it is made once. The lock is on the folder of the crates, which
+# whoever can read it can open, and goes with the process that has it; where a file system has no such lock, each makes its own.
+turn=
+take_turn() {
+  exec {turn}<"$top/crates" || exit 2
+  if flock -n "$turn" 2>/dev/null; then return 0; fi
+  [ ! -t 2 ] || printf '\r%s\033[K' 'another command is proving and building here' >&2
+  flock "$turn" 2>/dev/null
+  [ ! -t 2 ] || printf '\r\033[K' >&2
+}
+end_turn() {
+  exec {turn}<&-
+}
+
 # proved FILE CRATE [WORD..]: proves CRATE, and gives rt the words, where FILE is missing or older than the crates.
 proved() {
   local file=$1 begun
   shift
   if up_to_date "$file" "$top/crates" "$top/crates.txt"; then return 0; fi
+  take_turn
+  # Another has made it meanwhile.
+  if up_to_date "$file" "$top/crates" "$top/crates.txt"; then
+    end_turn
+    return 0
+  fi
   find_kit
   begun=$(date +%s.%N)
   prove "$@" || exit 2
   # Dated from the start, so that what is edited while rt proves counts as a change.
   touch -cd "@$begun" "$file" || exit 2
+  end_turn
 }
 
-# needs COMMAND PACKAGE..: from Debian's packages, where the command is missing. Where several ask, they are installed one after the other.
-needs() {
-  local command=$1
+# by_apt WORD..: apt-get, which is tried again while another package manager has its lock, for ten minutes (or as many seconds as APT_WAIT says). What it says,
+# the errors above all, is kept in $said.
+by_apt() {
+  local until=$((SECONDS + ${APT_WAIT:-600}))
+  while ! said=$(DEBIAN_FRONTEND=noninteractive apt-get "$@" 2>&1); do
+    [[ $said == *'Could not get lock'* || $said == *'Unable to acquire the dpkg frontend lock'* || $said == *'Unable to lock'* ]] || return 1
+    [ "$SECONDS" -lt "$until" ] || return 1
+    sleep "${APT_PAUSE:-5}"
+  done
+}
+
+# needs COMMAND PACKAGE..: from Debian's packages, where the command is missing. Where several ask, they are installed one after the other. Says which package
+# could not be had, and apt's first word why.
+needs() (
+  command=$1 said='' missing=()
   shift
   if command -v "$command" >/dev/null; then return 0; fi
-  if ! (flock 9 && { command -v "$command" || { apt-get update && apt-get install -y --no-install-recommends "$@"; }; }) 9>"${TMPDIR:-/tmp}/gearcard-needs" >/dev/null 2>&1; then
-    printf '%s is missing, and its packages (%s) could not be installed\n' "$command" "$*" >&2
-    return 1
+  if command -v apt-get >/dev/null && command -v flock >/dev/null && exec 9>"${TMPDIR:-/tmp}/gearcard-needs" && flock 9; then
+    if command -v "$command" >/dev/null; then return 0; fi
+    if by_apt update && by_apt install -y --no-install-recommends "$@" &&
+      { [[ $command == *' '* || $command == /* ]] || command -v "$command" >/dev/null; }; then
+      return 0
+    fi
   fi
-}
+  for package; do
+    [ "$(dpkg-query -W -f '${db:Status-Status}' "$package" 2>/dev/null)" = installed ] || missing+=("$package")
+  done
+  [[ $said =~ (^|$'\n')'E: '([^$'\n']*) ]] && said="; ${BASH_REMATCH[2]}" || said=
+  printf '%s is missing, and of its packages (%s) could not be had: %s%s\n' "$command" "$*" "${missing[*]:-none, but it is in none of them}" "$said" >&2
+  return 1
+)
 
 # find_kit: sets kit to the kit's folder, and tools to the folder of its tools for this machine. rt stands in the kit's bin/; only where it does not, as
 # where a script stands for it, is it asked, since that takes longer than all that ./gearcard does.

@@ -8,9 +8,9 @@ import re
 import shutil
 import subprocess
 import sys
-from pathlib import Path
+from typing import NoReturn
 
-from archives import TOP, VERSION, File, Files, below, commit, tar
+from archives import TOP, VERSION, File, Files, below, commit, tar, zipped
 from wheels import page, wheel
 
 OUT = TOP / "target/release"
@@ -29,7 +29,7 @@ Libs: -L${libdir} -lgearcard
 """
 
 
-def fail(words: str) -> None:
+def fail(words: str) -> NoReturn:
     print(f"release: {words}", file=sys.stderr)
     raise SystemExit(2)
 
@@ -46,7 +46,7 @@ def for_c(processor: str) -> None:
     """The tarball for C."""
     built, shared = TOP / "target/lib" / processor, f"libgearcard.so.{VERSION}"
     soname = f"libgearcard.so.{VERSION.split('.')[0]}"
-    files: Files = {f"examples/{name}": file for name, file in below(TOP / "examples").items() if name.endswith((".c", ".job", ".txt", ".export"))}
+    files: Files = {f"examples/{name}": file for name, file in below(TOP / "examples").items() if name.endswith((".c", ".cpp", ".job", ".txt", ".export"))}
     files |= {name: File((TOP / name).read_bytes()) for name in ("include/gearcard.h", "VERSION", "CHANGELOG.md")}
     files["REFUSALS.md"] = File(refusals())
     files["lib/libgearcard.a"] = File((built / "libgearcard.a").read_bytes())
@@ -56,6 +56,20 @@ def for_c(processor: str) -> None:
     files["lib/pkgconfig/gearcard.pc"] = File((PKG_CONFIG % VERSION).encode())
     name = f"gearcard-{VERSION}-linux-{processor}"
     tar(OUT / f"{name}.tar.gz", name, files)
+
+
+def for_windows(processor: str) -> None:
+    """The zip file for C and what calls it on Windows."""
+    built = TOP / "target/lib" / f"windows-{processor}"
+    kept = (".c", ".cpp", ".job", ".txt", ".export")
+    files: Files = {f"examples/{name}": file for name, file in below(TOP / "examples").items() if name.endswith(kept) and "/" not in name}
+    files |= {f"examples/{name}": file for name, file in below(TOP / "examples/windows").items()}
+    files |= {name: File((TOP / name).read_bytes()) for name in ("include/gearcard.h", "VERSION", "CHANGELOG.md")}
+    files["REFUSALS.md"] = File(refusals())
+    files["bin/gearcard.dll"] = File((built / "gearcard.dll").read_bytes(), program=True)
+    files |= {f"lib/{name}": File((built / name).read_bytes()) for name in ("gearcard.lib", "libgearcard.dll.a", "gearcard.def")}
+    name = f"gearcard-{VERSION}-windows-{processor}"
+    zipped(OUT / f"{name}.zip", {f"{name}/{each}": file for each, file in sorted(files.items())})
 
 
 def for_javascript() -> None:
@@ -71,7 +85,7 @@ def for_javascript() -> None:
 
 def verdict_of(crate: str) -> str:
     """The last line of a crate's proof."""
-    lines = re.findall(r"^logic=.*", (TOP / f"target/log/{crate}.say").read_text(), re.M)
+    lines: list[str] = re.findall(r"^logic=.*", (TOP / f"target/log/{crate}.say").read_text(), re.M)
     if not lines or not lines[-1].startswith("logic=proved "):
         fail(f"{crate} is not proved")
     return lines[-1]
@@ -105,6 +119,8 @@ def main(crate: str) -> None:
     for processor in PROCESSORS:
         for_c(processor)
         wheel(OUT, processor, TOP / "target/lib" / processor / "libgearcard.so")
+        for_windows(processor)
+        wheel(OUT, processor, TOP / "target/lib" / f"windows-{processor}" / "gearcard.dll")
     for_javascript()
     (OUT / f"gearcard-{VERSION}.html").write_bytes(page())
     verdict(crate)

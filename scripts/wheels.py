@@ -25,7 +25,8 @@ def _metadata(project: dict[str, str]) -> str:
 
 
 def _record(files: Files, name: str) -> bytes:
-    rows = [f"{each},sha256={base64.urlsafe_b64encode(hashlib.sha256(file.data).digest()).rstrip(b'=').decode()},{len(file.data)}\n" for each, file in files.items()]
+    sums = {each: base64.urlsafe_b64encode(hashlib.sha256(file.data).digest()).rstrip(b"=").decode() for each, file in files.items()}
+    rows = [f"{each},sha256={sums[each]},{len(file.data)}\n" for each, file in files.items()]
     return "".join([*rows, f"{name},,\n"]).encode()
 
 
@@ -37,14 +38,18 @@ def page() -> bytes:
     return (TOP / "target/web/gearcard.html").read_bytes()
 
 
+#: What Windows calls its processors.
+WINDOWS = {"x86_64": "win_amd64", "aarch64": "win_arm64"}
+
+
 def wheel(folder: Path, processor: str, library: Path) -> str:
-    """Writes the wheel of a processor, with its shared library; answers its name."""
+    """Writes the wheel of a processor, with its shared library, for Windows gearcard.dll; answers its name."""
     project = tomllib.loads((TOP / "pyproject.toml").read_text())["project"]
     files = {f"gearcard/{name}": file for name, file in sorted(below(TOP / "python/gearcard").items())}
     files["gearcard/VERSION"] = File(f"{VERSION}\n".encode())
     files["gearcard/page.html"] = File(page())
-    files["gearcard/libgearcard.so"] = File(library.read_bytes(), program=True)
-    tags = PLATFORM.format(processor=processor)
+    files[f"gearcard/{library.name}"] = File(library.read_bytes(), program=True)
+    tags = WINDOWS[processor] if library.suffix == ".dll" else PLATFORM.format(processor=processor)
     info = f"gearcard-{VERSION}.dist-info"
     lines = ["Wheel-Version: 1.0", "Generator: gearcard", "Root-Is-Purelib: false", *(f"Tag: py3-none-{tag}" for tag in tags.split("."))]
     files[f"{info}/METADATA"] = File(_metadata(project).encode())

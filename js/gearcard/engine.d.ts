@@ -1,44 +1,19 @@
-/** A point of the full-load power curve. */
-export interface Point {
-  /** engine speed, min^-1 */
-  n: number;
-  /** power, tenths of kW */
-  p: number;
-  /** the point's own safety margin, per cent; 0 where it is left out */
-  m?: number;
-}
+import { Coefficients, Gear, Part, Point, Reasons, Summary, VehicleNumbers } from './types.js';
+
+export { Coefficients, Gear, Part, Point, Summary };
 
 /** A vehicle in document 01's units. Gear count and point count are the lengths of the lists. The functions refuse what is out of bounds, by 3 at its field. */
-export interface Vehicle {
+export interface Vehicle extends VehicleNumbers {
   /** engine speed over road speed of each gear, hundredths of min^-1 per km/h */
   ratios: ArrayLike<number>;
-  /** min^-1 */
-  idle: number;
-  /** min^-1 */
-  rated: number;
-  /** min^-1 */
-  nmax: number;
-  /** tenths of N */
-  f0: number;
-  /** thousandths of N/(km/h) */
-  f1: number;
-  /** hundred-thousandths of N/(km/h)^2 */
-  f2: number;
-  /** test mass, kg */
-  tm: number;
-  /** safety margin, per cent */
-  margin: number;
   /** the power curve */
   curve: ReadonlyArray<Point | [n: number, p: number, m?: number]>;
-  /** 1 where first gear is a crawler that is not driven, else 0, also where it is left out */
-  profile?: number;
 }
 
 /** A vehicle as `read` gives it: everything is there. */
-export interface ReadVehicle extends Vehicle {
+export interface ReadVehicle extends Required<VehicleNumbers> {
   ratios: number[];
   curve: Required<Point>[];
-  profile: number;
 }
 
 /** What a job says. The arrays are the caller's to change. */
@@ -51,77 +26,14 @@ export interface Job {
   holds: Uint8Array;
 }
 
-/** How long in each gear. */
-export interface Summary {
-  /** standing seconds */
-  standing: number;
-  /** moving seconds in gears 1, 2, .. 10 */
-  gears: ArrayLike<number>;
-  /** gear changes */
-  changes: number;
-}
-
-/** One gear at a second. The codes stand in `gearcard/whys`, in document 01's words. */
-export interface Gear {
-  /** available power is q / (100,000 w) tenths of kW, exactly; both 0 past nmax */
-  q: number;
-  w: number;
-  /** engine speed X, thousandths of min^-1 */
-  engine: number;
-  /** its minimum speed there, min^-1, and the rule that gave it */
-  minimum: number;
-  rule: number;
-  allowed: boolean;
-  overMinimum: boolean;
-  underNmax: boolean;
-  fits: boolean;
-  enough: boolean;
-}
-
-/** How the byte of a second came about. At a standing second before a trip it is said of the trip's first second, `about`. */
-export interface Why {
+/**
+ * How the byte of a second came about. At a standing second before a trip it is said of the trip's first second, `about`. The codes stand in
+ * `gearcard/whys`, in document 01's words; `gears` has those of the vehicle, gear 1 first.
+ */
+export interface Why extends Reasons {
   second: number;
-  about: number;
-  /** the first and the last second of its trip */
-  first: number;
-  last: number;
-  /** E; E / (3.24 x 10^12) kW, negative while braking */
-  required: number;
-  /** of each gear of the vehicle, gear 1 first */
-  gears: Gear[];
-  kind: number;
-  role: number;
-  /** the held gear, 0 for none */
-  held: number;
-  /** the first choice, and the sentence that gave it */
-  choice: number;
-  sentence: number;
-  /** the gear after each correction */
-  afterA: number;
-  afterB: number;
-  afterC: number;
-  floor: number;
-  /** B's ceiling, 0 where B does not look */
-  ceiling: number;
-  clutch: boolean;
-  clutchReason: number;
-  byte: number;
   /** refusal 10, where some second of the trip has no gear: then the corrections and the byte are 0 */
   refused: Refused | null;
-}
-
-/** What a bench export says, in the vehicle's units. */
-export interface Coefficients {
-  f0: number;
-  f1: number;
-  f2: number;
-  tm: number;
-}
-
-/** Seconds that follow each other. */
-export interface Part {
-  first: number;
-  count: number;
 }
 
 /** The engine refuses, by the number and the place of the table; nothing was changed. `words` says it for people. */
@@ -132,7 +44,10 @@ export class Refused extends Error {
   readonly words: string;
 }
 
-/** The functions. Each throws `Refused` where the engine refuses, and `TypeError` or `RangeError` before anything is called where a value is none that it takes. */
+/**
+ * The functions. Each throws `Refused` where the engine refuses, and `TypeError` or `RangeError` before anything is called where a value is none that it
+ * takes.
+ */
 export interface Engine {
   /** Reads a job file's bytes. */
   read(job: Uint8Array): Job;

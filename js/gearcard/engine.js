@@ -4,25 +4,17 @@
  * Speeds are in tenths of km/h. A hold of 0 is no hold. A card has a byte a second: the gear, plus 16 where the clutch is down. A refusal throws
  * `Refused`, a value of a wrong type `TypeError`, and then no array has changed.
  */
-import { MOST, apart, list, reasonsAt, summaryAt, summaryBytes, vehicleAt, vehicleBytes, whole } from './records.js';
+import { CYCLE, FUNCTIONS, LONGEST, RECORDS } from './layout.js';
+import { MOST, apart, fitting, list, recordAt, sizeOf, summaryBytes, vehicleBytes, vehicleOf, whole } from './records.js';
 import { Refused } from './refusals.js';
 
-export { Refused };
-
-/** The longest trace, in seconds. */
-export const LONGEST = 16384;
-
-/** Seconds of the built-in cycle. */
-export const CYCLE = 1801;
+export { CYCLE, LONGEST, Refused };
 
 /** Bytes of the engine's stack, as it is linked; tests/js measures what its calls use, which is less than a half. */
 export const STACK = 65536;
 
 /** A count in a job is at most this, so rooms of this length are never too short. */
 const ROOM = 65535;
-
-/** Bytes of the longest answer, a job's. */
-const ANSWER = 464;
 
 /** Room that is there from the start: what it takes to read the longest job of the longest trace, every second held, which is the most that a call takes. */
 const RESERVED = 3 * ROOM + 5 * LONGEST + 4096;
@@ -33,13 +25,13 @@ const PAGE = 65536;
  * The gear of a card byte, 0 for neutral.
  * @param {number} byte
  */
-export const gearOf = (byte) => byte % 16;
+export const gearOf = (byte) => whole('card byte', byte, 255) % 16;
 
 /**
  * Whether a card byte has the clutch down.
  * @param {number} byte
  */
-export const clutchDown = (byte) => byte >= 16;
+export const clutchDown = (byte) => whole('card byte', byte, 255) >= 16;
 
 /**
  * The engine's memory, as one call uses it: everything above its stack and constants is free between calls.
@@ -62,10 +54,13 @@ class Lent {
     if (missing > 0) this.memory.grow(Math.ceil(missing / PAGE));
   }
 
-  /** Begins a call, and answers where its answer goes. */
-  begin() {
+  /**
+   * Begins a call, and answers where its answer goes, of so many bytes.
+   * @param {number} size
+   */
+  begin(size) {
     this.top = this.base;
-    return this.room(ANSWER);
+    return this.room(size);
   }
 
   /** @param {number} size */
@@ -105,32 +100,21 @@ class Lent {
   view() {
     return new DataView(this.memory.buffer);
   }
+}
 
-  /**
-   * The engine's number of eight bytes.
-   * @param {number} at
-   */
-  size(at) {
-    return Number(this.view().getBigUint64(at, true));
-  }
+/**
+ * The refusal of a verdict, where it is one.
+ * @param {{number: number, place: number}} verdict
+ */
+const refusalOf = ({ number, place }) => (number === 0 ? null : new Refused(number, place));
 
-  /**
-   * Throws where the answer is a refusal.
-   * @param {number} answer
-   */
-  accepted(answer) {
-    const refused = this.refusal(answer);
-    if (refused !== null) throw refused;
-  }
-
-  /**
-   * The answer's refusal, where it is one.
-   * @param {number} answer
-   */
-  refusal(answer) {
-    const number = this.view().getUint32(answer, true);
-    return number === 0 ? null : new Refused(number, this.size(answer + 8));
-  }
+/**
+ * Throws where the verdict is a refusal.
+ * @param {{number: number, place: number}} verdict
+ */
+function accepted(verdict) {
+  const refused = refusalOf(verdict);
+  if (refused !== null) throw refused;
 }
 
 /**
@@ -141,101 +125,94 @@ class Lent {
 function functionsOf(raw) {
   const lent = new Lent(raw.memory, Number(raw.__heap_base.value));
 
-  /** @type {(job: Uint8Array, room: number) => {answer: number, speeds: number, holds: number}} */
-  function readInto(job, room) {
-    const answer = lent.begin();
-    const bytes = lent.copy(job);
-    const speeds = lent.room(2 * room);
-    const holds = lent.room(room);
-    raw.gearcard_read(answer, bytes, BigInt(job.length), speeds, BigInt(room), holds, BigInt(room));
-    return { answer, speeds, holds };
+  /**
+   * Calls a function of the header. A list is given by its elements, which are copied, or, where it is room to fill, by its length; a record by its bytes.
+   * Answers the record that it answers, and where each list stands.
+   * @param {string} name
+   * @param {Record<string, Uint8Array | Uint16Array | number>} given
+   * @returns {{answer: Record<string, any>, at: Record<string, number>}}
+   */
+  function called(name, given) {
+    const { answer, takes } = FUNCTIONS[name];
+    const answered = lent.begin(RECORDS[answer].size);
+    /** @type {Record<string, number>} */
+    const at = {};
+    const words = takes.flatMap((each) => {
+      const value = given[each.name];
+      if (each.list) {
+        at[each.name] = typeof value === 'number' ? lent.room(value * sizeOf(each.kind)) : lent.copy(value);
+        return [at[each.name], BigInt(typeof value === 'number' ? value : value.length)];
+      }
+      if (typeof value !== 'number') return [lent.copy(value)];
+      const number = fitting(each.name, value, each.kind);
+      return [each.kind === 'size' ? BigInt(number) : number];
+    });
+    raw[`gearcard_${name}`](answered, ...words);
+    return { answer: recordAt(lent.view(), answered, answer), at };
   }
 
   /** @param {Uint8Array} job */
   function read(job) {
     list('job', job, Uint8Array);
     // A whole job has no more seconds than bytes; one that is cut may say more, and is then read into rooms of any count.
-    let found = readInto(job, Math.min(job.length, ROOM));
-    if (lent.view().getUint32(found.answer, true) === 2) found = readInto(job, ROOM);
-    lent.accepted(found.answer);
-    const view = lent.view();
-    const count = lent.size(found.answer + 456);
+    const room = Math.min(job.length, ROOM);
+    let { answer, at } = called('read', { job, speeds: room, holds: room });
+    if (answer.verdict.number === 2) ({ answer, at } = called('read', { job, speeds: ROOM, holds: ROOM }));
+    accepted(answer.verdict);
     return {
-      version: view.getUint16(found.answer + 16, true),
-      vehicle: vehicleAt(view, found.answer + 20),
-      speeds: lent.shorts(found.speeds, count).slice(),
-      holds: lent.bytes(found.holds, count).slice(),
+      version: answer.version,
+      vehicle: vehicleOf(answer.vehicle),
+      speeds: lent.shorts(at.speeds, answer.count).slice(),
+      holds: lent.bytes(at.holds, answer.count).slice(),
     };
   }
 
   /** @type {(speeds: Uint16Array, holds?: Uint8Array | null) => Uint8Array} */
   const holdsOf = (speeds, holds) => (holds === undefined || holds === null ? new Uint8Array(speeds.length) : list('holds', holds, Uint8Array));
 
-  /** @type {import('./engine.js').Engine['write']} */
-  function write(vehicle, speeds, holds, version = 1) {
+  /**
+   * The vehicle's record, the speeds and the holds of a call.
+   * @type {(vehicle: unknown, speeds: Uint16Array, holds?: Uint8Array | null) => {vehicle: Uint8Array, speeds: Uint16Array, holds: Uint8Array}}
+   */
+  function jobOf(vehicle, speeds, holds) {
     const record = vehicleBytes(vehicle);
     list('speeds', speeds, Uint16Array);
-    const held = holdsOf(speeds, holds);
-    whole('version', version, 65535);
-    /** @param {number} length */
-    const into = (length) => {
-      const answer = lent.begin();
-      const car = lent.copy(record);
-      const trace = lent.copy(speeds);
-      const kept = lent.copy(held);
-      const room = lent.room(length);
-      raw.gearcard_write(answer, version, car, trace, BigInt(speeds.length), kept, BigInt(held.length), room, BigInt(length));
-      return { answer, room };
-    };
-    let found = into(1024 + 2 * speeds.length);
+    return { vehicle: record, speeds, holds: holdsOf(speeds, holds) };
+  }
+
+  /** @type {import('./engine.js').Engine['write']} */
+  function write(vehicle, speeds, holds, version = 1) {
+    const given = { ...jobOf(vehicle, speeds, holds), version: fitting('version', version, 'uint16') };
+    let { answer, at } = called('write', { ...given, room: 1024 + 2 * speeds.length });
     // The room was too short; the place is the length needed.
-    if (lent.view().getUint32(found.answer, true) === 17) found = into(lent.size(found.answer + 8));
-    lent.accepted(found.answer);
-    return lent.bytes(found.room, lent.size(found.answer + 16)).slice();
+    if (answer.verdict.number === 17) ({ answer, at } = called('write', { ...given, room: answer.verdict.place }));
+    accepted(answer.verdict);
+    return lent.bytes(at.room, answer.length).slice();
   }
 
   /** @type {import('./engine.js').Engine['work']} */
   function work(vehicle, speeds, holds) {
-    const record = vehicleBytes(vehicle);
-    list('speeds', speeds, Uint16Array);
-    const held = holdsOf(speeds, holds);
-    const answer = lent.begin();
-    const car = lent.copy(record);
-    const trace = lent.copy(speeds);
-    const kept = lent.copy(held);
-    const card = lent.room(speeds.length);
-    const count = BigInt(speeds.length);
-    raw.gearcard_work(answer, car, trace, count, kept, BigInt(held.length), card, count);
-    lent.accepted(answer);
-    return lent.bytes(card, speeds.length).slice();
+    const { answer, at } = called('work', { ...jobOf(vehicle, speeds, holds), card: speeds.length });
+    accepted(/** @type {any} */ (answer));
+    return lent.bytes(at.card, speeds.length).slice();
   }
 
   /** @type {import('./engine.js').Engine['summary']} */
   function summary(speeds, card) {
     list('speeds', speeds, Uint16Array);
     list('card', card, Uint8Array);
-    const answer = lent.begin();
-    const trace = lent.copy(speeds);
-    const worked = lent.copy(card);
-    raw.gearcard_summary_of(answer, trace, BigInt(speeds.length), worked, BigInt(card.length));
-    lent.accepted(answer);
-    return summaryAt(lent.view(), answer + 16);
+    const { answer } = called('summary_of', { speeds, card });
+    accepted(answer.verdict);
+    return answer.summary;
   }
 
   /** @type {import('./engine.js').Engine['why']} */
   function why(vehicle, speeds, holds, second) {
-    const record = vehicleBytes(vehicle);
-    list('speeds', speeds, Uint16Array);
-    const held = holdsOf(speeds, holds);
-    whole('second', second, Number.MAX_SAFE_INTEGER);
-    const answer = lent.begin();
-    const car = lent.copy(record);
-    const trace = lent.copy(speeds);
-    const kept = lent.copy(held);
-    raw.gearcard_why(answer, car, trace, BigInt(speeds.length), kept, BigInt(held.length), BigInt(second));
-    const refused = lent.refusal(answer);
+    const { answer } = called('why', { ...jobOf(vehicle, speeds, holds), second: fitting('second', second, 'size') });
+    const refused = refusalOf(answer.verdict);
     if (refused !== null && refused.number !== 10) throw refused;
-    return { second, refused, ...reasonsAt(lent.view(), answer + 16, vehicle.ratios.length) };
+    const { gears, ...rest } = answer.reasons;
+    return { second, refused, ...rest, gears: gears.slice(0, vehicle.ratios.length) };
   }
 
   /**
@@ -245,59 +222,49 @@ function functionsOf(raw) {
    * @param {Uint16Array} speeds
    * @param {Uint8Array} holds
    * @param {Uint8Array} card
-   * @param {number} second
-   * @param {number[]} value the gear or the speed, where there is one
-   * @param {import('./engine.js').Summary | null} [given]
+   * @param {Record<string, number>} numbers the second, and the gear or the speed where there is one
+   * @param {import('./engine.js').Summary | null} [counted]
    */
-  function edit(kind, vehicle, speeds, holds, card, second, value, given) {
+  function edit(kind, vehicle, speeds, holds, card, numbers, counted) {
     const record = vehicleBytes(vehicle);
     list('speeds', speeds, Uint16Array);
     list('holds', holds, Uint8Array);
     list('card', card, Uint8Array);
     apart({ speeds, holds, card });
-    whole('second', second, Number.MAX_SAFE_INTEGER);
-    const counts = summaryBytes(given);
-    const answer = lent.begin();
-    const car = lent.copy(record);
-    const trace = lent.copy(speeds);
-    const kept = lent.copy(holds);
-    const worked = lent.copy(card);
-    const sums = lent.copy(counts);
-    const lists = [trace, BigInt(speeds.length), kept, BigInt(holds.length), worked, BigInt(card.length)];
-    raw[`gearcard_${kind}`](answer, car, ...lists, BigInt(second), ...value, sums);
-    lent.accepted(answer);
-    if (kind === 'mend') speeds.set(lent.shorts(trace, speeds.length));
-    else holds.set(lent.bytes(kept, holds.length));
-    card.set(lent.bytes(worked, card.length));
-    return given === undefined || given === null ? null : summaryAt(lent.view(), answer + 16);
+    const { answer, at } = called(kind, { vehicle: record, speeds, holds, card, ...numbers, summary: summaryBytes(counted) });
+    accepted(answer.verdict);
+    if (kind === 'mend') speeds.set(lent.shorts(at.speeds, speeds.length));
+    else holds.set(lent.bytes(at.holds, holds.length));
+    card.set(lent.bytes(at.card, card.length));
+    return counted === undefined || counted === null ? null : answer.summary;
   }
 
   /** @type {import('./engine.js').Engine['hold']} */
   function hold(vehicle, speeds, holds, card, second, gear, given) {
-    return edit('hold', vehicle, speeds, holds, card, second, [whole('gear', gear, 255)], given);
+    const numbers = { second: fitting('second', second, 'size'), gear: fitting('gear', gear, 'uint8') };
+    return edit('hold', vehicle, speeds, holds, card, numbers, given);
   }
 
   /** @type {import('./engine.js').Engine['release']} */
   function release(vehicle, speeds, holds, card, second, given) {
-    return edit('release', vehicle, speeds, holds, card, second, [], given);
+    return edit('release', vehicle, speeds, holds, card, { second: fitting('second', second, 'size') }, given);
   }
 
   /** @type {import('./engine.js').Engine['mend']} */
   function mend(vehicle, speeds, holds, card, second, speed, given) {
-    return edit('mend', vehicle, speeds, holds, card, second, [whole('speed', speed, 65535)], given);
+    const numbers = { second: fitting('second', second, 'size'), speed: fitting('speed', speed, 'uint16') };
+    return edit('mend', vehicle, speeds, holds, card, numbers, given);
   }
 
   /**
-   * The room that the cycle, or the scaled cycle, fills; the number is the part's, or the factor.
+   * The room that the cycle, or the scaled cycle, fills.
    * @param {'cycle' | 'downscale'} kind
-   * @param {number} number
+   * @param {Record<string, number>} numbers the part, or the factor
    */
-  function filled(kind, number) {
-    const answer = lent.begin();
-    const room = lent.room(2 * CYCLE);
-    raw[`gearcard_${kind}`](answer, number, room, BigInt(CYCLE));
-    lent.accepted(answer);
-    return lent.shorts(room, CYCLE).slice();
+  function filled(kind, numbers) {
+    const { answer, at } = called(kind, { ...numbers, room: CYCLE });
+    accepted(/** @type {any} */ (answer));
+    return lent.shorts(at.room, CYCLE).slice();
   }
 
   /** @type {(speeds: Uint16Array, part: {first: number, count: number}) => Uint16Array} */
@@ -306,32 +273,21 @@ function functionsOf(raw) {
   /** @type {import('./engine.js').Engine['partOf']} */
   function partOf(part) {
     // It is the cycle that refuses a number; a part by itself would be empty.
-    filled('cycle', whole('part', part, 2 ** 32 - 1));
-    const answer = lent.begin();
-    raw.gearcard_cycle_part(answer, part, BigInt(CYCLE));
-    return { first: lent.size(answer), count: lent.size(answer + 8) };
+    filled('cycle', { part: fitting('part', part, 'uint32') });
+    return /** @type {any} */ (called('cycle_part', { part, roomLength: CYCLE }).answer);
   }
 
   /** @type {import('./engine.js').Engine['cycle']} */
-  const cycle = (part = 0) => cut(filled('cycle', whole('part', part, 2 ** 32 - 1)), partOf(part));
+  const cycle = (part = 0) => cut(filled('cycle', { part: fitting('part', part, 'uint32') }), partOf(part));
 
   /** @type {import('./engine.js').Engine['downscale']} */
-  const downscale = (factor, part = 0) => cut(filled('downscale', whole('factor', factor, 2 ** 32 - 1)), partOf(part));
+  const downscale = (factor, part = 0) => cut(filled('downscale', { factor: fitting('factor', factor, 'uint32') }), partOf(part));
 
   /** @type {import('./engine.js').Engine['exportOf']} */
   function exportOf(bytes) {
-    list('bytes', bytes, Uint8Array);
-    const answer = lent.begin();
-    const records = lent.copy(bytes);
-    raw.gearcard_export(answer, records, BigInt(bytes.length));
-    lent.accepted(answer);
-    const view = lent.view();
-    return {
-      f0: view.getUint16(answer + 16, true),
-      f1: view.getInt32(answer + 20, true),
-      f2: view.getUint16(answer + 24, true),
-      tm: view.getUint16(answer + 26, true),
-    };
+    const { verdict, ...found } = called('export', { bytes: list('bytes', bytes, Uint8Array) }).answer;
+    accepted(verdict);
+    return /** @type {any} */ (found);
   }
 
   return Object.freeze({

@@ -12,4 +12,6 @@ export const partOf: Engine['partOf'];
 export const cycle: Engine['cycle'];
 export const downscale: Engine['downscale'];
 export const exportOf: Engine['exportOf'];
-export { CYCLE, Coefficients, Engine, Gear, Job, LONGEST, Part, Point, ReadVehicle, Refused, STACK, Summary, Vehicle, Why, clutchDown, gearOf, load } from './engine.js';
+export {
+  CYCLE, Coefficients, Engine, Gear, Job, LONGEST, Part, Point, ReadVehicle, Refused, STACK, Summary, Vehicle, Why, clutchDown, gearOf, load,
+} from './engine.js';

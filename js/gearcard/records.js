@@ -1,26 +1,104 @@
 /**
- * The records of include/gearcard.h in the engine's memory, and what a caller's values must be before anything is called.
- *
- * Sizes and offsets are those of 64-bit C in WebAssembly too, where a size_t has eight bytes.
+ * The records of include/gearcard.h in the engine's memory, as layout.js has them, and what a caller's values must be before anything is called.
  */
-
-/** Places of the vehicle record, and its bytes. */
-const GEARS = 10;
-const POINTS = 64;
-export const VEHICLE_SIZE = 432;
-
-/** Bytes of a summary: twelve counts. */
-export const SUMMARY_SIZE = 24;
+import { RECORDS } from './layout.js';
+import { TABLE } from './words.js';
 
 /** Elements of one list that is taken. */
 export const MOST = 1 << 20;
 
-/** The vehicle's fields with one number of two bytes: name and offset. */
-const SHORTS = Object.freeze({ idle: 22, rated: 24, nmax: 26, f0: 28, f2: 36, tm: 38, margin: 40, profile: 428 });
-const RATIO = 2;
-const F1 = 32;
-const COUNT = 42;
-const COLUMNS = Object.freeze({ n: 44, p: 172, m: 300 });
+/** What a number of each kind can be, its bytes, and how it is read and written. A number of eight bytes is below 2^53 wherever one is read. */
+const NUMBERS = Object.freeze({
+  uint8: { least: 0, most: 255, bytes: 1 },
+  uint16: { least: 0, most: 65535, bytes: 2 },
+  uint32: { least: 0, most: 2 ** 32 - 1, bytes: 4 },
+  int32: { least: -(2 ** 31), most: 2 ** 31 - 1, bytes: 4 },
+  int64: { least: Number.MIN_SAFE_INTEGER, most: Number.MAX_SAFE_INTEGER, bytes: 8 },
+  size: { least: 0, most: Number.MAX_SAFE_INTEGER, bytes: 8 },
+  bool: { least: 0, most: 1, bytes: 1 },
+});
+
+/** @typedef {keyof typeof NUMBERS} Kind */
+
+/**
+ * Bytes of one of its kind, a number or a record.
+ * @param {string} kind
+ */
+export const sizeOf = (kind) => (kind in NUMBERS ? NUMBERS[/** @type {Kind} */ (kind)].bytes : RECORDS[kind].size);
+
+/**
+ * @param {DataView} view
+ * @param {number} at
+ * @param {string} kind
+ * @returns {any} a number, a truth, or a record
+ */
+function valueAt(view, at, kind) {
+  switch (kind) {
+    case 'uint8': return view.getUint8(at);
+    case 'uint16': return view.getUint16(at, true);
+    case 'uint32': return view.getUint32(at, true);
+    case 'int32': return view.getInt32(at, true);
+    case 'int64': return Number(view.getBigInt64(at, true));
+    case 'size': return Number(view.getBigUint64(at, true));
+    case 'bool': return view.getUint8(at) !== 0;
+    default: return recordAt(view, at, kind);
+  }
+}
+
+/**
+ * A record with all its fields.
+ * @param {DataView} view
+ * @param {number} at
+ * @param {string} record
+ * @returns {Record<string, any>}
+ */
+export function recordAt(view, at, record) {
+  /** @type {Record<string, any>} */
+  const found = {};
+  for (const field of RECORDS[record].fields) {
+    const here = at + field.at;
+    const size = sizeOf(field.kind);
+    const several = () => Array.from({ length: field.count }, (_, k) => valueAt(view, here + k * size, field.kind));
+    found[field.name] = field.count === 0 ? valueAt(view, here, field.kind) : several();
+  }
+  return found;
+}
+
+/**
+ * The bytes of a record of numbers. Of a list past its places nothing is kept.
+ * @param {string} record
+ * @param {Record<string, number | number[]>} values
+ */
+function bytesOf(record, values) {
+  const { size, fields } = RECORDS[record];
+  const bytes = new Uint8Array(size);
+  const view = new DataView(bytes.buffer);
+  for (const { name, at, kind, count } of fields) {
+    const given = values[name];
+    const numbers = typeof given === 'number' ? [given] : given.slice(0, count);
+    numbers.forEach((number, k) => {
+      if (kind === 'uint16') view.setUint16(at + 2 * k, number, true);
+      else if (kind === 'int32') view.setInt32(at + 4 * k, number, true);
+      else throw new TypeError(`a ${kind} of ${record} is not written`);
+    });
+  }
+  return bytes;
+}
+
+/**
+ * Places of a list of a record.
+ * @type {(record: string, name: string) => number}
+ */
+const placesOf = (record, name) => RECORDS[record].fields.find((field) => field.name === name)?.count ?? 0;
+
+/** The vehicle's fields that are one number, and their kinds; those that a job of version 1 has not may be left out. */
+const SCALARS = TABLE.field.flatMap(({ name, since }) => {
+  const found = RECORDS.vehicle.fields.find((field) => field.name === name);
+  return found === undefined ? [] : [{ name: found.name, kind: found.kind, optional: (since ?? 1) > 1 }];
+});
+
+/** The numbers of a point of the curve. */
+const COLUMNS = /** @type {const} */ (['n', 'p', 'm']);
 
 const kindOf = /** @type {(this: unknown) => string | undefined} */ (
   Object.getOwnPropertyDescriptor(Object.getPrototypeOf(Uint8Array.prototype), Symbol.toStringTag)?.get
@@ -43,6 +121,17 @@ export function whole(name, value, most, least = 0) {
 /** @param {unknown} value */
 function shown(value) {
   return typeof value === 'string' ? JSON.stringify(value) : typeof value === 'object' && value !== null ? 'an object' : String(value);
+}
+
+/**
+ * A whole number within what its kind can carry.
+ * @param {string} name
+ * @param {unknown} value
+ * @param {string} kind
+ */
+export function fitting(name, value, kind) {
+  const { least, most } = NUMBERS[/** @type {Kind} */ (kind)];
+  return whole(name, value, most, least);
 }
 
 /**
@@ -107,58 +196,27 @@ function pointOf(place, point) {
  */
 export function vehicleBytes(vehicle) {
   if (typeof vehicle !== 'object' || vehicle === null) throw new TypeError('vehicle is no object');
-  const given = /** @type {Record<string, unknown>} */ ({ profile: 0, ...vehicle });
-  const bytes = new Uint8Array(VEHICLE_SIZE);
-  const view = new DataView(bytes.buffer);
-  /** @type {(at: number, name: string, value: unknown) => void} */
-  const short = (at, name, value) => view.setUint16(at, whole(name, value, 65535), true);
-  for (const [name, at] of Object.entries(SHORTS)) short(at, name, given[name]);
-  view.setInt32(F1, whole('f1', given.f1, 2 ** 31 - 1, -(2 ** 31)), true);
-  const ratios = Array.from(listed('ratios', given.ratios));
-  short(0, 'ratios.length', ratios.length);
-  ratios.forEach((ratio, k) => {
-    whole(`ratios[${k}]`, ratio, 65535);
-    if (k < GEARS) short(RATIO + 2 * k, `ratios[${k}]`, ratio);
-  });
-  const curve = Array.from(listed('curve', given.curve));
-  short(COUNT, 'curve.length', curve.length);
-  curve.forEach((each, k) => {
-    const point = pointOf(k, each);
-    for (const [name, at] of /** @type {['n' | 'p' | 'm', number][]} */ (Object.entries(COLUMNS))) {
-      const number = whole(`curve[${k}].${name}`, point[name], 65535);
-      if (k < POINTS) short(at + 2 * k, `curve[${k}].${name}`, number);
-    }
-  });
-  return bytes;
+  const given = /** @type {Record<string, unknown>} */ (vehicle);
+  /** @type {Record<string, number | number[]>} */
+  const values = {};
+  for (const { name, kind, optional } of SCALARS) values[name] = fitting(name, optional && given[name] === undefined ? 0 : given[name], kind);
+  values.ratio = Array.from(listed('ratios', given.ratios), (ratio, k) => fitting(`ratios[${k}]`, ratio, 'uint16'));
+  values.ng = fitting('ratios.length', values.ratio.length, 'uint16');
+  const curve = Array.from(listed('curve', given.curve), (point, k) => ({ k, point: pointOf(k, point) }));
+  values.points = fitting('curve.length', curve.length, 'uint16');
+  for (const name of COLUMNS) values[name] = curve.map(({ k, point }) => fitting(`curve[${k}].${name}`, point[name], 'uint16'));
+  return bytesOf('vehicle', values);
 }
 
 /**
- * The vehicle of such a record; places past the counts are no part of it.
- * @param {DataView} view
- * @param {number} at
+ * The vehicle of a record that was read; places past the counts are no part of it.
+ * @param {Record<string, any>} record
  * @returns {import('./engine.js').ReadVehicle}
  */
-export function vehicleAt(view, at) {
-  /** @type {(offset: number) => number} */
-  const short = (offset) => view.getUint16(at + offset, true);
-  const { idle, rated, nmax, f0, f2, tm, margin, profile } = SHORTS;
-  return {
-    ratios: Array.from({ length: short(0) }, (_, k) => short(RATIO + 2 * k)),
-    idle: short(idle),
-    rated: short(rated),
-    nmax: short(nmax),
-    f0: short(f0),
-    f1: view.getInt32(at + F1, true),
-    f2: short(f2),
-    tm: short(tm),
-    margin: short(margin),
-    curve: Array.from({ length: short(COUNT) }, (_, k) => ({
-      n: short(COLUMNS.n + 2 * k),
-      p: short(COLUMNS.p + 2 * k),
-      m: short(COLUMNS.m + 2 * k),
-    })),
-    profile: short(profile),
-  };
+export function vehicleOf(record) {
+  const { ng, ratio, points, n, p, m, ...numbers } = record;
+  const curve = Array.from({ length: points }, (_, k) => ({ n: n[k], p: p[k], m: m[k] }));
+  return /** @type {import('./engine.js').ReadVehicle} */ ({ ratios: ratio.slice(0, ng), ...numbers, curve });
 }
 
 /**
@@ -167,63 +225,10 @@ export function vehicleAt(view, at) {
  * @returns {Uint8Array}
  */
 export function summaryBytes(given) {
-  const counts = new Uint16Array(SUMMARY_SIZE / 2);
-  if (given === undefined || given === null) return new Uint8Array(counts.buffer);
-  const gears = listed('summary.gears', given.gears);
-  if (gears.length !== GEARS) throw new RangeError(`summary.gears has ${gears.length} counts, and not ${GEARS}`);
-  counts[0] = whole('summary.standing', given.standing, 65535);
-  for (let k = 0; k < GEARS; k++) counts[1 + k] = whole(`summary.gears[${k}]`, gears[k], 65535);
-  counts[11] = whole('summary.changes', given.changes, 65535);
-  return new Uint8Array(counts.buffer);
-}
-
-/**
- * @param {DataView} view
- * @param {number} at
- * @returns {import('./engine.js').Summary}
- */
-export function summaryAt(view, at) {
-  const counts = Array.from({ length: SUMMARY_SIZE / 2 }, (_, k) => view.getUint16(at + 2 * k, true));
-  return { standing: counts[0], gears: counts.slice(1, 11), changes: counts[11] };
-}
-
-/** Bytes of one gear's facts, and where the facts and the codes of `why` stand behind the verdict: four numbers of eight bytes, the gears, thirteen bytes. */
-const GEAR_SIZE = 32;
-const WHY_GEARS = 32;
-const WHY_CODES = WHY_GEARS + GEARS * GEAR_SIZE;
-
-/**
- * The reasons of a second, of a vehicle of so many gears. Every number of eight bytes in it is below 2^53.
- * @param {DataView} view
- * @param {number} at
- * @param {number} count
- * @returns {Omit<import('./engine.js').Why, 'second' | 'refused'>}
- */
-export function reasonsAt(view, at, count) {
-  /** @type {(offset: number) => number} */
-  const long = (offset) => Number(view.getBigInt64(at + offset, true));
-  /** @type {(offset: number) => number} */
-  const byte = (offset) => view.getUint8(at + offset);
-  const gears = Array.from({ length: count }, (_, k) => {
-    const here = WHY_GEARS + GEAR_SIZE * k;
-    const [rule, allowed, overMinimum, underNmax, fits, enough] = [24, 25, 26, 27, 28, 29].map((offset) => byte(here + offset));
-    return {
-      q: long(here),
-      w: long(here + 8),
-      engine: view.getUint32(at + here + 16, true),
-      minimum: view.getUint32(at + here + 20, true),
-      rule,
-      allowed: allowed !== 0,
-      overMinimum: overMinimum !== 0,
-      underNmax: underNmax !== 0,
-      fits: fits !== 0,
-      enough: enough !== 0,
-    };
-  });
-  const codes = Array.from({ length: 13 }, (_, k) => byte(WHY_CODES + k));
-  const [kind, role, held, choice, sentence, afterA, afterB, afterC, floor, ceiling, clutch, clutchReason, shown] = codes;
-  return {
-    ...{ about: long(0), first: long(8), last: long(16), required: long(24), gears, kind, role, held, choice, sentence },
-    ...{ afterA, afterB, afterC, floor, ceiling, clutch: clutch !== 0, clutchReason, byte: shown },
-  };
+  if (given === undefined || given === null) return new Uint8Array(RECORDS.summary.size);
+  const gears = Array.from(listed('summary.gears', given.gears), (count, k) => fitting(`summary.gears[${k}]`, count, 'uint16'));
+  const places = placesOf('summary', 'gears');
+  if (gears.length !== places) throw new RangeError(`summary.gears has ${gears.length} counts, and not ${places}`);
+  const [standing, changes] = [fitting('summary.standing', given.standing, 'uint16'), fitting('summary.changes', given.changes, 'uint16')];
+  return bytesOf('summary', { standing, gears, changes });
 }
