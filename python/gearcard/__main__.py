@@ -18,6 +18,6 @@ for number in range(3):
     except OSError:
         os.open(os.devnull, os.O_RDWR)
 
-from .cli import main
+from .cli import main  # noqa: E402  (only now: what it loads opens files)
 
 sys.exit(main(sys.argv[1:]))

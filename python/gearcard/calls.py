@@ -17,7 +17,7 @@ from .refusals import Refused
 from .vehicle import Vehicle
 
 #: Seconds of the built-in cycle.
-CYCLE = 1801
+CYCLE = structs.CYCLE
 
 #: A count in a job is at most this, so rooms of this length are never too short.
 _ROOM = 65535
@@ -54,7 +54,8 @@ class Summary(NamedTuple):
 
 class Gear(NamedTuple):
     """One gear at a second, as document 01 judges it: engine speed X in thousandths of min^-1, its minimum speed there in min^-1 and the rule that gave it
-    (`whys.RULES`), and the available power, q/(100,000 w) tenths of kW, exactly."""
+    (`whys.RULES`), and the available power, q/(100,000 w) tenths of kW, exactly. `over_minimum` says that X is at least 1000 x minimum; the lowest gear also
+    fits below."""
 
     q: int
     w: int
@@ -136,12 +137,12 @@ def _holds(values: Numbers | None, speeds: Lent) -> Lent:
 
 def gear_of(byte: int) -> int:
     """The gear of a card byte, 0 for neutral."""
-    return byte % 16
+    return _number("card byte", byte, 255) % 16
 
 
 def clutch_down(byte: int) -> bool:
     """Whether a card byte has the clutch down."""
-    return byte >= 16
+    return _number("card byte", byte, 255) >= 16
 
 
 def read(job: bytes) -> Job:
@@ -206,7 +207,8 @@ def _summary_of(given: Summary | None) -> structs.Summary:
 
 
 def why(vehicle: Vehicle, speeds: Numbers, holds: Numbers | None, second: int) -> Why:
-    """Why the card shows at a second what it shows: what each gear of the vehicle is worth there, and the byte step by step. It looks at the second's trip alone."""
+    """Why the card shows at a second what it shows: what each gear of the vehicle is worth there, and the byte step by step. It looks at the second's trip
+    alone."""
     lent, place = _speeds(speeds), _number("second", second, _LAST)
     answer = call(functions()["why"], (_record(vehicle),), (lent, _holds(holds, lent)), (place,))
     refused = Refused(answer.verdict.number, answer.verdict.place) if answer.verdict.number else None

@@ -149,7 +149,7 @@ def _differences(old: Job, outcome: Outcome) -> str:
     was, now = old.vehicle, outcome.job.vehicle
     rows = [
         f"{key} = {unit.text(getattr(now, field))}; was {unit.text(getattr(was, field))}\n"
-        for key, field, unit in SCALARS
+        for key, field, unit, _ in SCALARS
         if getattr(now, field) != getattr(was, field)
     ]
     if outcome.before is not None and outcome.after is not None:

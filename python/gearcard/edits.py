@@ -3,12 +3,11 @@
 from __future__ import annotations
 
 from array import array
-from collections import deque
-from itertools import chain, repeat
-from operator import getitem, ne, setitem
-from typing import Any, Callable, Iterable, NamedTuple, Sequence
+from functools import partial
+from typing import Callable, Iterable, NamedTuple, Sequence
 
 from .calls import Job, hold, mend, release, work
+from .lists import STEP, put
 from .refusals import Refused
 
 
@@ -48,19 +47,21 @@ def edit(job: Job, edits: Iterable[Edit]) -> bytearray:
     """Changes the job's holds and speeds by all the edits, in their order, and answers the card. Where the job that comes of it is refused, nothing is
     changed, and `RefusedEdit` says by which edit. The lists are those of a job that was read, or plain ones."""
     asked = list(edits)
+    _look_at(job, asked)
     for name, values, kinds in (("speeds", job.speeds, (array, list)), ("holds", job.holds, (bytearray, list))):
         if type(values) not in kinds or getattr(values, "typecode", "H") != "H":
             raise TypeError(f"job.{name} cannot be edited: {type(values).__name__}")
-    while True:
+    with STEP:
         was = job._replace(speeds=job.speeds[:], holds=job.holds[:])
         new, card = planned(was, asked)
-        if _stored((job.speeds, job.holds), (was.speeds, was.holds), (new.speeds, new.holds)):
-            return card
+        put([(job.speeds, new.speeds), (job.holds, new.holds)])
+    return card
 
 
 def planned(job: Job, edits: Iterable[Edit]) -> tuple[Job, bytearray]:
     """The job that comes of the edits, and its card; the job that is given stays as it is."""
     asked = list(edits)
+    _look_at(job, asked)
     new = _after(job, asked)
     try:
         return new, work(new.vehicle, new.speeds, new.holds)
@@ -68,15 +69,13 @@ def planned(job: Job, edits: Iterable[Edit]) -> tuple[Job, bytearray]:
         raise RefusedEdit(refused, _at_fault(job, asked, refused), new) from None
 
 
-def _stored(lists: Sequence[Any], was: Sequence[Any], new: Sequence[Any]) -> bool:
-    """Puts the new numbers into the lists, where these still have what they had: as one call that runs no Python, so that no thread comes between. False
-    where another has changed them."""
-    alike = map(getitem, repeat((None,)), map(ne, lists, was))
-    try:
-        deque(chain(alike, map(setitem, lists, repeat(slice(None)), new)), maxlen=0)
-    except IndexError:
-        return False
-    return True
+def _look_at(job: Job, edits: Sequence[Edit]) -> None:
+    """Raises where one of them is something else."""
+    if not isinstance(job, Job):
+        raise TypeError(f"job is no Job: {type(job).__name__}")
+    for place, each in enumerate(edits):
+        if not isinstance(each, (Hold, Release, Mend)):
+            raise TypeError(f"edit {place} is no Hold, Release or Mend: {type(each).__name__}")
 
 
 def _after(job: Job, edits: Sequence[Edit]) -> Job:
@@ -111,8 +110,10 @@ def _ask_alone(job: Job, each: Edit, second: int, place: int) -> None:
 def one_by_one(each: Edit) -> Callable[..., object]:
     """The proved function that makes this edit at one second, without its value: of vehicle, speeds, holds, card and second."""
     if isinstance(each, Hold):
-        return lambda *lent: hold(*lent, each.gear)
-    return release if isinstance(each, Release) else lambda *lent: mend(*lent, each.speed)
+        return partial(hold, gear=each.gear)
+    if isinstance(each, Mend):
+        return partial(mend, speed=each.speed)
+    return release
 
 
 def _at_fault(job: Job, edits: Sequence[Edit], refused: Refused) -> int | None:

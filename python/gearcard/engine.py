@@ -10,40 +10,19 @@ import ctypes
 import functools
 import os
 from collections.abc import Iterator
-from ctypes import c_size_t, c_uint8, c_uint16, c_uint32, c_void_p
-from itertools import chain
 from pathlib import Path
 
 from . import structs
+from .system import LIBRARY
 from .version import version
 
 _HERE = Path(__file__).resolve().parent
-_INSTALLED = _HERE / "libgearcard.so"
+_INSTALLED = _HERE / LIBRARY
 
 #: The folder that has the commands, in a checkout.
 TOP = _HERE.parents[1]
 
 VERSION = version()
-
-#: A list is its address and its length.
-_LIST = (c_void_p, c_size_t)
-_LISTS = 3 * _LIST
-
-#: What each function answers and takes.
-_TYPES: dict[str, tuple[type[ctypes.Structure], tuple[type, ...]]] = {
-    "read": (structs.Job, _LISTS),
-    "write": (structs.Written, (c_uint16, structs.Vehicle, *_LISTS)),
-    "work": (structs.Verdict, (structs.Vehicle, *_LISTS)),
-    "summary_of": (structs.Counted, 2 * _LIST),
-    "hold": (structs.Counted, (structs.Vehicle, *_LISTS, c_size_t, c_uint8, structs.Summary)),
-    "release": (structs.Counted, (structs.Vehicle, *_LISTS, c_size_t, structs.Summary)),
-    "mend": (structs.Counted, (structs.Vehicle, *_LISTS, c_size_t, c_uint16, structs.Summary)),
-    "why": (structs.Why, (structs.Vehicle, *_LIST, *_LIST, c_size_t)),
-    "cycle": (structs.Verdict, (c_uint32, *_LIST)),
-    "cycle_part": (structs.Part, (c_uint32, c_size_t)),
-    "downscale": (structs.Verdict, (c_uint32, *_LIST)),
-    "export": (structs.Coefficients, _LIST),
-}
 
 
 class Failure(RuntimeError):
@@ -63,7 +42,7 @@ def functions() -> dict[str, ctypes._NamedFuncPointer]:
     """
     library = _loaded(_INSTALLED if _INSTALLED.exists() else _built())
     found = {}
-    for name, (answer, takes) in _TYPES.items():
+    for name, (answer, takes) in structs.FUNCTIONS.items():
         function = library[f"gearcard_{name}"]
         function.restype, function.argtypes = answer, takes
         found[name] = function
@@ -74,7 +53,9 @@ def _loaded(path: Path) -> ctypes.PyDLL:
     try:
         library = ctypes.PyDLL(str(path))
     except OSError as why:
-        raise Failure(f"{path} is no shared library for this machine, {os.uname().machine}: {str(why).removeprefix(f'{path}: ')}") from None
+        import platform
+
+        raise Failure(f"{path} is no shared library for this machine, {platform.machine()}: {str(why).removeprefix(f'{path}: ')}") from None
     try:
         version = ctypes.string_at(ctypes.addressof(ctypes.c_char.in_dll(library, "gearcard_version"))).decode()
     except ValueError:
@@ -101,10 +82,11 @@ def _built() -> Path:
 
 def _up_to_date(path: Path) -> bool:
     """As `./library` sees it."""
-    parts = [TOP / name for name in ("crates", "crates.txt", "VERSION", "library", "scripts/kit.sh", "scripts/retarget")]
+    scripts = ("library", "scripts/kit.sh", "scripts/retarget", "scripts/windows.c")
+    parts = [TOP / name for name in ("crates", "crates.txt", "VERSION", "include/exports.txt", *scripts)]
     try:
         made = path.stat().st_mtime_ns
-        return all(each.stat().st_mtime_ns <= made for each in chain(parts, _below(parts[0])))
+        return all(each.stat().st_mtime_ns <= made for each in parts) and all(each.stat().st_mtime_ns <= made for each in _below(parts[0]))
     except OSError:
         return False
 

@@ -1,8 +1,9 @@
-"""Numbers as a word of a command, or of a line of edits, gives them. Nothing is cut or rounded to fit."""
+"""Numbers and files as a word of a command, or of a line of edits, gives them. Nothing is cut or rounded to fit."""
 
 from __future__ import annotations
 
 import re
+from pathlib import Path
 from typing import Callable
 
 from . import units
@@ -28,6 +29,13 @@ def whole(what: str, most: int) -> Callable[[str], int]:
 
 second = whole("second", _SECONDS)
 gear = whole("gear", 255)
+
+
+def file(word: str) -> Path:
+    """A file's name. One that ends with a slash is a folder's, which `Path` would forget."""
+    if re.search(r"/\.?\Z", word):
+        raise Misuse(f"'{short(word)}' is a folder, and no file")
+    return Path(word)
 
 
 def seconds(word: str) -> range:

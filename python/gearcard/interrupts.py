@@ -5,9 +5,9 @@ from __future__ import annotations
 
 import contextlib
 import signal
-from typing import Iterator, NoReturn
+from typing import Iterator
 
-STOPS = (signal.SIGINT, signal.SIGTERM, signal.SIGHUP)
+from .system import BLOCK, SET, STOPS, UNBLOCK, keeps, mask
 
 #: Whether something was changed since `heard` began.
 _changed = False
@@ -21,15 +21,17 @@ class Stopped(KeyboardInterrupt):
         self.number = number
 
 
-def _stop(number: int, frame: object) -> NoReturn:
+def _stop(number: int, frame: object) -> None:
+    if keeps(number):
+        return
     # One is enough: no other comes while what was begun is taken back.
-    signal.pthread_sigmask(signal.SIG_BLOCK, STOPS)
+    mask(BLOCK, STOPS)
     raise Stopped(number)
 
 
 def prepare() -> None:
     """Keeps the signals waiting until `heard`, and makes each of them the exception above. One that the caller ignores, as nohup does, stays ignored."""
-    signal.pthread_sigmask(signal.SIG_BLOCK, STOPS)
+    mask(BLOCK, STOPS)
     for each in STOPS:
         if signal.getsignal(each) is not signal.SIG_IGN:
             signal.signal(each, _stop)
@@ -40,23 +42,23 @@ def heard() -> Iterator[None]:
     """The signals are heard within, one that waits at once; after it, as before it."""
     global _changed
     _changed = False
-    before = signal.pthread_sigmask(signal.SIG_UNBLOCK, STOPS)
+    before = mask(UNBLOCK, STOPS)
     try:
         yield
     finally:
-        signal.pthread_sigmask(signal.SIG_SETMASK, before)
+        mask(SET, before)
 
 
 @contextlib.contextmanager
 def waiting() -> Iterator[None]:
     """A signal that comes within is heard after it, unless something was changed by then."""
     # One that came before this call is raised by it.
-    before = signal.pthread_sigmask(signal.SIG_BLOCK, STOPS)
+    before = mask(BLOCK, STOPS)
     try:
         yield
     finally:
         if not _changed:
-            signal.pthread_sigmask(signal.SIG_SETMASK, before)
+            mask(SET, before)
 
 
 @contextlib.contextmanager

@@ -21,14 +21,11 @@ from .names import Draft, Names
 from .output import short
 from .refusals import FIELDS, Refused
 from .tables import HERTZ, Layout, read_speeds
-from .units import SCALARS, NotExact, Unit, number_of
+from .units import SCALARS, NotExact, Scalar, Unit, number_of
 from .vehicle import Point, Vehicle
 
 #: A point of the curve; its margin from version 2 on.
 CURVE: tuple[Unit, ...] = (units.ENGINE_SPEED, units.POWER, units.PER_CENT)
-
-#: The version from which on a vehicle has a profile.
-PROFILE = 3
 
 #: Where a trace comes from, and the keys that go with each.
 WAYS = {"speeds": ("speeds",), "csv": ("csv", "column", "time", "hertz", "decimal", "skip"), "cycle": ("cycle", "part", "downscale")}
@@ -39,8 +36,8 @@ ABOUT = ("name", "note")
 #: Places that a list of a job can have.
 PLACES = 65535
 
-#: The built-in cycle's name.
-CLASS_3 = "class 3"
+#: The built-in cycle's name, the number of its parts, and the most that it is scaled down by, in thousandths.
+CLASS_3, PARTS, FACTOR_MOST = "class 3", 4, 500
 
 #: Speeds in a line of `show`.
 ROW = 10
@@ -119,7 +116,9 @@ class _Table:
 
     def __init__(self, source: _Source, path: Path, values: dict[str, Any], known: Sequence[str] | None) -> None:
         self.source, self.path, self.values = source, path, values
-        for key in values if known is not None else ():
+        if known is None:
+            return
+        for key in values:
             if key not in known:
                 near = difflib.get_close_matches(short(key), known, 1)
                 hint = f"; did you mean {near[0]}?" if near else f" (there are {', '.join(known)})"
@@ -150,14 +149,14 @@ class _Table:
 
     def whole(self, key: str, allowed: Sequence[int], otherwise: int) -> int:
         """A whole number of those allowed, or the one that stands for a missing key."""
-        number = self.typed(key, int) if self.has(key) else otherwise
+        number: int = self.typed(key, int) if self.has(key) else otherwise
         if number not in allowed:
             self.wrong(key, f"{self.dotted(key)} = {_value(number)} is none of {_listed_numbers(allowed)}")
         return number
 
     def many(self, key: str) -> list[Any]:
         """A list, of no more places than a job can have."""
-        values = self.typed(key, list)
+        values: list[Any] = self.typed(key, list)
         if len(values) > PLACES:
             self.wrong(key, f"{self.dotted(key)} has {len(values):,} places, and a job can carry {PLACES:,}")
         return values
@@ -182,9 +181,9 @@ def _read_toml(source: _Source) -> dict[str, Any]:
     try:
         return tomllib.loads(source.text, parse_float=_float)
     except tomllib.TOMLDecodeError as why:
-        found = re.fullmatch(r"(.*) \(at (?:line (\d+), column \d+|end of document)\)", str(why))
-        line = int(found[2]) if found and found[2] else source.text.count("\n") + 1
-        raise BadText(source.name, line, f"it is no TOML: {found[1] if found else why}") from None
+        told = re.fullmatch(r"(.*) \(at (?:line (\d+), column \d+|end of document)\)", str(why))
+        line = int(told[2]) if told and told[2] else source.text.count("\n") + 1
+        raise BadText(source.name, line, f"it is no TOML: {told[1] if told else why}") from None
 
 
 def parse(text: str, name: str, folder: File) -> Draft:
@@ -193,7 +192,7 @@ def parse(text: str, name: str, folder: File) -> Draft:
     top = _Table(source, (), _read_toml(source), ("version", "about", "vehicle", "trace", "holds"))
     version = _version(top)
     about = _about(top.table("about", ABOUT)) if top.has("about") else ""
-    vehicle = _vehicle(top.table("vehicle", ("ratios", *(key for key, _, _ in SCALARS), "profile", "curve")), version)
+    vehicle = _vehicle(top.table("vehicle", ("ratios", *(each.key for each in SCALARS), "curve")), version)
     speeds, speed_name = _trace(top.table("trace", [key for keys in WAYS.values() for key in keys]), folder)
     holds = _holds(top.table("holds", None), len(speeds)) if top.has("holds") else bytearray(len(speeds))
     names = Names(
@@ -203,7 +202,7 @@ def parse(text: str, name: str, folder: File) -> Draft:
 
 
 def _version(top: _Table) -> int:
-    version = top.typed("version", int)
+    version: int = top.typed("version", int)
     if not 0 <= version <= 65535:
         top.wrong("version", f"version = {_value(version)} is not from 0 to 65535, which is what a job can carry")
     return version
@@ -220,15 +219,19 @@ def _curve(version: int) -> tuple[Unit, ...]:
     return CURVE[:2] if version == 1 else CURVE
 
 
+def _scalars(version: int) -> list[Scalar]:
+    """The vehicle's numbers that a job of this version has."""
+    return [each for each in SCALARS if each.since <= version]
+
+
 def _vehicle(table: _Table, version: int) -> Vehicle:
     source = table.source
     ratios = [source.number(table.path + ("ratios", k), ratio, units.RATIO) for k, ratio in enumerate(table.many("ratios"))]
-    numbers = {field: table.number(key, unit) for key, field, unit in SCALARS}
+    numbers = {each.name: table.number(each.key, each.unit) for each in _scalars(version)}
     curve = [_point(source, table.path + ("curve", k), row, version) for k, row in enumerate(table.many("curve"))]
-    if version >= PROFILE:
-        numbers["profile"] = table.number("profile", units.PROFILE)
-    elif table.has("profile"):
-        table.wrong("profile", f"vehicle.profile needs version {PROFILE}, and version = {version}")
+    for each in SCALARS:
+        if each.since > version and table.has(each.key):
+            table.wrong(each.key, f"vehicle.{each.key} needs version {each.since}, and version = {version}")
     return Vehicle(ratios=tuple(ratios), curve=tuple(curve), **numbers)
 
 
@@ -318,12 +321,12 @@ def _holds(table: _Table, count: int) -> bytearray:
 
 def _field_name(source: _Source, vehicle: Vehicle, version: int) -> Callable[[int], str]:
     """What a field of the vehicle is called: its line, its key, and the value that is refused where it has one."""
-    shown = {key: unit.text(getattr(vehicle, field)) for key, field, unit in SCALARS}
+    shown = {each.key: each.unit.text(getattr(vehicle, each.name)) for each in SCALARS}
 
     def name(number: int) -> str:
         key = FIELDS[number][0]
         if number == 1 and vehicle.profile > 1:
-            key, shown["profile"] = "profile", str(vehicle.profile)
+            key = "profile"
         place = at_fault(vehicle, version, number)
         if place is None:
             return f"{source.at('vehicle', key)}vehicle.{key}{f' = {shown[key]}' if key in shown else ''}"
@@ -338,29 +341,42 @@ def _row(point: Sequence[int], version: int) -> str:
     return ", ".join(unit.text(value) for unit, value in zip(_curve(version), point))
 
 
-def show(job: Job) -> str:
-    """The text of a job, with document 01's numbers in the comments. `parse` of it gives the same job."""
+def show(job: Job, speeds: bool = False) -> str:
+    """The text of a job, with document 01's numbers in the comments. `parse` of it gives the same job. A trace that is built in is named, and its speeds are
+    listed only where they are asked for."""
     vehicle = job.vehicle
     ratios = f"ratios = [{', '.join(map(units.RATIO.text, vehicle.ratios))}]"
     lines = [f"version = {job.version}", "", "[vehicle]", noted(ratios, units.RATIO, *vehicle.ratios)]
-    for key, field, unit in SCALARS:
-        value = getattr(vehicle, field)
-        lines.append(noted(f"{key} = {unit.text(value)}", unit, value))
-    if job.version >= PROFILE:
-        lines.append(noted(f"profile = {vehicle.profile}", units.PROFILE, vehicle.profile))
+    for each in _scalars(job.version):
+        value = getattr(vehicle, each.name)
+        lines.append(noted(f"{each.key} = {each.unit.text(value)}", each.unit, value))
     columns = _curve(job.version)
     lines.append(_beside("curve = [", f"{_columns(columns)}; {_and(unit.paper for unit in columns)}"))
     for point in vehicle.curve:
         lines.append(_beside(f"  [{_row(point, job.version)}],", " ".join(map(str, point[: len(columns)]))))
-    lines += ["]", "", "[trace]", _beside("speeds = [", f"{units.SPEED.people}; {units.SPEED.paper}")]
-    for start in range(0, len(job.speeds), ROW):
-        row = ", ".join(map(units.SPEED.text, job.speeds[start : start + ROW]))
-        lines.append(_beside(f"  {row},", f"from second {start}"))
-    lines.append("]")
+    lines += ["]", "", "[trace]", *(([] if speeds else _shown_cycle(job.speeds)) or _shown_speeds(job.speeds))]
     held = [f"{second} = {gear}" for second, gear in enumerate(job.holds) if gear]
     if held:
         lines += ["", _beside("[holds]", "second = gear"), *held]
     return "\n".join(lines) + "\n"
+
+
+def _shown_speeds(speeds: Sequence[int]) -> list[str]:
+    rows = [(", ".join(map(units.SPEED.text, speeds[start : start + ROW])), start) for start in range(0, len(speeds), ROW)]
+    return [_beside("speeds = [", f"{units.SPEED.people}; {units.SPEED.paper}"), *(_beside(f"  {row},", f"from second {start}") for row, start in rows), "]"]
+
+
+def _shown_cycle(speeds: Sequence[int]) -> list[str]:
+    """The keys of the built-in cycle, of the part of it, or of either scaled down, that these speeds are; none where they are none of them."""
+    given = array("H", speeds)
+    for part in range(PARTS + 1):
+        if len(cycle(part)) != len(given):
+            continue
+        factor = next((factor for factor in range(FACTOR_MOST + 1) if downscale(factor, part) == given), None)
+        if factor is not None:
+            keys = [f'cycle = "{CLASS_3}"', *([f"part = {part}"] if part else []), *([f"downscale = {units.FACTOR.text(factor)}"] if factor else [])]
+            return [_beside(keys[0], f"{len(given)} seconds, which show --speeds lists"), *keys[1:]]
+    return []
 
 
 def _beside(words: str, comment: str) -> str:

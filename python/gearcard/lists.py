@@ -1,17 +1,16 @@
 """Lists as callers have them, lent to the functions.
 
-A buffer of the right numbers (`array`, `bytearray`, `memoryview`, an array of numpy) is lent as it is. A plain list, and a buffer of other whole numbers or with
-gaps between them, is copied, and what a function writes is written back when it has accepted. Everything that can be wrong with a list is found before
-anything is called, and so an edit changes the lists that it is given, or none of them.
+A buffer of the right numbers (`array`, `bytearray`, `memoryview`, an array of numpy) is lent as it is. A plain list, and a buffer of other whole numbers or
+with gaps between them, is copied, and what a function writes is written back when it has accepted. Everything that can be wrong with a list is found
+before anything is called, and so an edit changes the lists that it is given, or none of them.
 
-Edits from several threads are one step each. A call that is lent all its lists is one by itself, for no other thread of Python runs in it. Where something is copied, one lock makes copying,
-calling and writing back one step; a fork waits for that lock, so that the child has it free, and no list half written.
+Calls from several threads are one step each: one lock, `STEP`, is held from before the first number is read until the last is written. A fork waits for it,
+so that the child has it free, and no list half written. A thread that writes into a list by itself, and not by a call, takes no lock and is not waited for.
 """
 
 from __future__ import annotations
 
 import ctypes
-import os
 import threading
 from array import array
 from collections import deque
@@ -20,18 +19,22 @@ from itertools import combinations, repeat
 from operator import setitem
 from typing import Any
 
+from .system import at_fork
+
 #: What a list of speeds, of holds or of card bytes may be.
 Numbers = Any
 
 #: Formats of a buffer whose elements are whole numbers, and can be copied.
 _WHOLE = frozenset("bBhHiIlLqQ")
 
-_COPYING = threading.RLock()
-os.register_at_fork(before=_COPYING.acquire, after_in_parent=_COPYING.release, after_in_child=_COPYING.release)
+#: Whoever has it is alone with the lists. One thread may take it twice, as `edits` does around calls.
+STEP = threading.RLock()
+at_fork(STEP)
 
 
 class _Buffer(ctypes.Structure):
-    """Py_buffer, as Python's stable interface for C has it."""
+    """What Python tells a C program of a buffer: `Py_buffer` of its stable interface. Of all this only the address, `buf`, is asked for here: what ctypes
+    has for it, `from_buffer`, takes no buffer that is only read, and none with gaps, whose address tells whether two lists share memory."""
 
     _fields_ = [
         ("buf", ctypes.c_void_p),
@@ -57,12 +60,18 @@ _STRIDES = 0x18
 
 
 def _address(view: memoryview) -> int:
-    """Of the first element. It stays there as long as the view is held."""
+    """Of the first element. It stays there as long as the view is held: until then Python lets nobody move or shorten what it is a view of."""
     found = _Buffer()
     _get_buffer(view, found, _STRIDES)
-    address = found.buf
+    address: int = found.buf
     _release_buffer(found)
     return address
+
+
+def _step(view: memoryview) -> int:
+    """Bytes from one element to the next."""
+    assert view.strides is not None
+    return view.strides[0]
 
 
 class Lent:
@@ -98,12 +107,13 @@ class Lent:
             raise TypeError(f"{self.name} has {view.ndim} dimensions, and not one")
         if view.format not in _WHOLE:
             raise TypeError(f"{self.name} is a buffer of {view.format!r}, and not of whole numbers")
-        if self.writes and (view.readonly or abs(view.strides[0]) < view.itemsize):
+        step = _step(view)
+        if self.writes and (view.readonly or abs(step) < view.itemsize):
             raise TypeError(f"{self.name} cannot be written: {type(self.values).__name__}")
         self.address = self.low = address = _address(view)
         self.high = address + view.nbytes
         if not view.c_contiguous:
-            last = address + view.strides[0] * (len(view) - 1)
+            last = address + step * (len(view) - 1)
             self.low, self.high = min(address, last), max(address, last) + view.itemsize
         self.as_it_is = view.format == self.code and view.c_contiguous and address % view.itemsize == 0
 
@@ -142,7 +152,7 @@ class Lent:
 def _bytes(lent: Lent) -> set[int]:
     view = lent.view
     assert view is not None
-    return {lent.address + k * view.strides[0] + byte for k in range(len(view)) for byte in range(view.itemsize)}
+    return {lent.address + k * _step(view) + byte for k in range(len(view)) for byte in range(view.itemsize)}
 
 
 def call(function: Callable[..., Any], before: tuple[Any, ...], lists: tuple[Lent, ...], after: tuple[Any, ...] = ()) -> Any:
@@ -150,10 +160,17 @@ def call(function: Callable[..., Any], before: tuple[Any, ...], lists: tuple[Len
     for one, two in combinations(lists, 2):
         if (one.writes or two.writes) and one.shares(two):
             raise ValueError(f"{one.name} and {two.name} share memory")
-    if all(each.as_it_is for each in lists):
-        return function(*before, *_arguments(lists), *after)
-    with _COPYING:
+    with STEP:
+        if all(each.as_it_is for each in lists):
+            return function(*before, *_arguments(lists), *after)
         return _called_with_copies(function, before, lists, after)
+
+
+def put(backs: Sequence[tuple[Any, Any]]) -> None:
+    """Writes numbers into lists: into the whole of each first, the second. An interrupt by a signal comes before all of them or behind: Python looks for one
+    between two steps of its own, and this is a single step, which `map` and `deque` go through in C."""
+    into, new = [each for each, _ in backs], [each for _, each in backs]
+    deque(map(setitem, into, repeat(slice(None)), new), maxlen=0)
 
 
 def _arguments(lists: Sequence[Lent]) -> list[int]:
@@ -167,7 +184,5 @@ def _called_with_copies(function: Callable[..., Any], before: tuple[Any, ...], l
     lent = [each if copy is None else Lent(each.name, copy, each.code) for each, copy in zip(lists, copies)]
     answer = function(*before, *_arguments(lent), *after)
     if getattr(answer, "verdict", answer).number == 0:
-        backs = [each.back(copy) for each, copy in zip(lists, copies) if each.writes and copy is not None]
-        # One call that runs no Python: neither a signal nor another thread comes between two lists.
-        deque(map(setitem, [into for into, _ in backs], repeat(slice(None)), [new for _, new in backs]), maxlen=0)
+        put([each.back(copy) for each, copy in zip(lists, copies) if each.writes and copy is not None])
     return answer

@@ -5,7 +5,7 @@ from __future__ import annotations
 from typing import Callable, NamedTuple, Sequence
 
 from .calls import Job
-from .refusals import BYTES, FIELDS, Refused, in_words
+from .refusals import BYTES, FIELDS, TOLD, Refused, in_words
 from .units import SPEED
 
 #: What a field of the vehicle, by its number, or a second's speed is called.
@@ -46,19 +46,12 @@ def named(refused: Refused, job: Job | None, names: Names, file: str) -> Refused
         return Refused(number, place, f"{names.field(place)}: {FIELDS[place][1]}")
     if number == 14:
         return Refused(number, place, f"{names.line('version')}version = {job.version}: {words}")
+    if number not in TOLD:
+        return Refused(number, place, words)
+    gears = f"{len(job.vehicle.ratios)}{', of which the first is not driven' if job.vehicle.profile else ''}"
     speed = f"{names.speed(place)}, {_speed(job.speeds, place)} km/h,"
     hold = names.hold(place, job.holds[place] if place < len(job.holds) else 0)
-    told = {
-        4: f"{speed} is over 200 km/h",
-        5: f"{speed} is more than 15 km/h from the second before",
-        6: f"{speed} is not at rest, as the first and the last second must be",
-        7: f"{hold} is no gear to hold: the vehicle has {len(job.vehicle.ratios)}{', of which the first is not driven' if job.vehicle.profile else ''}",
-        8: f"{hold} is at a standing second",
-        9: f"{hold} would turn the engine past nmax",
-        10: f"{speed} has no gear that fits, and no hold",
-        11: f"second {place} is outside the trace, which has {len(job.speeds)}",
-    }
-    return Refused(number, place, told.get(number, words))
+    return Refused(number, place, TOLD[number].format(place=place, speed=speed, hold=hold, gears=gears, count=len(job.speeds)))
 
 
 def _speed(speeds: Sequence[int], second: int) -> str:

@@ -6,6 +6,7 @@ import argparse
 import os
 import sys
 import unicodedata
+from decimal import Decimal
 from typing import Sequence
 
 from .errors import Misuse
@@ -51,10 +52,19 @@ def emit_rows(args: argparse.Namespace, columns: Sequence[str], rows: Sequence[S
     if args.json:
         import json
 
-        emit("[" + ",\n ".join(json.dumps(dict(zip(columns, row))) for row in rows) + "]\n")
+        emit("[" + ",\n ".join(json.dumps(dict(zip(columns, row)), default=float) for row in rows) + "]\n")
         return
-    lines = (",".join("" if cell is None else str(cell) for cell in row) for row in (columns, *rows))
+    mark, decimal = (";", ",") if args.decimal == "comma" else (",", ".")
+    lines = (mark.join(_cell(cell, mark, decimal) for cell in row) for row in (columns, *rows))
     emit("\n".join(lines) + "\n")
+
+
+def _cell(cell: object, mark: str, decimal: str) -> str:
+    """A cell for a spreadsheet; words with a separator, a quotation mark or a line's end in them stand between quotation marks."""
+    if isinstance(cell, (float, Decimal)):
+        return str(cell).replace(".", decimal)
+    words = "" if cell is None else str(cell)
+    return '"' + words.replace('"', '""') + '"' if any(each in words for each in (mark, '"', "\r", "\n")) else words
 
 
 def say(words: object) -> None:

@@ -35,7 +35,7 @@ def add_wait(each: argparse.ArgumentParser) -> None:
 def add_output(each: argparse.ArgumentParser, ending: str, otherwise: str = "") -> None:
     """The words that say where to; `otherwise` is the name where none is given."""
     words = f"where to; - is standard output ({otherwise or f'the name of the file that is read, with {ending}'}, if not given)"
-    each.add_argument("-o", dest="output", metavar=f"FILE{ending}", type=Path, default=Path(otherwise) if otherwise else None, help=words)
+    each.add_argument("-o", dest="output", metavar=f"FILE{ending}", type=typed(given.file), default=Path(otherwise) if otherwise else None, help=words)
     each.add_argument("--force", action="store_true", help="write over the file that is read, or over one of another kind")
     add_wait(each)
 

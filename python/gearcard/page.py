@@ -8,6 +8,7 @@ from __future__ import annotations
 import argparse
 import base64
 import html
+import os
 import re
 import subprocess
 import sys
@@ -32,7 +33,9 @@ _JOB = re.compile(r'(<script type="text/plain" id="job" data-name=")[^"]*(">)[^<
 def run_page(args: argparse.Namespace) -> None:
     page = _page()
     if args.file is not None:
-        page = with_job(page, plain(beside(args.file, ".job").name), _job(args.file))
+        # The page is UTF-8, whatever the locale says of names.
+        name = os.fsencode(beside(args.file, ".job").name).decode("utf-8", "surrogateescape")
+        page = with_job(page, plain(name), _job(args.file))
     put(args, ".html", page.encode(), lambda old: b"<!doctype html" in old[:200].lower(), "page")
 
 
@@ -60,7 +63,7 @@ def _page() -> str:
         raise Misuse("this package has no page")
     # The engine that goes into it, proved and built where it is not.
     functions()
-    done = subprocess.run([sys.executable, BUILD], capture_output=True, text=True)
+    done = subprocess.run([sys.executable, BUILD], capture_output=True, encoding="utf-8", errors="replace")
     if done.returncode != 0:
-        raise Misuse(f"the page could not be made: {done.stderr.strip()}")
+        raise Misuse(f"the page could not be made: {' '.join(done.stderr.removeprefix('web/build: ').split())}")
     return BUILT.read_text(encoding="utf-8")

@@ -55,7 +55,7 @@ def trips_of(speeds: Sequence[int]) -> list[Trip]:
     return [Trip(k, first, stop) for k, (first, stop, _) in enumerate(((a, b, m) for a, b, m in runs if m), 1)]
 
 
-def _runs(values: Sequence[object], first: int = 0) -> Iterator[tuple[int, int, object]]:
+def _runs(values: Sequence[int], first: int = 0) -> Iterator[tuple[int, int, int]]:
     """Runs of equal values: from, up to and without, value."""
     start = 0
     for k in range(1, len(values) + 1):

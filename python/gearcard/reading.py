@@ -7,6 +7,7 @@ from pathlib import Path
 from typing import BinaryIO
 
 from .errors import Misuse
+from .system import opened
 
 STDIN = Path("-")
 
@@ -18,7 +19,7 @@ def bytes_of(path: Path, most: int, name: str | None = None) -> bytes:
         if path == STDIN:
             data = _standard_input().read(most + 1)
         else:
-            with path.open("rb") as file:
+            with opened(path) as file:
                 data = file.read(most + 1)
     except OSError as why:
         raise Misuse(f"{name} could not be read: {why.strerror}") from None

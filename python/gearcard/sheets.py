@@ -44,8 +44,8 @@ def sheet_of(name: str, data: bytes, skip: int, decimal: str | None, most: int) 
     rows = list(_rows(name, lines, start, mark, most))
     if not rows:
         raise BadText(name, None, "it has no row")
-    for row in rows:
-        _shaped(name, row, rows[0])
+    for place, row in enumerate(rows):
+        _shaped(name, row, rows[0], place == 1)
     return Sheet(name, mark, rows)
 
 
@@ -97,9 +97,10 @@ def _rows(name: str, lines: list[str], start: int, mark: str, most: int) -> Iter
         raise BadText(name, start + reader.line_num, f"it is no CSV: {why}") from None
 
 
-def _shaped(name: str, row: Row, first: Row) -> None:
+def _shaped(name: str, row: Row, first: Row, second: bool) -> None:
+    """Every row has as many cells as the first. Where the second has another count, the first may be a title."""
     if len(row.cells) != len(first.cells):
-        hint = " (trace.skip = N passes over N lines above the header)" if len(row.cells) > len(first.cells) else ""
+        hint = " (trace.skip = N passes over N lines above the header)" if second or len(row.cells) > len(first.cells) else ""
         raise BadText(name, row.line, f"it has {_count(row.cells)}, and line {first.line} has {len(first.cells)}{hint}")
 
 

@@ -6,6 +6,10 @@ import re
 from dataclasses import dataclass
 from decimal import Decimal
 from fractions import Fraction
+from math import floor
+from typing import NamedTuple
+
+from . import words
 
 #: A decimal number as a text or a spreadsheet has it.
 _NUMBER = re.compile(r"[+-]?([0-9]+(\.[0-9]*)?|\.[0-9]+)([eE][+-]?[0-9]{1,9})?")
@@ -36,7 +40,7 @@ class Unit:
             if number and (number.adjusted() > _DIGITS or number.adjusted() < -_DIGITS or len(number.as_tuple().digits) > 2 * _DIGITS):
                 raise NotExact("is not a number of a size that can be carried")
         exact = Fraction(number) * 10**self.decimals
-        low = exact.__floor__()
+        low: int = floor(exact)
         if exact != low:
             raise NotExact(f"is no whole number of {self.paper}: the nearest that are, are {self.text(low)} and {self.text(low + 1)}")
         if not self.least <= low <= self.most:
@@ -60,27 +64,32 @@ def number_of(word: str, mark: str = ".") -> Decimal | None:
     return Decimal(word) if _NUMBER.fullmatch(word) else None
 
 
-RATIO = Unit(2, "min^-1 per km/h", "hundredths of min^-1 per km/h")
-ENGINE_SPEED = Unit(0, "min^-1", "min^-1")
-F0 = Unit(1, "N", "tenths of N")
-F1 = Unit(3, "N/(km/h)", "thousandths of N/(km/h)", -5000, 60535)
-F2 = Unit(5, "N/(km/h)^2", "hundred-thousandths of N/(km/h)^2")
-MASS = Unit(0, "kg", "kg")
-PER_CENT = Unit(0, "per cent", "per cent")
-POWER = Unit(1, "kW", "tenths of kW")
-PROFILE = Unit(0, "1 where first gear is a crawler that is not driven, else 0", "profile")
-SPEED = Unit(1, "km/h", "tenths of km/h")
-TIME = Unit(3, "s", "milliseconds", -(10**12), 10**12)
-FACTOR = Unit(3, "of the speed", "thousandths", 0, 2**32 - 1)
+def _unit(name: str) -> Unit:
+    """A unit of words.toml."""
+    found = words.UNITS[name]
+    return Unit(found["decimals"], found["people"], found["paper"], found.get("least", 0), found.get("most", 65535))
 
-#: The vehicle's keys with one number: the key, the field of `Vehicle`, its unit.
-SCALARS: tuple[tuple[str, str, Unit], ...] = (
-    ("idle", "idle", ENGINE_SPEED),
-    ("rated", "rated", ENGINE_SPEED),
-    ("nmax", "nmax", ENGINE_SPEED),
-    ("f0", "f0", F0),
-    ("f1", "f1", F1),
-    ("f2", "f2", F2),
-    ("mass", "tm", MASS),
-    ("margin", "margin", PER_CENT),
-)
+
+RATIO = _unit("ratio")
+ENGINE_SPEED = _unit("engine_speed")
+F0 = _unit("f0")
+F1 = _unit("f1")
+F2 = _unit("f2")
+MASS = _unit("mass")
+PER_CENT = _unit("per_cent")
+POWER = _unit("power")
+SPEED = _unit("speed")
+TIME = _unit("time")
+FACTOR = _unit("factor")
+
+
+class Scalar(NamedTuple):
+    """A field of the vehicle that is one number: its key, its name in `Vehicle`, its unit, and the version of the job from which on there is one."""
+
+    key: str
+    name: str
+    unit: Unit
+    since: int
+
+
+SCALARS = tuple(Scalar(each.key, each.name, _unit(each.unit), each.since) for each in sorted(words.FIELDS, key=lambda each: each.since) if each.name)

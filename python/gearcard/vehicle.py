@@ -3,53 +3,31 @@
 from __future__ import annotations
 
 import functools
+from ctypes import Array, c_int32, c_uint16
 from dataclasses import dataclass
 from operator import index
-from typing import NamedTuple, Sequence
+from typing import Any, Sequence
 
 from . import structs
+from .fields import Point, VehicleFields
+from .units import SCALARS
+
+__all__ = ["Point", "Vehicle"]
+
+#: What a place of the record can carry.
+_BOUNDS: dict[Any, tuple[int, int]] = {c_uint16: (0, 65535), c_int32: (-(2**31), 2**31 - 1)}
 
 #: The numbers of a vehicle that have the same name in the record, with their bounds there.
-_NUMBERS = dict.fromkeys(("idle", "rated", "nmax", "f0", "f2", "tm", "margin", "profile"), (0, 65535)) | {"f1": (-(2**31), 2**31 - 1)}
-
-
-class Point(NamedTuple):
-    """A point of the full-load power curve: engine speed, min^-1, power, tenths of kW, and the point's own safety margin, per cent."""
-
-    n: int
-    p: int
-    m: int = 0
+_NUMBERS = {each.name: _BOUNDS[kind] for each in SCALARS for name, kind in structs.Vehicle._fields_ if name == each.name}
 
 
 @dataclass(frozen=True)
-class Vehicle:
-    """A vehicle in document 01's units. Gear count and point count are the lengths of the lists.
+class Vehicle(VehicleFields):
+    """A vehicle in document 01's units. Gear count and point count are the lengths of the lists; a point may be given as a plain tuple or list, and is a
+    `Point` then.
 
     Nothing is checked here: the functions refuse what is out of bounds, by 3 at its field.
     """
-
-    ratios: Sequence[int]
-    """engine speed over road speed of each gear, hundredths of min^-1 per km/h"""
-    idle: int
-    """min^-1"""
-    rated: int
-    """min^-1"""
-    nmax: int
-    """min^-1"""
-    f0: int
-    """tenths of N"""
-    f1: int
-    """thousandths of N/(km/h)"""
-    f2: int
-    """hundred-thousandths of N/(km/h)^2"""
-    tm: int
-    """test mass, kg"""
-    margin: int
-    """safety margin, per cent"""
-    curve: Sequence[Point | Sequence[int]]
-    """the power curve; each point may be given as a plain tuple or list, and is a `Point` then"""
-    profile: int = 0
-    """1 where first gear is a crawler that is not driven, else 0"""
 
     def __post_init__(self) -> None:
         object.__setattr__(self, "ratios", tuple(self.ratios))
@@ -69,7 +47,7 @@ class Vehicle:
     @classmethod
     def of(cls, record: structs.Vehicle) -> Vehicle:
         """The vehicle of such a record; places past the counts are no part of it."""
-        curve = zip(*(getattr(record, name)[: record.points] for name in Point._fields))
+        curve = [Point(*point) for point in zip(*(getattr(record, name)[: record.points] for name in Point._fields))]
         return cls(ratios=record.ratio[: record.ng], curve=curve, **{name: getattr(record, name) for name in _NUMBERS})
 
 
@@ -83,6 +61,6 @@ def _within(name: str, value: int, least: int, most: int) -> int:
     return number
 
 
-def _fill(places: Sequence[int], name: str, values: Sequence[int]) -> None:
-    numbers = [_within(name, value, 0, 65535) for value in values][: len(places)]
-    places[: len(numbers)] = numbers
+def _fill(places: Array[c_uint16], name: str, values: Sequence[int]) -> None:
+    for k, number in enumerate([_within(name, value, 0, 65535) for value in values][: len(places)]):
+        places[k] = number

@@ -14,7 +14,7 @@ from .files import JOB_MOST, Unread, load, load_job, load_text
 from .jobtext import noted, show
 from .names import Draft, Names, named
 from .output import emit, emit_rows
-from .outputs import put
+from .outputs import beside, put
 from .picture import picture, picture_of_bytes
 from .reading import bytes_of, shown
 from .refusals import Refused
@@ -105,22 +105,22 @@ def run_make(args: argparse.Namespace) -> None:
         except Refused:
             return False
         if not args.drop_holds:
-            _refuse_lost_holds(args, before, draft.job)
+            _refuse_lost_holds(args.output or beside(args.file, ".job"), args.file, before, draft.job)
         return True
 
     put(args, ".job", data, is_job, "job")
     tell_of_ten(args.file, draft.job, draft.names)
 
 
-def _refuse_lost_holds(args: argparse.Namespace, before: Job, after: Job) -> None:
+def _refuse_lost_holds(path: Path, text: Path, before: Job, after: Job) -> None:
     lost = [f"{second} = {gear}" for second, gear in enumerate(before.holds) if gear and after.holds[second : second + 1] != bytes([gear])]
     if lost:
         many = f"{', '.join(lost[:5])}{', ..' if len(lost) > 5 else ''}"
-        raise Misuse(f"the job has {len(lost)} hold{'s'[: len(lost) > 1]} that {shown(args.file)} lacks: {many} (--drop-holds makes it without)")
+        raise Misuse(f"{path} has {len(lost)} hold{'s'[: len(lost) > 1]} that {shown(text)} lacks: {many} (--drop-holds makes it without)")
 
 
 def run_show(args: argparse.Namespace) -> None:
-    emit(show(load_job(args.file)))
+    emit(show(load_job(args.file), args.speeds))
 
 
 def run_cycle(args: argparse.Namespace) -> None:
@@ -135,4 +135,4 @@ def run_coefficients(args: argparse.Namespace) -> None:
         found = export(bytes_of(args.file, JOB_MOST))._asdict()
     except Refused as refused:
         raise named(refused, None, Names(), shown(args.file)) from None
-    emit("".join(noted(f"{key} = {unit.text(found[field])}", unit, found[field]) + "\n" for key, field, unit in SCALARS if field in found))
+    emit("".join(noted(f"{key} = {unit.text(found[name])}", unit, found[name]) + "\n" for key, name, unit, _ in SCALARS if name in found))

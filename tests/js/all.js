@@ -1,4 +1,4 @@
-/** Every test of the package, by node; the runner is tests/js/run. */
+/** Most tests of the package, by node; the runner is tests/js/run. */
 import { execFileSync } from 'node:child_process';
 import { readFileSync, readdirSync } from 'node:fs';
 import { runInNewContext } from 'node:vm';
@@ -6,7 +6,9 @@ import * as gearcard from 'gearcard';
 import { load } from 'gearcard/engine';
 import { BYTES, FIELDS, SECONDS, WORDS } from './node_modules/gearcard/refusals.js';
 import * as whys from './node_modules/gearcard/whys.js';
-import { TOP, counts, equal, seeded, test, thrown } from './harness.js';
+import './bytes.js';
+import './tables.js';
+import { TOP, equal, seeded, test, thrown } from './harness.js';
 
 const { read, write, work, summary, why, hold, release, mend, cycle, downscale, partOf, exportOf, gearOf, clutchDown, Refused, LONGEST } = gearcard;
 const bytesOf = (/** @type {string} */ name) => new Uint8Array(readFileSync(`${TOP}/examples/${name}`));
@@ -68,7 +70,10 @@ await test('why: every second of the examples has the byte of its card, and Pyth
   const said = execFileSync('python3', ['-c', dump], { cwd: TOP, env: { ...process.env, PYTHONPATH: `${TOP}/python` }, encoding: 'utf8' });
   const ours = Array.from({ length: 19 }, (_, k) => why(vehicle, speeds, holds, 97 * k));
   const { refused, ...rest } = ours[0];
-  const order = /** @type {const} */ (['second', 'about', 'first', 'last', 'required', 'gears', 'kind', 'role', 'held', 'choice', 'sentence', 'afterA', 'afterB', 'afterC', 'floor', 'ceiling', 'clutch', 'clutchReason', 'byte', 'refused']);
+  const order = /** @type {const} */ ([
+    'second', 'about', 'first', 'last', 'required', 'gears', 'kind', 'role', 'held', 'choice',
+    'sentence', 'afterA', 'afterB', 'afterC', 'floor', 'ceiling', 'clutch', 'clutchReason', 'byte', 'refused',
+  ]);
   equal([Object.keys(rest).length, refused], [order.length - 1, null]);
   equal(ours.map((each) => order.map((key) => (key === 'gears' ? each.gears.map((gear) => Object.values(gear)) : each[key]))), JSON.parse(said));
 });
@@ -77,7 +82,10 @@ await test('why: refusals, and where a gear is wanting the facts without a byte'
   equal([thrown(() => why(vehicle, speeds, holds, 4)).number, thrown(() => why(vehicle, speeds, holds, 99999)).number], [9, 11]);
   const gap = { ...read(bytesOf('car-z.job')).vehicle, ratios: [50000, 2000] };
   const found = why(gap, Uint16Array.of(0, 100, 200, 200, 100, 0), null, 2);
-  equal([found.refused?.number, found.refused?.place, found.choice, found.sentence, found.byte, found.gears.some((gear) => gear.fits)], [10, 2, 0, 5, 0, false]);
+  equal(
+    [found.refused?.number, found.refused?.place, found.choice, found.sentence, found.byte, found.gears.some((gear) => gear.fits)],
+    [10, 2, 0, 5, 0, false],
+  );
 });
 
 await test('the cycle, its parts and the scaled cycle', () => {
@@ -86,7 +94,10 @@ await test('the cycle, its parts and the scaled cycle', () => {
   equal(cycle(4), cycle().slice(1477));
   equal(downscale(0), cycle());
   equal(downscale(500, 4).every((speed, k) => speed <= cycle(4)[k]) && downscale(500).length === 1801, true);
-  equal([thrown(() => cycle(5)).number, thrown(() => partOf(5)).number, thrown(() => downscale(501)).number, thrown(() => downscale(0, 9)).number], [18, 18, 23, 18]);
+  equal(
+    [thrown(() => cycle(5)).number, thrown(() => partOf(5)).number, thrown(() => downscale(501)).number, thrown(() => downscale(0, 9)).number],
+    [18, 18, 23, 18],
+  );
 });
 await test('bench exports', () => {
   equal(exportOf(bytesOf('car-z.export')), { f0: 1000, f1: 0, f2: 4000, tm: 1500 });
@@ -111,7 +122,9 @@ await test('2,000 seeded edits: each leaves what a whole working gives, a refuse
     try {
       const lists = /** @type {const} */ ([s.vehicle, s.speeds, s.holds, s.card, second]);
       const speed = Math.max(0, (s.speeds[second] ?? 0) + below(120) - 60);
-      s.counts = /** @type {any} */ (kind === 0 ? hold(...lists, below(9), s.counts) : kind === 1 ? release(...lists, s.counts) : mend(...lists, speed, s.counts));
+      s.counts = /** @type {any} */ (
+        kind === 0 ? hold(...lists, below(9), s.counts) : kind === 1 ? release(...lists, s.counts) : mend(...lists, speed, s.counts)
+      );
     } catch (why) {
       if (!(why instanceof Refused)) throw why;
       refused[why.number] = (refused[why.number] ?? 0) + 1;
@@ -270,6 +283,3 @@ await test('stack: what every function uses, on the longest trace', async () => 
   console.log(`js: the engine's calls used ${used} bytes of a stack of ${stack}`);
   equal(used > 0 && used <= stack / 2, true, `${used} of ${stack}`);
 });
-
-console.log(`js: ${counts.passed} passed, ${counts.failed} failed`);
-process.exit(counts.failed === 0 ? 0 : 1);

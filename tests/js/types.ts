@@ -1,5 +1,6 @@
 // A caller in TypeScript: that it compiles is the test. A line below @ts-expect-error must not.
-import { Job, Refused, Summary, Vehicle, clutchDown, cycle, downscale, exportOf, gearOf, hold, load, mend, partOf, read, release, summary, work, write } from 'gearcard';
+import { Job, Refused, Summary, Vehicle, clutchDown, cycle, downscale, exportOf, gearOf, hold, load, mend } from 'gearcard';
+import { partOf, read, release, summary, work, write } from 'gearcard';
 import { Engine } from 'gearcard/engine';
 
 const vehicle: Vehicle = { ratios: [2, 1], idle: 1, rated: 2, nmax: 3, f0: 0, f1: 0, f2: 0, tm: 400, margin: 0, curve: [{ n: 1, p: 1 }, [2, 2]] };

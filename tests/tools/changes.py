@@ -11,8 +11,10 @@ import threading
 import unittest
 import unittest.mock
 from array import array
+from typing import Any, Callable
 
-from gearcard import Hold, Mend, RefusedEdit, Release, edit, export, read, summary, work, write
+from gearcard import Hold, Job, Mend, RefusedEdit, Release, edit, export, hold, read, summary, work, write
+from gearcard.edits import Edit
 
 from . import seeded
 from .texts import TEXT
@@ -79,7 +81,11 @@ class Several(Words):
         self.assertEqual(self.answers("edit", "class-3.job", "edits.txt"), shown)
         self.assertEqual(self.bytes_of("class-3.job"), wanted)
         ran = subprocess.run(
-            [TOP / "gearcard", "edit", "class-3.job", "-"], cwd=self.folder, input="release 0-1800\nmend 228 " + str(job.speeds[228] / 10), text=True, capture_output=True
+            [TOP / "gearcard", "edit", "class-3.job", "-"],
+            cwd=self.folder,
+            input="release 0-1800\nmend 228 " + str(job.speeds[228] / 10),
+            text=True,
+            capture_output=True,
         )
         self.assertEqual((ran.returncode, ran.stderr), (0, ""))
         self.assertEqual(self.bytes_of("class-3.job"), (EXAMPLES / "class-3.job").read_bytes())
@@ -108,25 +114,36 @@ class Several(Words):
         self.assertEqual(list(read(self.bytes_of("car-z.job")).speeds), [0, 150, 300, 150, 0])
 
     def test_python(self) -> None:
-        for speeds, holds in ((array("H", [0, 50, 150, 100, 0]), bytearray(5)), ([0, 50, 150, 100, 0], [0] * 5)):
-            job = seeded.Job(seeded.CAR_Z, speeds, holds)
+        taken: tuple[tuple[Any, Any], ...] = ((array("H", [0, 50, 150, 100, 0]), bytearray(5)), ([0, 50, 150, 100, 0], [0] * 5))
+        no_second: Any = 2.0
+        wrong_edits: tuple[tuple[Edit, type[Exception]], ...] = (
+            (Hold(5, 1), RefusedEdit),
+            (Hold(2, 0), RefusedEdit),
+            (Hold(2, 256), ValueError),
+            (Mend(2, -1), ValueError),
+            (Hold(no_second, 1), TypeError),
+        )
+        for speeds, holds in taken:
+            job = Job(seeded.CAR_Z, speeds, holds)
             card = edit(job, [Hold(range(1, 3), 2), Release(1), Mend(3, 120)])
             self.assertEqual((list(speeds), list(holds)), ([0, 50, 150, 120, 0], [0, 0, 2, 0, 0]))
             self.assertEqual(card, work(seeded.CAR_Z, speeds, holds))
             with self.assertRaises(RefusedEdit) as raised:
                 edit(job, [Release(2), Hold(2, 9), Mend(1, 60)])
             self.assertEqual((raised.exception.number, raised.exception.place, raised.exception.edit), (7, 2, 1))
-            for wrong, error in (([Hold(5, 1)], RefusedEdit), ([Hold(2, 0)], RefusedEdit), ([Hold(2, 256)], ValueError), ([Mend(2, -1)], ValueError), ([Hold(2.0, 1)], TypeError)):
+            for wrong, error in wrong_edits:
                 with self.assertRaises(error):
-                    edit(job, [Release(2), *wrong])
+                    edit(job, [Release(2), wrong])
             self.assertEqual((list(speeds), list(holds)), ([0, 50, 150, 120, 0], [0, 0, 2, 0, 0]))
-        for job in (seeded.Job(seeded.CAR_Z, (0, 50, 0), bytearray(3)), seeded.Job(seeded.CAR_Z, array("i", [0, 50, 0]), bytearray(3)), seeded.Job(seeded.CAR_Z, [0, 50, 0], bytes(3))):
+        not_taken: tuple[tuple[Any, Any], ...] = (((0, 50, 0), bytearray(3)), (array("i", [0, 50, 0]), bytearray(3)), ([0, 50, 0], bytes(3)))
+        for speeds, holds in not_taken:
+            job = Job(seeded.CAR_Z, speeds, holds)
             with self.assertRaisesRegex(TypeError, "cannot be edited"):
                 edit(job, [Hold(1, 1)])
 
     def test_threads(self) -> None:
         """120 edits of one job from eight threads, each of two seconds: all are there."""
-        job = seeded.Job(seeded.CAR_Z, array("H", [0, 150, 300, 450, *[600] * 260, 450, 300, 150, 0]), bytearray(268))
+        job = Job(seeded.CAR_Z, array("H", [0, 150, 300, 450, *[600] * 260, 450, 300, 150, 0]), bytearray(268))
 
         def some(first: int) -> None:
             for second in range(first, 240, 16):
@@ -139,6 +156,32 @@ class Several(Words):
             each.join()
         self.assertEqual(job.holds, bytearray([0] * 4 + [4, 5] * 120 + [0] * 24))
 
+    def test_threads_of_both_kinds(self) -> None:
+        """Edits of several seconds beside calls that are lent the same lists, or copies of them, each from four threads: all are there."""
+        kinds: tuple[Callable[[bytes], Any], ...] = (bytearray, list)
+        for kind in kinds:
+            job = Job(seeded.CAR_Z, array("H", [0, 150, 300, 450, *[600] * 260, 450, 300, 150, 0]), kind(bytes(268)))
+            at_once = threading.Barrier(8)
+
+            def several(first: int) -> None:
+                at_once.wait()
+                for second in range(first, 240, 16):
+                    edit(job, [Hold(4 + second, 4), Hold(5 + second, 5)])
+
+            def alone(first: int) -> None:
+                card = bytearray(268)
+                at_once.wait()
+                for second in range(first, 240, 16):
+                    hold(job.vehicle, job.speeds, job.holds, card, 4 + second, 4)
+                    hold(job.vehicle, job.speeds, job.holds, card, 5 + second, 5)
+
+            threads = [threading.Thread(target=several if k % 2 else alone, args=(2 * k,)) for k in range(8)]
+            for each in threads:
+                each.start()
+            for each in threads:
+                each.join()
+            self.assertEqual(list(job.holds), [0] * 4 + [4, 5] * 120 + [0] * 24, kind)
+
 
 class Onto(Words):
     def test_lost_holds(self) -> None:
@@ -147,9 +190,9 @@ class Onto(Words):
         self.answers("make", "car.toml")
         self.answers("hold", "car.job", 1, 1)
         held = (self.folder / "car.job").read_bytes()
-        self.ends(2, "gearcard: the job has 1 hold that car.toml lacks: 1 = 1 (--drop-holds makes it without)", "make", "car.toml")
+        self.ends(2, "gearcard: car.job has 1 hold that car.toml lacks: 1 = 1 (--drop-holds makes it without)", "make", "car.toml")
         self.file("car.toml", TEXT.replace("2 = 3", "2 = 2"))
-        said = "gearcard: the job has 2 holds that car.toml lacks: 1 = 1, 2 = 3 (--drop-holds makes it without)"
+        said = "gearcard: car.job has 2 holds that car.toml lacks: 1 = 1, 2 = 3 (--drop-holds makes it without)"
         self.ends(2, said, "make", "car.toml")
         self.ends(2, said, "make", "car.toml", "--force")
         self.assertEqual((self.folder / "car.job").read_bytes(), held)
@@ -186,11 +229,18 @@ class Onto(Words):
         self.assertIn("second 2: gear 3", self.answers("hold", "car-z.job", 2, 3, "--dry-run"))
         self.assertEqual((path.read_bytes(), stat.S_IMODE(path.stat().st_mode)), (before, 0o444))
 
-    def test_owner_mode_and_link_stay(self) -> None:
+    def test_mode_and_link_stay(self) -> None:
+        self.stays()
+
+    @unittest.skipUnless(os.getuid() == 0, "only root can give a file to another")
+    def test_owner_stays(self) -> None:
+        os.chown(self.folder / "car-z.job", 1234, 5678)
+        self.stays()
+
+    def stays(self) -> None:
+        """Owner, mode and a link to the job, after two changes of it."""
         path = self.folder / "car-z.job"
         path.chmod(0o664)
-        if os.getuid() == 0:
-            os.chown(path, 1234, 5678)
         old = path.stat()
         (self.folder / "link.job").symlink_to("car-z.job")
         for words in (("hold", "link.job", 2, 3), ("release", "link.job", "0-4")):
@@ -200,10 +250,15 @@ class Onto(Words):
             self.assertTrue((self.folder / "link.job").is_symlink())
         self.assertEqual(path.read_bytes(), (EXAMPLES / "car-z.job").read_bytes())
 
-    @unittest.skipUnless(os.getuid() == 0, "only root can give a file to another")
     def test_owner_that_cannot_stay(self) -> None:
-        os.chown(self.folder / "car-z.job", 1234, 5678)
-        with unittest.mock.patch("os.fchown", side_effect=PermissionError(1, "Operation not permitted")):
+        """The job is another user's by what the system says of it, so that anybody can try this, and cannot be given to that user."""
+        job, real = os.stat(self.folder / "car-z.job"), os.fstat
+
+        def fstat(file: int) -> os.stat_result:
+            found = real(file)
+            return os.stat_result((*found[:4], found.st_uid + 1234, *found[5:])) if os.path.samestat(found, job) else found
+
+        with unittest.mock.patch("os.fstat", fstat), unittest.mock.patch("os.fchown", side_effect=PermissionError(1, "Operation not permitted")):
             status, out, said = self.run_words("hold", "car-z.job", 2, 3)
         self.assertEqual((status, out), (2, ""))
         self.assertIn("car-z.job belongs to another user, and could not after this: take a copy", said)
@@ -261,13 +316,23 @@ class Messages(Words):
     def test_lines_and_gears(self) -> None:
         """Refusal 3 names the gear or the point, wherever it is, and its line."""
         spread = TEXT.replace("ratios = [120.00, 70.00, 45.00, 35.00, 28.00]", "ratios = [\n120.00,\n70.00,\n45.00,\n35.00,\n28.00]")
-        for place, old, new in ((0, "120.00", "500.01"), (0, "120.00", "0.00"), (1, "70.00", "120.00"), (1, "70.00", "0.00"), (2, "45.00", "70.00"), (4, "28.00", "35.00"), (4, "28.00", "0")):
+        for place, old, new in (
+            *((0, "120.00", "500.01"), (0, "120.00", "0.00"), (1, "70.00", "120.00"), (1, "70.00", "0.00")),
+            *((2, "45.00", "70.00"), (4, "28.00", "35.00"), (4, "28.00", "0")),
+        ):
             self.file("car.toml", spread.replace(f"{old},\n" if old != "28.00" else "28.00]", f"{new},\n" if old != "28.00" else f"{new}]"))
             status, _, said = self.run_words("card", "car.toml")
             self.assertEqual(status, 1)
             shown = new if "." in new else f"{new}.00"
-            self.assertTrue(said.startswith(f"refused 3 at 2: car.toml line {5 + place}: vehicle.ratios[{place}] = {shown}, gear {place + 1}: each is"), (new, said))
-        for place, line, old, new in ((0, 14, "800, 10.0", "0, 10.0"), (1, 15, "1800, 30.0", "1801, 30.0"), (2, 15, "2800, 50.0", "2800, 500.1"), (5, 16, "5600, 90.0", "4800, 90.0"), (6, 17, "6000, 88.0", "6601, 88.0")):
+            begins = f"refused 3 at 2: car.toml line {5 + place}: vehicle.ratios[{place}] = {shown}, gear {place + 1}: each is"
+            self.assertTrue(said.startswith(begins), (new, said))
+        for place, line, old, new in (
+            (0, 14, "800, 10.0", "0, 10.0"),
+            (1, 15, "1800, 30.0", "1801, 30.0"),
+            (2, 15, "2800, 50.0", "2800, 500.1"),
+            (5, 16, "5600, 90.0", "4800, 90.0"),
+            (6, 17, "6000, 88.0", "6601, 88.0"),
+        ):
             self.file("car.toml", TEXT.replace(f"[{old}]", f"[{new}]"))
             status, _, said = self.run_words("card", "car.toml")
             self.assertTrue(said.startswith(f"refused 3 at 12: car.toml line {line}: vehicle.curve[{place}] = [{new}]: each point is"), (new, said))
@@ -296,7 +361,8 @@ class Messages(Words):
         self.ends(1, "refused 10 at 5: edits.txt line 1: second 5, 51.0 km/h, has no gear that fits, and no hold", "edit", "twice.job", "edits.txt")
 
     def test_compare(self) -> None:
-        z = "second 2: 15.0 km/h, gear 2, clutch up; 15.0 km/h, gear 3, clutch down\ngear 2: 2; 1\ngear 3: 0; 1\nchanges: 1; 2\n"
+        z = "hold of second 2: none; gear 3\nsecond 2: 15.0 km/h, gear 2, clutch up; 15.0 km/h, gear 3, clutch down\n"
+        z += "gear 2: 2; 1\ngear 3: 0; 1\nchanges: 1; 2\n"
         self.assertEqual(self.answers("compare", "car-z.job", "car-z-held.job"), z)
         self.assertEqual(self.answers("compare", EXAMPLES / "car-z.toml", "car-z.job"), "car-z.toml and car-z.job have the same card\n")
         csv = "second,speed,gear,clutch,other speed,other gear,other clutch\n2,15.0,2,up,15.0,3,down\n"

@@ -3,7 +3,6 @@
 from __future__ import annotations
 
 import contextlib
-import ctypes
 import os
 import platform
 import random
@@ -18,16 +17,22 @@ import unittest
 from array import array
 from dataclasses import replace
 from pathlib import Path
+from typing import Any, Callable
 
 import gearcard
 from gearcard import Refused, Summary, clutch_down, cycle, downscale, export, gear_of, hold, mend, part_of, read, release, summary, work, write
-from gearcard import engine, structs
-from gearcard.refusals import BYTES, FIELDS, SECONDS, WORDS, in_words
+from gearcard import engine
+from gearcard.refusals import FIELDS, WORDS, in_words
 from gearcard.vehicle import Vehicle
 
 from . import seeded
 
 HEADER = Path("include/gearcard.h").read_text()
+
+
+def untyped(value: object) -> Any:
+    """A value that the types would not let through, for what is said of it when it is given all the same."""
+    return value
 
 
 def text_of(job: gearcard.Job, card: bytearray) -> str:
@@ -81,14 +86,21 @@ class Functions(unittest.TestCase):
         with self.assertRaisesRegex(ValueError, "65536 is no version"):
             write(seeded.CAR_Z, [0], None, 65536)
         # every second held: longer than the first room that is lent
-        longest = seeded.Job(seeded.CAR_Z, array("H", [0, *[150] * 16382, 0]), bytearray([0, *[5] * 16382, 0]))
+        longest = gearcard.Job(seeded.CAR_Z, array("H", [0, *[150] * 16382, 0]), bytearray([0, *[5] * 16382, 0]))
         self.assertEqual(write(longest.vehicle, longest.speeds, longest.holds), seeded.encoded(longest))
 
     def test_hold_and_release(self) -> None:
-        job = seeded.Job(seeded.CAR_Z, array("H", [0, 50, 150, 100, 0]), bytearray(5))
+        job = gearcard.Job(seeded.CAR_Z, array("H", [0, 50, 150, 100, 0]), bytearray(5))
         card = work(job.vehicle, job.speeds)
         self.assertEqual(list(card), [17, 1, 2, 18, 0])
-        for kind in (list, bytearray, lambda values: array("B", values), lambda values: array("i", values), lambda values: memoryview(bytearray(values))):
+        kinds: tuple[Callable[[list[int]], Any], ...] = (
+            list,
+            bytearray,
+            lambda values: array("B", values),
+            lambda values: array("i", values),
+            lambda values: memoryview(bytearray(values)),
+        )
+        for kind in kinds:
             holds, mine = kind([0] * 5), kind(list(card))
             hold(job.vehicle, [0, 50, 150, 100, 0], holds, mine, second=2, gear=3)
             self.assertEqual((list(holds), list(mine)), ([0, 0, 3, 0, 0], [17, 1, 19, 18, 0]))
@@ -103,7 +115,8 @@ class Functions(unittest.TestCase):
         self.assertEqual(str(raised.exception), "refused 11 at 5: second 5 is outside the trace")
 
     def test_mend(self) -> None:
-        for kind in (list, lambda values: array("H", values), lambda values: array("i", values)):
+        kinds: tuple[Callable[[list[int]], Any], ...] = (list, lambda values: array("H", values), lambda values: array("i", values))
+        for kind in kinds:
             speeds, holds = kind([0, 50, 150, 100, 0]), bytes(5)
             card = list(work(seeded.CAR_Z, speeds))
             mend(seeded.CAR_Z, speeds, holds, card, second=2, speed=120)
@@ -112,9 +125,9 @@ class Functions(unittest.TestCase):
                 mend(seeded.CAR_Z, speeds, holds, card, 2, 201)
             self.assertEqual((raised.exception.number, raised.exception.place), (5, 2))
             self.assertEqual(list(speeds), [0, 50, 120, 100, 0])
-        for call in (lambda: mend(seeded.CAR_Z, speeds, holds, card, 2, 65536), lambda: mend(seeded.CAR_Z, speeds, holds, card, 2, -1)):
+        for wrong in (65536, -1):
             with self.assertRaisesRegex(ValueError, "is no speed from 0 to 65535"):
-                call()
+                mend(seeded.CAR_Z, speeds, holds, card, 2, wrong)
         with self.assertRaisesRegex(TypeError, "speeds cannot be written: tuple"):
             mend(seeded.CAR_Z, (0, 50, 0), bytearray(3), bytearray(3), 1, 60)
 
@@ -143,7 +156,7 @@ class Functions(unittest.TestCase):
             (found._replace(standing=65536), ValueError, "65536 is no count of a summary from 0 to 65535"),
             (found._replace(gears=(0,) * 9), ValueError, "summary.gears has 9 counts, and not 10"),
             (found._replace(gears=(*[0] * 9, -1)), ValueError, "-1 is no count of a summary"),
-            (found._replace(changes=1.0), TypeError, "1.0 is no count of a summary: it takes a whole number"),
+            (found._replace(changes=untyped(1.0)), TypeError, "1.0 is no count of a summary: it takes a whole number"),
         ):
             with self.assertRaisesRegex(error, words):
                 release(z, speeds, holds, card, 2, summary=given)
@@ -157,17 +170,17 @@ class Functions(unittest.TestCase):
                 card = work(job.vehicle, job.speeds, job.holds)
             except Refused:
                 continue
-            kept = summary(job.speeds, card)
-            self.assertEqual(kept.standing + sum(kept.gears), len(job.speeds))
+            whole = summary(job.speeds, card)
+            self.assertEqual(whole.standing + sum(whole.gears), len(job.speeds))
+            kept: Summary | None = whole
             for _ in range(20):
                 second = r.randrange(len(job.speeds))
-                edit = r.choice(
-                    (
-                        lambda: hold(job.vehicle, job.speeds, job.holds, card, second, r.randint(1, 10), summary=kept),
-                        lambda: release(job.vehicle, job.speeds, job.holds, card, second, summary=kept),
-                        lambda: mend(job.vehicle, job.speeds, job.holds, card, second, r.randint(0, 300), summary=kept),
-                    )
+                edits: tuple[Callable[[], Summary | None], ...] = (
+                    lambda: hold(job.vehicle, job.speeds, job.holds, card, second, r.randint(1, 10), summary=kept),
+                    lambda: release(job.vehicle, job.speeds, job.holds, card, second, summary=kept),
+                    lambda: mend(job.vehicle, job.speeds, job.holds, card, second, r.randint(0, 300), summary=kept),
                 )
+                edit = r.choice(edits)
                 with contextlib.suppress(Refused):
                     kept = edit()
                 self.assertEqual(card, work(job.vehicle, job.speeds, job.holds), f"seed {seed}")
@@ -181,7 +194,8 @@ class Functions(unittest.TestCase):
             self.assertEqual(cycle(part), whole[seconds.start : seconds.stop])
             self.assertEqual(downscale(0, part), cycle(part))
         self.assertLess(max(downscale(300)), max(whole))
-        for call, number in ((lambda: cycle(5), 18), (lambda: downscale(501), 23), (lambda: downscale(1, 7), 18)):
+        calls: tuple[tuple[Callable[[], object], int], ...] = ((lambda: cycle(5), 18), (lambda: downscale(501), 23), (lambda: downscale(1, 7), 18))
+        for call, number in calls:
             with self.assertRaises(Refused) as raised:
                 call()
             self.assertEqual((raised.exception.number, raised.exception.place), (number, 0))
@@ -238,7 +252,7 @@ class Functions(unittest.TestCase):
 
     def test_wrong_values(self) -> None:
         z, trace, holds, card = seeded.CAR_Z, [0, 50, 0], bytearray(3), bytearray(3)
-        for call, error, words in (
+        calls: tuple[tuple[Callable[[], object], type[Exception], str], ...] = (
             (lambda: work(z, [0, 65536, 0]), ValueError, r"speeds\[1\] = 65536 is no whole number from 0 to 65535"),
             (lambda: work(z, [0, -1, 0]), ValueError, r"speeds\[1\] = -1"),
             (lambda: work(z, [0, 5.0, 0]), TypeError, r"speeds\[1\] = 5.0 is no whole number"),
@@ -249,19 +263,20 @@ class Functions(unittest.TestCase):
             (lambda: hold(z, trace, holds, card, -1, 1), ValueError, "-1 is no second"),
             (lambda: hold(z, trace, bytes(3), card, 1, 1), TypeError, "holds cannot be written: bytes"),
             (lambda: hold(z, trace, holds, (17, 1, 0), 1, 1), TypeError, "card cannot be written: tuple"),
-            (lambda: hold(2.0, trace, holds, card, 1, 1), TypeError, "vehicle is no Vehicle: float"),
-            (lambda: hold(z, trace, holds, card, 1.0, 1), TypeError, "1.0 is no second: it takes a whole number"),
-            (lambda: hold(z, trace, holds, card, 1, "2"), TypeError, "'2' is no gear"),
-            (lambda: mend(z, [0, 50, 0], holds, card, 1, 60.0), TypeError, "60.0 is no speed"),
-            (lambda: write(z, trace, None, 1.0), TypeError, "1.0 is no version"),
-            (lambda: cycle(1.0), TypeError, "1.0 is no part"),
-            (lambda: downscale(0.5), TypeError, "0.5 is no factor"),
-            (lambda: export(5), TypeError, "the export's bytes are no bytes: int"),
-            (lambda: export([1, 2]), TypeError, "the export's bytes are no bytes: list"),
-            (lambda: read("text"), TypeError, "the job's bytes are no bytes: str"),
-            (lambda: read(None), TypeError, "the job's bytes are no bytes: NoneType"),
+            (lambda: hold(untyped(2.0), trace, holds, card, 1, 1), TypeError, "vehicle is no Vehicle: float"),
+            (lambda: hold(z, trace, holds, card, untyped(1.0), 1), TypeError, "1.0 is no second: it takes a whole number"),
+            (lambda: hold(z, trace, holds, card, 1, untyped("2")), TypeError, "'2' is no gear"),
+            (lambda: mend(z, [0, 50, 0], holds, card, 1, untyped(60.0)), TypeError, "60.0 is no speed"),
+            (lambda: write(z, trace, None, untyped(1.0)), TypeError, "1.0 is no version"),
+            (lambda: cycle(untyped(1.0)), TypeError, "1.0 is no part"),
+            (lambda: downscale(untyped(0.5)), TypeError, "0.5 is no factor"),
+            (lambda: export(untyped(5)), TypeError, "the export's bytes are no bytes: int"),
+            (lambda: export(untyped([1, 2])), TypeError, "the export's bytes are no bytes: list"),
+            (lambda: read(untyped("text")), TypeError, "the job's bytes are no bytes: str"),
+            (lambda: read(untyped(None)), TypeError, "the job's bytes are no bytes: NoneType"),
             (lambda: work(z, None), TypeError, "speeds is no list and no buffer: NoneType"),
-        ):
+        )
+        for call, error, words in calls:
             with self.assertRaisesRegex(error, words):
                 call()
         self.assertEqual((trace, holds, card), ([0, 50, 0], bytearray(3), bytearray(3)))
@@ -338,47 +353,10 @@ class Loading(unittest.TestCase):
 class Agreement(unittest.TestCase):
     """What Python repeats of the header and of the driver is what they have."""
 
-    def test_structs(self) -> None:
-        kinds = {"uint8_t": ctypes.c_uint8, "uint16_t": ctypes.c_uint16, "uint32_t": ctypes.c_uint32, "int32_t": ctypes.c_int32, "int64_t": ctypes.c_int64}
-        kinds |= {"size_t": ctypes.c_size_t, "bool": ctypes.c_bool}
-        found = re.findall(r"^struct gearcard_(\w+) \{(.*?)\n\};", HEADER, re.M | re.S)
-        self.assertEqual({name.capitalize() for name, _ in found}, {name for name in vars(structs) if re.fullmatch("[A-Z][a-z]+", name)} - {"Structure"})
-        for name, body in found:
-            fields = []
-            for struct, kind, field, places in re.findall(r"^  (?:struct gearcard_(\w+)|(\w+)) (\w+)(?:\[(\d+)\])?;", body, re.M):
-                each = getattr(structs, struct.capitalize()) if struct else kinds[kind]
-                fields.append((field, each * int(places) if places else each))
-            self.assertEqual(getattr(structs, name.capitalize())._fields_, fields, name)
-        self.assertEqual((ctypes.sizeof(structs.Vehicle), ctypes.sizeof(structs.Summary), ctypes.sizeof(structs.Why)), (432, 24, 384))
-
-    def test_functions(self) -> None:
-        """Every function of the header, its answer and its arguments."""
-        kinds = {"uint8_t": ctypes.c_uint8, "uint16_t": ctypes.c_uint16, "uint32_t": ctypes.c_uint32, "size_t": ctypes.c_size_t}
-        declared = re.findall(r"^struct gearcard_(\w+) gearcard_(\w+)\((.*?)\);", HEADER, re.M | re.S)
-        self.assertEqual({name for _, name, _ in declared}, set(engine._TYPES))
-        for answer, name, words in declared:
-            takes = []
-            for word in words.split(","):
-                *kind, last = word.replace("const ", "").split()
-                if last.startswith("*"):
-                    takes.append(ctypes.c_void_p)
-                else:
-                    takes.append(getattr(structs, kind[1].removeprefix("gearcard_").capitalize()) if kind[0] == "struct" else kinds[kind[0]])
-            self.assertEqual(engine._TYPES[name], (getattr(structs, answer.capitalize()), tuple(takes)), name)
-
     def test_vehicle(self) -> None:
         self.assertEqual(Vehicle.of(seeded.CAR_Z.record), seeded.CAR_Z)
 
     def test_words(self) -> None:
-        table = re.search(r"/\* The answer: number 0.*?\*/", HEADER, re.S)
-        assert table is not None
-        numbers = {int(number) for number in re.findall(r"^   {1,2}(\d+)  \S", table[0], re.M)}
-        self.assertEqual(set(WORDS), numbers)
-        for number in numbers:
-            row = re.search(rf"^ *{number}  .*?(?=^ +\d+  |\*/)", table[0], re.M | re.S)
-            assert row is not None
-            self.assertEqual("second asked" in row[0] or re.search(r"  second$", row[0], re.M) is not None, number in SECONDS, row[0])
-            self.assertEqual("first byte" in row[0] or "byte where" in row[0] or "first of them" in row[0] or "its length" in row[0], number in BYTES, row[0])
         longest = re.search(r"#define GEARCARD_LONGEST (\d+)", HEADER)
         assert longest is not None
         self.assertIn(f"over {int(longest[1]):,} seconds", WORDS[1])

@@ -180,8 +180,9 @@ class Hostile(Words):
         self.ends(2, r"gearcard: \xff.job could not be read: No such file or directory", "card", "\udcff.job")
         self.ends(2, r"gearcard: it does not know what to do with 'x\x0a\x1b' (--help says what it takes)", "x\n\x1b")
         self.file("bad.toml", TEXT.replace("idle = 800", '"\\u001b[31m\\nid" = 800'))
-        self.ends(2, r"gearcard: bad.toml line 5: there is no key vehicle.\x1b[31m\x0aid (there are ratios, idle, rated, nmax, f0, f1, f2, mass, margin, profile, curve)", "card", "bad.toml")
-        shutil.copy(EXAMPLES / "car-z.job", os.fsencode(self.folder) + b"/\xff\x1b.job")
+        there_are = "ratios, idle, rated, nmax, f0, f1, f2, mass, margin, profile, curve"
+        self.ends(2, rf"gearcard: bad.toml line 5: there is no key vehicle.\x1b[31m\x0aid (there are {there_are})", "card", "bad.toml")
+        shutil.copy(os.fsencode(EXAMPLES / "car-z.job"), os.fsencode(self.folder) + b"/\xff\x1b.job")
         self.assertEqual(self.answers("compare", "\udcff\x1b.job", "car-z.job"), "\\xff\\x1b.job and car-z.job have the same card\n")
         self.assertIn(r">\xff\x1b.job<", self.answers("picture", "\udcff\x1b.job", "-o", "-"))
 
@@ -192,7 +193,8 @@ class Hostile(Words):
         self.ends(2, said, "card", "bad.toml")
         # the longest job is a job
         longest = [0, *[150] * 16382, 0]
-        self.file("longest.toml", TEXT[: TEXT.index("[trace]")] + f"[trace]\nspeeds = {[each / 10 for each in longest]}\n[holds]\n" + "".join(f"{k} = 5\n" for k in range(1, 16383)))
+        held = "".join(f"{k} = 5\n" for k in range(1, 16383))
+        self.file("longest.toml", TEXT[: TEXT.index("[trace]")] + f"[trace]\nspeeds = {[each / 10 for each in longest]}\n[holds]\n{held}")
         self.answers("make", "longest.toml")
         self.assertGreater((self.folder / "longest.job").stat().st_size, 81000)
         self.assertEqual(len(self.answers("card", "longest.job").splitlines()), 16385)
@@ -225,9 +227,12 @@ class Hostile(Words):
 
 #: Pieces that are put into other things.
 PIECES = (
-    *("[", "]", "{", "}", '"', "'", "#", "=", ",", ".", "\n", "\r", "\t", ";", "-", "+", "_", "\\", "\0", "\x1b[2J", "\u2028", "\ufeff", "é", "٥", "５", "\U0001f697"),
-    *("[[", '"""', "'''", "1e999", VAST, "-0", "0x", "0b2", "inf", "nan", "true", "2000-01-01", "1_000", "00", "9" * 30, "9" * 1200, "0.05", "65536", "-1", "a.b.c"),
-    *("[holds]", "[trace]", "[vehicle]", "[about]\nname = 'x'\n", "profile = 1\n", "csv = 'x.csv'\n", "cycle = 'class 3'\n", "part = 9\n", "hertz = 10\n", "decimal = ','\n"),
+    *("[", "]", "{", "}", '"', "'", "#", "=", ",", ".", "\n", "\r", "\t", ";", "-", "+", "_", "\\", "\0", "\x1b[2J"),
+    *("\u2028", "\ufeff", "é", "٥", "５", "\U0001f697"),
+    *("[[", '"""', "'''", "1e999", VAST, "-0", "0x", "0b2", "inf", "nan", "true", "2000-01-01", "1_000", "00"),
+    *("9" * 30, "9" * 1200, "0.05", "65536", "-1", "a.b.c"),
+    *("[holds]", "[trace]", "[vehicle]", "[about]\nname = 'x'\n", "profile = 1\n", "csv = 'x.csv'\n", "cycle = 'class 3'\n"),
+    *("part = 9\n", "hertz = 10\n", "decimal = ','\n"),
 )
 
 
@@ -236,12 +241,16 @@ def mutated(r: random.Random, text: str) -> str:
     for _ in range(r.choice((1, 1, 1, 2, 5))):
         a, b = sorted(r.randrange(len(text) + 1) for _ in range(2))
         b = min(b, a + r.choice((0, 1, 3, 20)))
-        text = r.choice((text[:a] + text[b:], text[:a] + r.choice(PIECES) + text[b:], text[:b] + text[a:], text[:a] + text[a:b][::-1] + text[b:], text[: max(a, 1)]))
+        put_in = text[:a] + r.choice(PIECES) + text[b:]
+        text = r.choice((text[:a] + text[b:], put_in, text[:b] + text[a:], text[:a] + text[a:b][::-1] + text[b:], text[: max(a, 1)]))
     return text
 
 
 #: What may stand for a number.
-NUMBERS = (VAST, f"-{VAST}", "1e-9999999999999999999", "1e999999999", "9" * 5000, "0x" + "f" * 5000, "0x" + "f" * 300, "1e400", "nan", "-inf", "-1", "65536", "0.05", "1,5", "٥")
+NUMBERS = (
+    *(VAST, f"-{VAST}", "1e-9999999999999999999", "1e999999999", "9" * 5000, "0x" + "f" * 5000, "0x" + "f" * 300),
+    *("1e400", "nan", "-inf", "-1", "65536", "0.05", "1,5", "٥"),
+)
 
 
 def mutated_number(r: random.Random, text: str) -> str:
@@ -261,7 +270,8 @@ def mutated_bytes(r: random.Random, data: bytes) -> bytes:
 def texts(case: Hostile, r: random.Random) -> tuple[str, ...]:
     source = r.choice((TEXT, TEXT, (EXAMPLES / "van.toml").read_text(), (EXAMPLES / "class-3.toml").read_text()))
     case.file("seeded.toml", r.choice((mutated, mutated_number))(r, source).encode(errors="replace"))
-    return r.choice((("card", "seeded.toml"), ("make", "seeded.toml", "-o", "made.job", "--force", "--drop-holds"), ("holds", "seeded.toml"), ("compare", "seeded.toml", "car-z.job")))
+    make = ("make", "seeded.toml", "-o", "made.job", "--force", "--drop-holds")
+    return r.choice((("card", "seeded.toml"), make, ("holds", "seeded.toml"), ("compare", "seeded.toml", "car-z.job")))
 
 
 SHEET = "time;speed;gear\ns;km/h;-\n0;0,0;1\n1;5,0;1\n2;15,3;2\n3;0,0;0\n"
@@ -270,7 +280,8 @@ SHEET = "time;speed;gear\ns;km/h;-\n0;0,0;1\n1;5,0;1\n2;15,3;2\n3;0,0;0\n"
 def sheets(case: Hostile, r: random.Random) -> tuple[str, ...]:
     text = r.choice((mutated, mutated_number))(r, r.choice((SHEET, SHEET.replace(";", ",").replace(",0,", ".0,").replace("15,3", "15.3"), "0\n5\n15.3\n0\n")))
     case.file("seeded.csv", text.encode(r.choice(("utf-8", "utf-8", "utf-8-sig", "utf-16", "latin-1", "utf-16-le")), errors="replace"))
-    keys = r.sample(("column = 2\n", "column = 'speed'\n", "time = 'time'\n", "time = 1\n", "hertz = 2\n", "decimal = ','\n", "decimal = '.'\n", "skip = 1\n"), r.randrange(3))
+    all_keys = ("column = 2\n", "column = 'speed'\n", "time = 'time'\n", "time = 1\n", "hertz = 2\n", "decimal = ','\n", "decimal = '.'\n", "skip = 1\n")
+    keys = r.sample(all_keys, r.randrange(3))
     case.file("sheet.toml", HEAD + "csv = 'seeded.csv'\n" + "".join({key.split()[0]: key for key in keys}.values()))
     return "card", "sheet.toml"
 
@@ -297,7 +308,10 @@ def exports(case: Hostile, r: random.Random) -> tuple[str, ...]:
 
 def commands(case: Hostile, r: random.Random) -> tuple[str, ...]:
     names = ("make", "show", "card", "summary", "holds", "compare", "picture", "hold", "release", "mend", "edit", "export", "cycle", "coefficients", "help")
-    given = ("car-z.job", "car-z.toml", "none", "", ".", "2", "3", "1-2", "9.5", "--csv", "--json", "--dry-run", "-h", "--part", "--downscale", "0.1", "--wait", "0", "--", "--force")
+    given = (
+        *("car-z.job", "car-z.toml", "none", "", ".", "2", "3", "1-2", "9.5"),
+        *("--csv", "--json", "--dry-run", "-h", "--part", "--downscale", "0.1", "--wait", "0", "--", "--force"),
+    )
     words = [r.choice(names), *(r.choice((*given, *PIECES, *NUMBERS)) for _ in range(r.randrange(4)))]
     # a file that is made or changed would be another for the next case, and standard input is the tests' own
     keep = {"hold": ("--dry-run",), "release": ("--dry-run",), "mend": ("--dry-run",), "edit": ("--dry-run",), "export": ("--dry-run",)}

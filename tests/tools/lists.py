@@ -12,6 +12,7 @@ import subprocess
 import threading
 import time
 import unittest
+import unittest.mock
 from array import array
 from collections import OrderedDict, UserList, deque
 from concurrent.futures import ThreadPoolExecutor
@@ -44,6 +45,10 @@ def mapped(values: list[int]) -> memoryview:
     return memoryview(room)
 
 
+def array_of(code: str) -> Callable[[list[int]], Any]:
+    return lambda values: array(code, values)
+
+
 BYTES: dict[str, Callable[[list[int]], Any]] = {
     "list": list,
     "bytearray": bytearray,
@@ -51,16 +56,21 @@ BYTES: dict[str, Callable[[list[int]], Any]] = {
     "mmap": mapped,
     "backwards": lambda values: memoryview(bytearray(reversed(values)))[::-1],
     "spread": spread,
-    **{f"array {code}": (lambda values, code=code: array(code, values)) for code in "bBhHiIlLqQ"},
+    **{f"array {code}": array_of(code) for code in "bBhHiIlLqQ"},
 }
 SPEEDS: dict[str, Callable[[list[int]], Any]] = {
     "list": list,
     "memoryview": lambda values: memoryview(array("H", values)),
     "unaligned": unaligned,
     "spread": lambda values: memoryview(array("H", [each for value in values for each in (value, 9)]))[::2],
-    **{f"array {code}": (lambda values, code=code: array(code, values)) for code in "hHiIlLqQ"},
+    **{f"array {code}": array_of(code) for code in "hHiIlLqQ"},
 }
-READ_ONLY: dict[str, Callable[[list[int]], Any]] = {"tuple": tuple, "bytes": bytes, "view": lambda values: memoryview(bytes(values)), "kind of list": type("Mine", (list,), {})}
+READ_ONLY: dict[str, Callable[[list[int]], Any]] = {
+    "tuple": tuple,
+    "bytes": bytes,
+    "view": lambda values: memoryview(bytes(values)),
+    "kind of list": type("Mine", (list,), {}),
+}
 
 
 NUMPY = """
@@ -100,6 +110,13 @@ except ValueError:
 assert (table == before[0]).all() and (holds == before[1]).all() and (card == before[2]).all()
 print("lent")
 """
+
+
+def lent_by(case: unittest.TestCase, copied: Callable[[lists.Lent], array[int]]) -> None:
+    """Has lists be copied by this function up to the end of the test."""
+    patch = unittest.mock.patch.object(lists.Lent, "copied", copied)
+    patch.start()
+    case.addCleanup(patch.stop)
 
 
 class Kinds(unittest.TestCase):
@@ -142,8 +159,13 @@ class Kinds(unittest.TestCase):
     def test_lent_as_it_is(self) -> None:
         """A buffer of the right numbers is not copied: while it is lent no other has room to look, so the count of copies is looked at."""
         copied: list[str] = []
-        real, lists.Lent.copied = lists.Lent.copied, lambda lent: copied.append(lent.name) or real(lent)
-        self.addCleanup(setattr, lists.Lent, "copied", real)
+        real = lists.Lent.copied
+
+        def noted(lent: lists.Lent) -> array[int]:
+            copied.append(lent.name)
+            return real(lent)
+
+        lent_by(self, noted)
         hold(seeded.CAR_Z, array("H", TRACE), bytearray(5), memoryview(bytearray(CARD)), 2, 3)
         work(seeded.CAR_Z, memoryview(array("H", TRACE)).toreadonly(), bytes(5))
         self.assertEqual(copied, [])
@@ -182,13 +204,14 @@ class Kinds(unittest.TestCase):
             self.assertEqual((holds, card), (bytearray(5), bytearray(CARD)))
 
     def test_wrong_numbers(self) -> None:
-        for wrong, error, words in (
+        numbers: tuple[tuple[Any, type[Exception], str], ...] = (
             ([0, 0, 256, 0, 0], ValueError, r"holds\[2\] = 256 is no whole number from 0 to 255"),
             ([0, 0, 0, -1, 0], ValueError, r"holds\[3\] = -1 is"),
             ([0, 2.0, 0, 0, 0], TypeError, r"holds\[1\] = 2.0 is no whole number"),
             ([None] * 5, TypeError, r"holds\[0\] = None is no whole number"),
             (array("i", [0, 0, 300, 0, 0]), ValueError, r"holds\[2\] = 300"),
-        ):
+        )
+        for wrong, error, words in numbers:
             card, before = bytearray(CARD), list(wrong)
             with self.assertRaisesRegex(error, words):
                 hold(seeded.CAR_Z, TRACE, wrong, card, 2, 3)
@@ -221,14 +244,19 @@ class Kinds(unittest.TestCase):
 
     def test_empty(self) -> None:
         for empty in ([], bytearray(), array("H"), memoryview(b""), ()):
-            for call in (lambda: work(seeded.CAR_Z, empty), lambda: write(seeded.CAR_Z, empty), lambda: summary(empty, empty)):
+            calls: tuple[Callable[[], object], ...] = (
+                lambda: work(seeded.CAR_Z, empty),
+                lambda: write(seeded.CAR_Z, empty),
+                lambda: summary(empty, empty),
+            )
+            for call in calls:
                 with self.assertRaises((Refused, TypeError)) as raised:
                     call()
                 if isinstance(raised.exception, Refused):
                     self.assertEqual((raised.exception.number, raised.exception.place), (1, 0))
-        with self.assertRaises(Refused) as raised:
+        with self.assertRaises(Refused) as refused:
             hold(seeded.CAR_Z, array("H"), bytearray(), bytearray(), 0, 1)
-        self.assertEqual((raised.exception.number, raised.exception.place), (1, 0))
+        self.assertEqual((refused.exception.number, refused.exception.place), (1, 0))
 
     def test_numpy(self) -> None:
         """By Debian's Python, with Debian's numpy."""
@@ -251,8 +279,7 @@ class Threads(unittest.TestCase):
             time.sleep(1e-4)
             return copy
 
-        lists.Lent.copied = slowly
-        self.addCleanup(setattr, lists.Lent, "copied", real)
+        lent_by(self, slowly)
 
     def trial(self, kind: Callable[[bytearray], Any], edits: int = 120) -> None:
         speeds = array("H", [0, *[150] * edits, 0])
@@ -272,7 +299,8 @@ class Threads(unittest.TestCase):
         self.assertEqual(list(card), list(work(seeded.CAR_Z, speeds, holds)))
 
     def test_shared(self) -> None:
-        for kind in (bytearray, list, lambda values: array("i", list(values))):
+        kinds: tuple[Callable[[bytearray], Any], ...] = (bytearray, list, lambda values: array("i", list(values)))
+        for kind in kinds:
             self.trial(kind)
 
     def test_readers(self) -> None:
@@ -313,7 +341,11 @@ class Forks(unittest.TestCase):
             r = random.Random(3)
             while not stop.is_set():
                 second = r.randrange(1, 301)
-                edit = r.choice((lambda: hold(seeded.CAR_Z, speeds, holds, card, second, 3), lambda: release(seeded.CAR_Z, speeds, holds, card, second)))
+                both: tuple[Callable[[], object], ...] = (
+                    lambda: hold(seeded.CAR_Z, speeds, holds, card, second, 3),
+                    lambda: release(seeded.CAR_Z, speeds, holds, card, second),
+                )
+                edit = r.choice(both)
                 with contextlib.suppress(Refused):
                     edit()
 

@@ -10,6 +10,7 @@ import sys
 import time
 import unittest.mock
 from array import array
+from typing import Callable
 
 from gearcard import hold, mend, read, release, work, write
 from gearcard.store import change
@@ -28,7 +29,7 @@ PAIRS = [(second, second + 1) for second in range(8, 8 + 30 * 4, 4)]
 def words_of(seed: int) -> list[tuple[str, ...]]:
     """200 edits of 60 seconds: the two mends of each pair, of which only one can be accepted, and 140 holds and releases."""
     r = random.Random(seed)
-    edits = [("mend", str(second), speed) for pair in PAIRS for second, speed in zip(pair, ("68.0", "52.0"))]
+    edits: list[tuple[str, ...]] = [("mend", str(second), speed) for pair in PAIRS for second, speed in zip(pair, ("68.0", "52.0"))]
     seconds = [str(second) for pair in PAIRS for second in pair]
     edits += [("hold", second, r.choice("345")) for second in seconds + r.sample(seconds, 60)]
     edits += [("release", second) for second in r.sample(seconds, 20)]
@@ -46,7 +47,11 @@ class Parallel(Words):
         start = time.monotonic()
         running = [
             subprocess.Popen(
-                [TOP / "gearcard", word, self.job, *more, "--wait", "600"], stdin=subprocess.DEVNULL, stdout=subprocess.DEVNULL, stderr=subprocess.PIPE, text=True
+                [TOP / "gearcard", word, self.job, *more, "--wait", "600"],
+                stdin=subprocess.DEVNULL,
+                stdout=subprocess.DEVNULL,
+                stderr=subprocess.PIPE,
+                text=True,
             )
             for word, *more in asked
         ]
@@ -118,7 +123,13 @@ class Meanwhile(Words):
     def test_changed_without_a_lock(self) -> None:
         """Another program writes the file between the reading and the writing, in place or by a new one: it is read again."""
         path = self.folder / "car-z.job"
-        for other in (lambda data: path.write_bytes(data), lambda data: (self.file("new", data), os.replace(self.folder / "new", path))):
+
+        def replaced(data: bytes) -> None:
+            self.file("new", data)
+            os.replace(self.folder / "new", path)
+
+        others: tuple[Callable[[bytes], object], ...] = (path.write_bytes, replaced)
+        for other in others:
             path.write_bytes(b"first")
             seen: list[bytes | None] = []
 
@@ -162,12 +173,12 @@ import collections, contextlib, io, os, signal, sys
 from pathlib import Path
 from gearcard import interrupts
 interrupts.prepare()
-from gearcard import store
+from gearcard import posix, store
 from gearcard.cli import main
 
 job, ended = Path("class-3.job"), collections.Counter()
 before = job.read_bytes()
-watched = {store.__file__, interrupts.__file__, contextlib.__file__}
+watched = {store.__file__, posix.__file__, interrupts.__file__, contextlib.__file__}
 
 def run(at):
     left = at
@@ -207,8 +218,14 @@ print(ended[130], ended[0])
 class Interrupted(Words):
     """SIGINT to all processes of the command, as a terminal sends it, at moments from its start to its end."""
 
+    def setUp(self) -> None:
+        super().setUp()
+        # A shell has what it starts in the background ignore it, and what that starts in turn; these tests are of a command that a terminal started.
+        self.addCleanup(signal.signal, signal.SIGINT, signal.signal(signal.SIGINT, signal.default_int_handler))
+
     def test_at_every_step(self) -> None:
-        ran = subprocess.run([sys.executable, "-c", STEPPED], cwd=self.folder, env={**os.environ, "PYTHONPATH": str(TOP / "python")}, capture_output=True, text=True)
+        env = {**os.environ, "PYTHONPATH": str(TOP / "python")}
+        ran = subprocess.run([sys.executable, "-c", STEPPED], cwd=self.folder, env=env, capture_output=True, text=True)
         self.assertEqual((ran.returncode, ran.stderr), (0, ""))
         stopped, late = map(int, ran.stdout.split())
         print(f"tools: interrupts at every step: {stopped} ended with 130 and changed nothing, {late} came too late")
@@ -228,7 +245,12 @@ class Interrupted(Words):
         for k in range(50):
             (self.folder / "class-3.job").write_bytes(before)
             running = subprocess.Popen(
-                [TOP / "gearcard", "hold", "class-3.job", "60", "3"], cwd=self.folder, stderr=subprocess.PIPE, stdout=subprocess.PIPE, text=True, start_new_session=True
+                [TOP / "gearcard", "hold", "class-3.job", "60", "3"],
+                cwd=self.folder,
+                stderr=subprocess.PIPE,
+                stdout=subprocess.PIPE,
+                text=True,
+                start_new_session=True,
             )
             time.sleep(longest * k / 50)
             if running.poll() is None:

@@ -38,9 +38,9 @@ def prints(program: str) -> str:
     return "".join(f"{line}\n" for line in re.findall(r"(?:#|//) prints: (.*)", program))
 
 
-def ran(*words: str | Path, **more: object) -> tuple[int, str]:
+def ran(*words: str | Path, env: dict[str, str] | None = None) -> tuple[int, str]:
     """Status, and what is printed, on standard output and standard error as they come."""
-    done = subprocess.run(words, cwd=TOP, stdin=subprocess.DEVNULL, stdout=subprocess.PIPE, stderr=subprocess.STDOUT, text=True, **more)
+    done = subprocess.run(words, cwd=TOP, stdin=subprocess.DEVNULL, stdout=subprocess.PIPE, stderr=subprocess.STDOUT, text=True, env=env)
     return done.returncode, done.stdout
 
 

@@ -78,7 +78,8 @@ def group(value: int) -> bytes:
 def encoded(job: Job) -> bytes:
     """A job's bytes, as document 01 lists them."""
     car = job.vehicle
-    numbers = [job.version, *([car.profile] if job.version > 2 else []), len(car.ratios), *car.ratios, car.idle, car.rated, car.nmax, car.f0, car.f1 + 5000, car.f2, car.tm, car.margin]
+    numbers = [job.version, *([car.profile] if job.version > 2 else []), len(car.ratios), *car.ratios]
+    numbers += [car.idle, car.rated, car.nmax, car.f0, car.f1 + 5000, car.f2, car.tm, car.margin]
     numbers += [len(car.curve), *(number for point in car.curve for number in (point if job.version > 1 else point[:2]))]
     numbers += [len(job.speeds), *job.speeds]
     held = [(second, gear) for second, gear in enumerate(job.holds) if gear]

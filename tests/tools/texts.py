@@ -4,6 +4,7 @@ from __future__ import annotations
 
 import tempfile
 import unittest
+from array import array
 from decimal import Decimal
 from pathlib import Path
 
@@ -206,7 +207,7 @@ class Faults(unittest.TestCase):
                 load(Path(folder) / "none.toml")
 
     def test_profile(self) -> None:
-        text = show(seeded.Job(seeded.CAR_Z, seeded.array("H", [0]), bytearray(1), 3))
+        text = show(Job(seeded.CAR_Z, array("H", [0]), bytearray(1), 3))
         self.assertIn("\nprofile = 0 ", text)
         self.assertEqual(parsed(text.replace("profile = 0 ", "profile = 1 ")).vehicle.profile, 1)
         self.expect(text.replace("profile = 0 ", "# "), 3, "vehicle.profile is missing")
@@ -215,6 +216,7 @@ class Faults(unittest.TestCase):
     def test_lines_of_forms(self) -> None:
         text = 'a."b c".d = 3\nq = { x = 1, y = [1,\n2] }\ns = """x\n[t]\ny = 3\\""""\nl = \'\'\'\n\'\'\'\n[[m.n]]\nz = 1 # [u]\n[[m.n]]\nz = "#"\n'
         lines = lines_of(text)
-        wanted = {("a", "b c", "d"): 1, ("q", "y", 1): 3, ("s",): 4, ("l",): 7, ("m", "n", 0, "z"): 10, ("m", "n", 1): 11, ("m", "n", 1, "z"): 12}
+        wanted: dict[tuple[str | int, ...], int] = {("a", "b c", "d"): 1, ("q", "y", 1): 3, ("s",): 4, ("l",): 7}
+        wanted |= {("m", "n", 0, "z"): 10, ("m", "n", 1): 11, ("m", "n", 1, "z"): 12}
         self.assertEqual({path: lines[path] for path in wanted}, wanted)
         self.assertNotIn(("t",), lines)

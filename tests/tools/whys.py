@@ -36,7 +36,18 @@ class Whys(Words):
         found = why(car, speeds, None, 6)
         self.assertEqual((found.required, found.choice, found.sentence), (78_525_000_000_000, 4, 2))
         self.assertEqual((found.gears[4].engine, found.gears[4].minimum, found.gears[4].rule), (1_400_000, 1400, 5))
-        self.assertEqual([(Fraction(each.q, each.w), each.enough) for each in found.gears[3:]], [(Fraction(290_000_000 * 90, 1000), True), (Fraction(220_000_000 * 90, 1000), False)])
+        powers = [(Fraction(each.q, each.w), each.enough) for each in found.gears[3:]]
+        self.assertEqual(powers, [(Fraction(290_000_000 * 90, 1000), True), (Fraction(220_000_000 * 90, 1000), False)])
+
+    def test_minimum_speeds(self) -> None:
+        """In the closing run gear 2's minimum is idle itself, at a trip's first second too; gear 1 also fits below its own."""
+        car = read((EXAMPLES / "car-z.job").read_bytes()).vehicle
+        second = why(car, (0, 110, 0), None, 1).gears[1]
+        self.assertEqual((second.minimum, second.rule, second.engine, second.over_minimum, second.fits), (800, 3, 770_000, False, False))
+        second = why(car, (0, 110, 110, 0), None, 1).gears[1]
+        self.assertEqual((second.minimum, second.rule, second.over_minimum, second.fits), (720, 2, True, False))
+        first = why(car, (0, 50, 150, 100, 0), None, 1).gears[0]
+        self.assertEqual((first.minimum, first.engine, first.over_minimum, first.fits), (800, 600_000, False, True))
 
     def test_refusals(self) -> None:
         job = read((EXAMPLES / "refused.job").read_bytes())

@@ -11,6 +11,7 @@ import tempfile
 import unittest
 import unittest.mock
 from pathlib import Path
+from typing import Iterable
 
 from gearcard import cycle, downscale
 from gearcard.cli import main
@@ -114,7 +115,11 @@ class Card(Words):
         for old, new, said in (
             (TEXT[TEXT.index("  0.0, 5.0,") :], "]\n", "refused 1 at 0: car.toml line 20: the trace is empty or over 16,384 seconds"),
             ("ratios = [120.00, 70.00, 45.00, 35.00, 28.00]", "ratios = [28.00]", f"refused 3 at 1: car.toml line 4: vehicle.ratios: {FIELDS[1][1]}"),
-            ("120.00, 70.00", "70.00, 120.00", "refused 3 at 2: car.toml line 4: vehicle.ratios[1] = 120.00, gear 2: each is 0.01 to 500.00 min^-1 per km/h, and falls with the gear"),
+            (
+                "120.00, 70.00",
+                "70.00, 120.00",
+                "refused 3 at 2: car.toml line 4: vehicle.ratios[1] = 120.00, gear 2: each is 0.01 to 500.00 min^-1 per km/h, and falls with the gear",
+            ),
             ("idle = 800", "idle = 200", "refused 3 at 3: car.toml line 5: vehicle.idle = 200: it is 300 to 3,000 min^-1"),
             ("nmax = 6000", "nmax = 5000", "refused 3 at 5: car.toml line 7: vehicle.nmax = 5000: it is from rated to 15,000 min^-1"),
             ("f1 = 0.000", "f1 = 5.001", "refused 3 at 7: car.toml line 9: vehicle.f1 = 5.001: it is -5.000 to 5.000 N/(km/h)"),
@@ -138,7 +143,8 @@ class Card(Words):
         self.file("car.toml", later.replace("version = 7", "version = 3").replace("88.0, 40", "88.0, 51"))
         self.ends(1, f"refused 3 at 12: car.toml line 18: vehicle.curve[6] = [6000, 88.0, 51]: {FIELDS[12][1]}", "card", "car.toml")
         self.file("car.toml", later.replace("version = 7", "version = 3").replace("2 = 3", "2 = 1"))
-        self.ends(1, "refused 7 at 2: car.toml line 30: holds.2 = 1 is no gear to hold: the vehicle has 5, of which the first is not driven", "card", "car.toml")
+        said = "refused 7 at 2: car.toml line 30: holds.2 = 1 is no gear to hold: the vehicle has 5, of which the first is not driven"
+        self.ends(1, said, "card", "car.toml")
         self.file("car.toml", later.replace("version = 7", "version = 3").replace("profile = 1", "profile = 2"))
         self.ends(1, f"refused 3 at 1: car.toml line 13: vehicle.profile = 2: {FIELDS[1][1]}", "card", "car.toml")
         self.file("car.toml", later.replace("version = 7", "version = 3").replace("[120.00, 70.00, 45.00, 35.00, 28.00]", "[70.00, 28.00]"))
@@ -244,7 +250,8 @@ class Edits(Words):
         ):
             self.ends(1, said, "mend", "car-z.job", *words)
         self.ends(1, "refused 8 at 2: gear 3, held at second 2, is at a standing second", "mend", "car-z-held.job", 2, "0.9")
-        self.ends(2, "gearcard: argument SPEED: the speed 10.05 is no whole number of tenths of km/h: the nearest that are, are 10.0 and 10.1 (./gearcard mend --help says what it takes)", "mend", "car-z.job", 3, "10.05")
+        said = "the speed 10.05 is no whole number of tenths of km/h: the nearest that are, are 10.0 and 10.1"
+        self.ends(2, f"gearcard: argument SPEED: {said} (./gearcard mend --help says what it takes)", "mend", "car-z.job", 3, "10.05")
         self.ends(2, "gearcard: argument SPEED: the speed fast is no number (./gearcard mend --help says what it takes)", "mend", "car-z.job", 3, "fast")
         self.assertEqual(self.bytes_of("car-z.job"), before)
 
@@ -267,7 +274,8 @@ class Edits(Words):
             self.ends(1, said, *words)
         self.ends(1, "refused 9 at 4: gear 1, held at second 4, would turn the engine past nmax", "hold", "refused.job", 2, 1)
         self.ends(2, "gearcard: argument GEAR: '256' is no gear from 0 to 255 (./gearcard hold --help says what it takes)", "hold", "car-z.job", 2, 256)
-        self.ends(2, "gearcard: argument SECONDS: 'two' is no second from 0 to 18446744073709551615 (./gearcard release --help says what it takes)", "release", "car-z.job", "two")
+        said = "'two' is no second from 0 to 18446744073709551615"
+        self.ends(2, f"gearcard: argument SECONDS: {said} (./gearcard release --help says what it takes)", "release", "car-z.job", "two")
         self.file("car.toml", TEXT)
         self.ends(2, "gearcard: car.toml is a text, and not a job", "hold", "car.toml", 2, 3)
         self.assertEqual(self.bytes_of("car-z.job"), before)
@@ -283,7 +291,7 @@ class Edits(Words):
         self.assertEqual(new.st_mode & 0o7777, 0o640)
         self.assertNotEqual(new.st_ino, old.st_ino)
         with unittest.mock.patch("os.fsync", side_effect=OSError(28, "No space left on device")):
-            self.ends(2, f"gearcard: car-z.job could not be changed: No space left on device", "release", "car-z.job", 2)
+            self.ends(2, "gearcard: car-z.job could not be changed: No space left on device", "release", "car-z.job", 2)
         self.assertEqual(self.bytes_of("car-z.job"), (EXAMPLES / "car-z-held.job").read_bytes())
         self.assertEqual([path.name for path in self.folder.iterdir() if path.name.startswith(".")], [])
 
@@ -322,15 +330,16 @@ class Others(Words):
         self.assertIn("f0 = 100.0            # N; 1000 tenths of N\n", self.answers("show", "car-z.job"))
 
     def test_cycle(self) -> None:
-        def table(first: int, speeds: object) -> str:
-            return "second,speed\n" + "".join(f"{first + k},{speed // 10}.{speed % 10}\n" for k, speed in enumerate(speeds))  # type: ignore[call-overload]
+        def table(first: int, speeds: Iterable[int]) -> str:
+            return "second,speed\n" + "".join(f"{first + k},{speed // 10}.{speed % 10}\n" for k, speed in enumerate(speeds))
 
         self.assertEqual(self.answers("cycle"), table(0, cycle()))
         self.assertEqual(self.answers("cycle", "--part", "2"), table(589, cycle(2)))
         self.assertEqual(self.answers("cycle", "--downscale", "0.25", "--part", "4"), table(1477, downscale(250, 4)))
         self.ends(1, "refused 18 at 0: the part is none of 1 to 4, or 0 for the whole cycle", "cycle", "--part", "5")
         self.ends(1, "refused 23 at 0: the downscaling factor is over 0.500", "cycle", "--downscale", "0.6")
-        self.ends(2, "gearcard: --downscale 0.1234 is no whole number of thousandths: the nearest that are, are 0.123 and 0.124", "cycle", "--downscale", "0.1234")
+        said = "gearcard: --downscale 0.1234 is no whole number of thousandths: the nearest that are, are 0.123 and 0.124"
+        self.ends(2, said, "cycle", "--downscale", "0.1234")
         self.ends(2, "gearcard: --downscale half is no number", "cycle", "--downscale", "half")
 
     def test_coefficients(self) -> None:
@@ -393,7 +402,11 @@ class Others(Words):
         for name in ("bash", "dirname", "readlink", "find", "uname", "python3", "sed", "env", "date"):
             (few / name).symlink_to(shutil.which(name) or "")
         ran = subprocess.run(
-            [copy / "gearcard", "card", copy / "examples/car-z.job"], env={**os.environ, "PATH": str(few)}, capture_output=True, text=True, stdin=subprocess.DEVNULL
+            [copy / "gearcard", "card", copy / "examples/car-z.job"],
+            env={**os.environ, "PATH": str(few)},
+            capture_output=True,
+            text=True,
+            stdin=subprocess.DEVNULL,
         )
         self.assertEqual((ran.returncode, ran.stdout, ran.stderr), (2, "", "library: the Rattle kit is missing: there is no command rt\n"))
 

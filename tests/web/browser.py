@@ -11,8 +11,9 @@ from typing import Any, Callable
 from selenium import webdriver
 from selenium.webdriver.chrome.options import Options
 from selenium.webdriver.chrome.service import Service
+from selenium.webdriver.chrome.webdriver import WebDriver
 from selenium.webdriver.common.action_chains import ActionChains
-from selenium.webdriver.remote.webdriver import WebDriver
+from selenium.webdriver.remote.webelement import WebElement
 
 TOP = Path(__file__).resolve().parents[2]
 
@@ -53,6 +54,25 @@ def long_job() -> Path:
     return path
 
 
+def untyped(part: Any) -> Any:
+    """A part of Selenium, for those of its calls that it gives no types."""
+    return part
+
+
+def options(*more: str) -> Options:
+    """How the browser is started."""
+    found = Options()
+    found.binary_location = "/usr/bin/chromium"
+    for word in ("--headless=new", "--no-sandbox", "--hide-scrollbars", "--window-size=1280,900", "--disable-dev-shm-usage", *more):
+        untyped(found).add_argument(word)
+    # Two files are saved at once, which a person is asked for once.
+    settings = {"download.default_directory": str(DOWNLOADS), "download.prompt_for_download": False}
+    settings["profile.default_content_setting_values.automatic_downloads"] = 1
+    found.add_experimental_option("prefs", settings)
+    found.set_capability("goog:loggingPrefs", {"browser": "ALL"})
+    return found
+
+
 def driver() -> WebDriver:
     """The browser, started with the first test, and the page, made with it."""
     global _driver
@@ -61,13 +81,7 @@ def driver() -> WebDriver:
         done = gearcard("page", "-o", PAGE)
         if done.returncode != 0:
             raise RuntimeError(done.stderr)
-        options = Options()
-        options.binary_location = "/usr/bin/chromium"
-        for word in ("--headless=new", "--no-sandbox", "--hide-scrollbars", "--window-size=1280,900", "--disable-dev-shm-usage"):
-            options.add_argument(word)
-        options.add_experimental_option("prefs", {"download.default_directory": str(DOWNLOADS), "download.prompt_for_download": False})
-        options.set_capability("goog:loggingPrefs", {"browser": "ALL"})
-        _driver = webdriver.Chrome(options=options, service=Service("/usr/bin/chromedriver"))
+        _driver = webdriver.Chrome(options=options(), service=Service("/usr/bin/chromedriver"))
         _driver.set_script_timeout(300)
     return _driver
 
@@ -100,14 +114,24 @@ class PageTest(unittest.TestCase):
         self.open()
 
     def tearDown(self) -> None:
-        said = [entry["message"] for entry in self.browser.get_log("browser")]
+        said = self.logged()
         self.close_others()
         self.assertEqual(said, [], "the browser's log")
 
     def open(self, page: Path | None = None) -> None:
         self.resize(*self.size)
-        self.browser.get((page or self.page).as_uri())
+        self.load(page or self.page)
+        # The record that a test before left is not this one's.
+        if self.js("const found = localStorage.length > 0; localStorage.clear(); return found"):
+            self.load(page or self.page)
+
+    def load(self, page: Path) -> None:
+        self.browser.get(page.as_uri())
         until("the page is ready", lambda: self.js("return document.documentElement.dataset.ready !== undefined"))
+
+    def logged(self) -> list[str]:
+        """What the browser's log has had since it was last asked for."""
+        return [entry["message"] for entry in untyped(self.browser).get_log("browser")]
 
     def close_others(self) -> None:
         main, *others = self.browser.window_handles
@@ -123,24 +147,29 @@ class PageTest(unittest.TestCase):
         return self.browser.execute_cdp_cmd(word, values)
 
     def js(self, script: str, *values: Any) -> Any:
-        return self.browser.execute_script(script, *values)
+        return untyped(self.browser).execute_script(script, *values)
 
-    def element(self, name: str):
+    def element(self, name: str) -> WebElement:
         return self.browser.find_element("id", name)
 
     def text(self, name: str) -> str:
-        return self.js("return document.getElementById(arguments[0]).textContent", name)
+        text: str = self.js("return document.getElementById(arguments[0]).textContent", name)
+        return text
 
     def click(self, name: str) -> None:
         self.element(name).click()
 
+    def actions(self) -> Any:
+        """What hands do next, as Selenium takes it."""
+        return untyped(ActionChains)(self.browser, duration=0)
+
     def keys(self, *words: str) -> None:
         """Keys for whatever has the focus."""
-        ActionChains(self.browser, duration=0).send_keys(*words).perform()
+        self.actions().send_keys(*words).perform()
 
     def chord(self, *words: str) -> None:
         *held, last = words
-        chain = ActionChains(self.browser, duration=0)
+        chain = self.actions()
         for word in held:
             chain.key_down(word)
         chain.send_keys(last)
@@ -164,11 +193,13 @@ class PageTest(unittest.TestCase):
         self.js("document.getElementById('mend').requestSubmit(); document.getElementById('chart').focus()")
 
     def present(self) -> dict[str, Any]:
-        return self.js(PRESENT)
+        state: dict[str, Any] = self.js(PRESENT)
+        return state
 
     def alert(self) -> str:
         """The line that says what was refused; empty where there is none."""
-        return self.js("const line = document.getElementById('alert'); return line.hidden ? '' : line.textContent")
+        words: str = self.js("const line = document.getElementById('alert'); return line.hidden ? '' : line.textContent")
+        return words
 
     def take(self, path: Path) -> None:
         """Opens a file by the dialog's field."""

@@ -2,13 +2,15 @@
 
 from __future__ import annotations
 
+from typing import Callable
+
 from gearcard import Vehicle, read, why, write
-from selenium.webdriver.common.action_chains import ActionChains
 from selenium.webdriver.common.keys import Keys
 
 from .browser import OUT, RIGHT, TOP, PageTest, until
 
-#: A car whose second gear does not fit after first gear at 16.0 km/h: released or held in first, second 2 leaves second 3 without a gear, by document 02's request Two.
+#: A car whose second gear does not fit after first gear at 16.0 km/h: released or held in first, second 2 leaves second 3 without a gear, by document 02's
+#: request Two.
 GAP = Vehicle((6600, 5000), 800, 900, 1000, 0, 0, 0, 1000, 10, ((800, 1000), (1000, 1000)))
 GAP_SPEEDS = (0, 100, 150, 160, 160, 150, 100, 0)
 GAP_HOLDS = (0, 0, 2, 0, 0, 0, 0, 0)
@@ -22,7 +24,7 @@ class Edits(PageTest):
         chart = self.element("chart")
         width = chart.rect["width"]
         x = 46 + (width - 56) * 60.5 / 1801
-        ActionChains(self.browser, duration=0).move_to_element_with_offset(chart, x - width / 2, 0).click().perform()
+        self.actions().move_to_element_with_offset(chart, x - width / 2, 0).click().perform()
         self.assertEqual(self.text("chosen-title"), "Second 60")
         before = self.gear_shown()
         self.keys("4")
@@ -30,7 +32,8 @@ class Edits(PageTest):
         self.assertEqual((self.gear_shown(), self.text("fact-hold")), ("4", "gear 4"))
         self.assertEqual(self.present()["holds"][60], 4)
         self.assertIn("Second 60 held in gear 4", self.text("status"))
-        self.assertEqual(self.js("return document.getElementById('chart').getAttribute('aria-valuetext')"), "second 60, 14.7 km/h, gear 4, clutch up, held in 4")
+        said = self.js("return document.getElementById('chart').getAttribute('aria-valuetext')")
+        self.assertEqual(said, "second 60, 14.7 km/h, gear 4, clutch up, held in 4")
         self.assertRight()
         self.keys(Keys.DELETE)
         self.assertEqual((self.gear_shown(), self.text("fact-hold")), (before, "none"))
@@ -72,8 +75,8 @@ class Edits(PageTest):
         self.keys("4")
         rows = self.js("return Array.from(document.querySelectorAll('#summary tr'), (row) => [row.cells[0].textContent, row.cells[2].textContent])")
         counted = self.present()["summary"]
-        wanted = [["Standing", f"{counted['standing']} s"], *([f"Gear {k + 1}", f"{counted['gears'][k]} s"] for k in range(6)), ["Changes", str(counted["changes"])]]
-        self.assertEqual(rows, wanted)
+        gears = [[f"Gear {k + 1}", f"{counted['gears'][k]} s"] for k in range(6)]
+        self.assertEqual(rows, [["Standing", f"{counted['standing']} s"], *gears, ["Changes", str(counted["changes"])]])
 
     def test_a_range_is_one_step(self) -> None:
         self.choose(30, 50)
@@ -144,7 +147,7 @@ class Edits(PageTest):
         self.click("check")
         self.assertIn("all 1801 seconds of the card and the summary are the same", self.text("status"))
 
-    def refused(self, number: int, place: int, edit) -> None:
+    def refused(self, number: int, place: int, edit: Callable[[], None]) -> None:
         """An edit that is refused: said with number, place and words, its place marked, and nothing else changes."""
         before = self.present()
         edit()
@@ -194,7 +197,8 @@ class Edits(PageTest):
         self.refused(10, 5, lambda: self.mend("15.5"))
 
     def test_refusal_11_is_the_package_s_and_the_fields_choose_no_such_second(self) -> None:
-        script = "const p = gearcardPage.present(); try { gearcard.hold(p.vehicle, p.speeds, p.holds, p.card, 1801, 2) } catch (why) { return [why.number, why.place] }"
+        hold = "gearcard.hold(p.vehicle, p.speeds, p.holds, p.card, 1801, 2)"
+        script = f"const p = gearcardPage.present(); try {{ {hold} }} catch (why) {{ return [why.number, why.place] }}"
         self.assertEqual(self.js(script), [11, 1801])
         self.choose(1801)
         self.assertEqual(self.alert(), "the trace has seconds 0 to 1800")
@@ -221,7 +225,10 @@ class Edits(PageTest):
           const kind = below(4);
           if (kind < 2) key(String(1 + below(7)));
           else if (kind === 2) key('Delete');
-          else if (a === b) { by('speed').value = (Math.max(0, gearcardPage.present().speeds[a] + below(80) - 40) / 10).toFixed(1); by('mend').requestSubmit(); }
+          else if (a === b) {
+            by('speed').value = (Math.max(0, gearcardPage.present().speeds[a] + below(80) - 40) / 10).toFixed(1);
+            by('mend').requestSubmit();
+          }
           if (!by('alert').hidden) refused++;
           if (!right()) wrong++;
         }

@@ -154,7 +154,8 @@ class Trace(PageTest):
         self.js("document.getElementById('trace-form').requestSubmit()")
 
     def said(self) -> list[str]:
-        return self.js("return Array.from(document.querySelectorAll('#trace .error:not([hidden])'), (line) => line.textContent)")
+        lines: list[str] = self.js("return Array.from(document.querySelectorAll('#trace .error:not([hidden])'), (line) => line.textContent)")
+        return lines
 
     def test_the_cycle_its_parts_and_scaled_down(self) -> None:
         for part, factor in ((1, "0.000"), (4, "0.123"), (0, "0.500"), (0, "0")):
@@ -179,23 +180,39 @@ class Trace(PageTest):
             ("second\tspeed\n0\t0,0\n1\t5,5\n2\t0,0", [0, 55, 0]),
             ("second,speed\n10,0\n11,5.5\n12,0", [0, 55, 0]),
             ("0; 0\r\n1; 1,2\r\n2; 0\r\n", [0, 12, 0]),
+            ("time;speed\nhh:mm:ss;km/h\n09:59:59;0\n10:00:00;5,5\n10:00:01;0", [0, 55, 0]),
         ):
             self.use("pasted", speeds=text)
             self.assertEqual((self.said(), self.present()["speeds"]), ([], wanted))
             self.assertRight()
 
+    def test_keys_settle_what_cannot_be_told(self) -> None:
+        table = "Bench 4\nrow;mark;v\n0;0,0;0\n1;0,5;3\n2;1,0;5,5\n3;1,5;9\n4;2,0;0\n"
+        self.use("pasted", speeds=table)
+        self.assertEqual(self.said(), ["line 3: it has 2 cells, and line 1 has 1 (trace.skip = N passes over N lines above the header)"])
+        self.js("document.getElementById('trace').close()")
+        self.use("pasted", speeds=table, skip="1", column="v", time="mark")
+        self.assertRegex(self.said()[0], "^line 4: the time 0,5 is 0.500 s after the line before, and must be 1.000 s after it .trace.hertz = N")
+        self.js("document.getElementById('trace').close()")
+        self.use("pasted", speeds=table, skip="1", column="3", time="2", hertz="2")
+        self.assertEqual((self.said(), self.present()["speeds"]), ([], [0, 55, 0]))
+        self.use("pasted", speeds=table, hertz="3")
+        self.assertRegex(self.said()[0], "^trace.hertz = 3 is not ")
+
     def test_what_is_pasted_is_read_right_or_refused_with_its_line(self) -> None:
         before = self.present()
         long = "\n".join(["0"] * 16385)
         for text, wanted in (
-            ("", "there are no speeds"),
-            ("0\n5.05\n0", "line 2: 5.05 is no whole number of tenths of km/h"),
-            ("0\n5,5\n0", "line 2 has 2 columns, and the first has 1"),
-            ("0,0\n5,5\n0,0", "line 2: second 5 does not follow 0"),
-            ("0\t0\n2\t5\n3\t0", "line 2: second 2 does not follow 0"),
-            ("1\t2\t3", "line 1 has 3 columns, and not one or two"),
+            ("", "it has no row"),
+            ("0\n5.05\n0", "line 2: the speed 5.05 is no whole number of tenths of km/h: the nearest that are, are 5.0 and 5.1"),
+            ("0\n5,5\n0", "line 2: it has 2 cells, and line 1 has 1"),
+            ("0,0\n5,5\n0,0", "line 1: a comma may stand between columns here or be a decimal comma"),
+            ("0\t0\n2\t5\n3\t0\n4\t0", "line 2: the time 2 is 2.000 s after the line before"),
+            ("1\t2\t3", "line 1: none is named, and there is no header: say by trace.column the number of the column, 1 to 3"),
+            ("speed [mph]\n0\n5\n0", "line 1: the speed is in mph, and km/h is read"),
+            ("0\n\n5\n0", "line 2: the row is blank, and more rows follow"),
             ("0\nfast\n0", "line 2: 'fast' is no number"),
-            ("0\n-5\n0", "line 2: -5 is not from 0.0 to 6553.5, which is what a job can carry"),
+            ("0\n-5\n0", "line 2: the speed -5 is not from 0.0 to 6553.5 km/h, which is what a job can carry"),
             ("0\n200.1\n0", "refused 4 at 1: "),
             ("0\n15.1\n0", "refused 5 at 1: "),
             ("5\n5\n0", "refused 6 at 0: "),

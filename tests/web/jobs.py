@@ -3,11 +3,14 @@
 from __future__ import annotations
 
 import random
+from typing import Any, Callable, TypeVar
 
 import gearcard
 from tests.tools import seeded
 
 from .browser import PageTest
+
+Answer = TypeVar("Answer")
 
 #: Jobs that are compared.
 JOBS = 100
@@ -18,10 +21,11 @@ const [bytes, second, gear, speed] = arguments;
 const told = (run) => { try { return run() } catch (why) { if (why.name !== 'Refused') throw why; return [why.number, why.place] } };
 const { version, vehicle, speeds, holds } = gearcard.read(Uint8Array.from(bytes));
 const card = told(() => gearcard.work(vehicle, speeds, holds));
-if (!(card instanceof Uint8Array)) return [card];
+if (!ArrayBuffer.isView(card)) return [card];
 let counts = gearcard.summary(speeds, card);
 const out = [Array.from(card), [counts.standing, counts.gears, counts.changes]];
-for (const edit of [() => gearcard.hold(vehicle, speeds, holds, card, second, gear, counts), () => gearcard.mend(vehicle, speeds, holds, card, second, speed, counts),
+for (const edit of [() => gearcard.hold(vehicle, speeds, holds, card, second, gear, counts),
+                    () => gearcard.mend(vehicle, speeds, holds, card, second, speed, counts),
                     () => gearcard.release(vehicle, speeds, holds, card, second, counts)]) {
   const after = told(edit);
   if (!Array.isArray(after)) counts = after;
@@ -31,26 +35,27 @@ return [...out, Array.from(gearcard.write(vehicle, speeds, holds, version))];
 """
 
 
-def told(run):
+def told(run: Callable[[], Answer]) -> Answer | list[int]:
     try:
         return run()
     except gearcard.Refused as refused:
         return [refused.number, refused.place]
 
 
-def flat(found):
+def flat(found: gearcard.Summary | list[int] | None) -> list[Any] | None:
     """A summary or a refusal, as the page gives it."""
     return [found.standing, list(found.gears), found.changes] if isinstance(found, gearcard.Summary) else found
 
 
-def answers(job: gearcard.Job, second: int, gear: int, speed: int) -> list:
+def answers(job: gearcard.Job, second: int, gear: int, speed: int) -> list[Any]:
     """The same by the native library."""
     vehicle, speeds, holds, version = job
-    card = told(lambda: gearcard.work(vehicle, speeds, holds))
-    if isinstance(card, list):
-        return [card]
+    worked = told(lambda: gearcard.work(vehicle, speeds, holds))
+    if isinstance(worked, list):
+        return [worked]
+    card = worked
     counts = gearcard.summary(speeds, card)
-    out = [list(card), flat(counts)]
+    out: list[Any] = [list(card), flat(counts)]
     for edit in (
         lambda: gearcard.hold(vehicle, speeds, holds, card, second, gear, summary=counts),
         lambda: gearcard.mend(vehicle, speeds, holds, card, second, speed, summary=counts),

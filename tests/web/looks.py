@@ -42,8 +42,8 @@ return [lowest[0], lowest[1], count];
 """
 
 
-#: What would lead out of the page, or keep something.
-OUTSIDE = r"https?:|//[a-z]|\bwww\.|@import|url\(|src=|<link|fetch\(|XMLHttp|WebSocket|localStorage|sessionStorage|indexedDB|document\.cookie"
+#: What would lead out of the page, or keep something; the record of a run alone is kept, at one place.
+OUTSIDE = r"https?:|//[a-z]|\bwww\.|@import|url\(|src=|<link|fetch\(|XMLHttp|WebSocket|sessionStorage|indexedDB|document\.cookie"
 
 #: Everything that a hand can reach, by its id or its words.
 CONTROLS = """
@@ -58,15 +58,20 @@ class File(PageTest):
         text = re.sub(r'(<script type="text/plain"[^>]*>)[^<]*', r"\1", PAGE.read_text(encoding="utf-8"))
         self.assertLessEqual(PAGE.stat().st_size, 400 * 1024)
         self.assertEqual(re.findall(OUTSIDE, text), [])
+        self.assertEqual(len(re.findall("localStorage", text)), 1)
         entries = self.js("return performance.getEntriesByType('resource').map((each) => each.name)")
         self.assertEqual(entries, [])
 
     def test_the_policy_lets_nothing_else_run(self) -> None:
         policy = self.js("return document.querySelector('meta[http-equiv]').content")
-        self.assertRegex(policy, r"^default-src 'none'; script-src 'sha256-[^']+' 'wasm-unsafe-eval'; style-src 'sha256-[^']+'; base-uri 'none'; form-action 'none'$")
-        added = "const script = document.createElement('script'); script.textContent = 'window.ran = true'; document.body.append(script); return window.ran === true"
+        hashed = "'sha256-[^']+'"
+        self.assertRegex(policy, f"^default-src 'none'; script-src {hashed} 'wasm-unsafe-eval'; style-src {hashed}; base-uri 'none'; form-action 'none'$")
+        added = (
+            "const script = document.createElement('script'); script.textContent = 'window.ran = true'; "
+            "document.body.append(script); return window.ran === true"
+        )
         self.assertFalse(self.js(added))
-        said = [entry["message"] for entry in self.browser.get_log("browser")]
+        said = self.logged()
         self.assertTrue(any("Content Security Policy" in each for each in said), said)
 
     def test_it_says_what_is_proved_and_which_version_it_is(self) -> None:
@@ -74,7 +79,7 @@ class File(PageTest):
         self.assertIn((TOP / "VERSION").read_text().strip(), self.text("made"))
         self.js("document.getElementById('about-open').click()")
         words = self.element("about").text
-        for each in ("Proved in Rattle", "Trusted", "Not proved", "Nothing is sent and nothing is kept"):
+        for each in ("Proved in Rattle", "Trusted", "Not proved", "Nothing is sent and nothing is kept but the record of a run"):
             self.assertIn(each, words)
         self.assertEqual(self.js("return Array.from(document.querySelectorAll('a[href]'), (link) => link.getAttribute('href'))"), ["#chart"])
 
@@ -96,7 +101,8 @@ class Everyone(PageTest):
             print(f"web: lowest contrast of the {theme} page {lowest:.1f}")
             self.js("document.getElementById('theme').click()")
         self.click("driver-open")
-        other = until("there is a second window", lambda: next((each for each in self.browser.window_handles if each != self.browser.current_window_handle), None))
+        main = self.browser.current_window_handle
+        other = until("there is a second window", lambda: next((each for each in self.browser.window_handles if each != main), None))
         self.browser.switch_to.window(other)
         for _ in range(2):
             until("it is drawn", lambda: self.text("gear"))
@@ -121,7 +127,7 @@ class Everyone(PageTest):
 
     def test_the_keyboard_reaches_everything(self) -> None:
         wanted = set(self.js(CONTROLS))
-        hidden = {"csv", "svg", "print", "keys-open", "about-open", "theme", "undo", "redo"}
+        hidden = {"csv", "svg", "print", "record-json", "record-csv", "keys-open", "about-open", "theme", "undo", "redo", "stop"}
         self.js("document.body.focus()")
         seen = set()
         for _ in range(60):
@@ -148,7 +154,8 @@ class Everyone(PageTest):
         self.assertEqual(self.present()["holds"][60], 3)
         for dialog in ("vehicle", "trace", "keys", "about"):
             self.js("document.getElementById(`${arguments[0]}-open`).click()", dialog)
-            wide = self.js("const box = document.getElementById(arguments[0]); return [box.scrollWidth - box.clientWidth, box.getBoundingClientRect().width]", dialog)
+            widths = "[box.scrollWidth - box.clientWidth, box.getBoundingClientRect().width]"
+            wide = self.js(f"const box = document.getElementById(arguments[0]); return {widths}", dialog)
             self.assertEqual((wide[0], wide[1] <= 360), (0, True), dialog)
             self.js("document.getElementById(arguments[0]).close()", dialog)
 
@@ -157,7 +164,8 @@ class Everyone(PageTest):
         (OUT / "page.pdf").write_bytes(data)
         self.assertTrue(data.startswith(b"%PDF") and len(data) > 20000, len(data))
         self.cdp("Emulation.setEmulatedMedia", media="print")
-        seen = self.js("const shown = (id) => getComputedStyle(document.querySelector(id)).display !== 'none'; return [shown('main'), shown('header'), shown('#paper')]")
+        shown = "const shown = (id) => getComputedStyle(document.querySelector(id)).display !== 'none'"
+        seen = self.js(f"{shown}; return [shown('main'), shown('header'), shown('#paper')]")
         rows = self.js("return document.getElementById('paper').shadowRoot.querySelectorAll('g.row').length")
         self.cdp("Emulation.setEmulatedMedia", media="")
         self.assertEqual((seen, rows), ([False, False, True], 6))

@@ -1,50 +1,34 @@
-"""Runs the tests of the page; tests/web/run is the command. Words: what passed and failed before, and the modules, all if none is named; behind
---but those that are left out."""
+"""Runs the tests of the page; tests/web/run is the command, and says the words."""
 
 import os
 import sys
-import time
 import unittest
 from pathlib import Path
 
 TOP = Path(__file__).resolve().parents[2]
 os.chdir(TOP)
-sys.path[:0] = [str(TOP / "python"), str(TOP)]
+# A module here is none of the standard library's, whatever its name.
+sys.path[:1] = [str(TOP / "python"), str(TOP)]
 
-from tests.web import browser  # noqa: E402
+from tests import counted  # noqa: E402
+from tests.web import browser, others  # noqa: E402
 
-class Timed(unittest.TextTestResult):
-    """Says which tests take long."""
-
-    def startTest(self, test: unittest.TestCase) -> None:
-        self.begun = time.monotonic()
-        super().startTest(test)
-
-    def stopTest(self, test: unittest.TestCase) -> None:
-        taken = time.monotonic() - self.begun
-        if taken > LONG:
-            print(f"web: {taken:.0f} s: {test.id()}")
-        super().stopTest(test)
-
-
-#: Seconds from which on a test is named.
-LONG = 8
-
-MODULES = ("looks", "edits", "forms", "files", "jobs", "driver", "speed")
+MODULES: tuple[str, ...] = ("typed", "looks", "edits", "forms", "files", "jobs", "driver", "drawn", "state", "speed", "engines", "dropped", "themes")
+MODULES += ("run_window", "run_slips", "run_holds", "run_record")
 
 
 def main() -> int:
-    passed, failed, *names = sys.argv[1:]
+    names = sys.argv[1:]
+    first = names[:1] == ["--first"]
+    names = names[first:]
     if names[:1] == ["--but"]:
         names = [name for name in MODULES if name not in names[1:]]
     suite = unittest.defaultTestLoader.loadTestsFromNames([f"tests.web.{name}" for name in names or MODULES])
     try:
-        result = unittest.TextTestRunner(stream=sys.stdout, verbosity=0, resultclass=Timed).run(suite)
+        return counted.run("web", suite, first=first)
     finally:
         browser.end()
-    wrong = int(failed) + len(result.failures) + len(result.errors)
-    print(f"web: {int(passed) + int(failed) + result.testsRun - wrong} passed, {wrong} failed")
-    return 1 if wrong else 0
+        others.end()
 
 
 sys.exit(main())

@@ -63,7 +63,7 @@ class Speed(PageTest):
         limit = time.monotonic() + 10
         while self.js("return window.times.length") < HOLDS and time.monotonic() < limit:
             time.sleep(0.05)
-        times = sorted(self.js("return window.times"))
+        times: list[float] = sorted(self.js("return window.times"))
         self.assertEqual(len(times), HOLDS)
         self.assertIn(self.present()["holds"][60], (2, 3, 4))
         self.assertRight()
@@ -73,6 +73,7 @@ class Speed(PageTest):
 
     def frames(self, what: str) -> float:
         self.js("for (let k = 0; k < 3; k++) document.getElementById('closer').click()")
+        drawn: float
         asked, drawn, taken = self.browser.execute_async_script(SCROLL)
         print(f"web: {drawn:.0f} frames a second drawn while scrolling {what} (the browser gave {asked:.0f}); the script's part of one is {taken:.1f} ms")
         return drawn

@@ -1,6 +1,8 @@
 /** A canvas that is as sharp as its screen, and the colours of the page on it. */
 
-const COLOURS = /** @type {const} */ (['surface', 'ink', 'muted', 'line', 'band', 'accent', 'held', 'heldfill', 'danger', 'tolerance', 'chosen', 'changed', 'now']);
+const COLOURS = /** @type {const} */ ([
+  'surface', 'ink', 'muted', 'line', 'band', 'accent', 'held', 'heldfill', 'danger', 'tolerance', 'chosen', 'changed', 'now',
+]);
 
 /** @typedef {Record<typeof COLOURS[number], string>} Colours */
 
@@ -11,6 +13,8 @@ export class Sheet {
     this.pen = /** @type {CanvasRenderingContext2D} */ (canvas.getContext('2d'));
     this.width = 0;
     this.height = 0;
+    /** Pixels of the screen in one of the page. */
+    this.sharp = 1;
     /** @type {Colours} */
     this.colours = this.readColours();
   }
@@ -31,7 +35,7 @@ export class Sheet {
     const { canvas, pen } = this;
     const box = canvas.getBoundingClientRect();
     const sharp = this.window.devicePixelRatio || 1;
-    [this.width, this.height] = [box.width, box.height];
+    [this.width, this.height, this.sharp] = [box.width, box.height, sharp];
     const [across, down] = [Math.round(box.width * sharp), Math.round(box.height * sharp)];
     if (canvas.width !== across || canvas.height !== down) [canvas.width, canvas.height] = [across, down];
     pen.setTransform(sharp, 0, 0, sharp, 0, 0);

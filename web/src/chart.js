@@ -7,7 +7,7 @@ import { TOLERANCE, gearText, runs, tolerance } from './trips.js';
 const [LEFT, RIGHT, TOP, BOTTOM] = [46, 10, 20, 24];
 const [GAP, STRIP] = [10, 9];
 
-/** Pixels a second below which a line is drawn as bars. */
+/** Pixels of the screen a second below which a line is drawn as bars. */
 const DENSE = 0.35;
 
 /** For how long what changed stays marked, in milliseconds. */
@@ -78,6 +78,11 @@ export class Chart {
 
   get perSecond() {
     return (this.sheet.width - LEFT - RIGHT) / this.view.span;
+  }
+
+  /** Whether there are many more seconds than pixels of the screen. */
+  get isDense() {
+    return this.perSecond * this.sheet.sharp < DENSE;
   }
 
   /** @param {number} second */
@@ -234,8 +239,8 @@ export class Chart {
   }
 
   /**
-   * A line over more seconds than there are pixels: a bar a pixel, from the lowest to the highest value of its seconds, joined to the bar before. Bars are drawn
-   * many times faster than a line with as many corners.
+   * A line over more seconds than there are pixels: a bar a pixel, from the lowest to the highest value of its seconds, joined to the bar before. Bars are
+   * drawn many times faster than a line with as many corners.
    * @param {string} colour
    * @param {number} width of the line
    * @param {ArrayLike<number>} values
@@ -243,10 +248,11 @@ export class Chart {
    */
   bars(colour, width, values, y) {
     const right = this.sheet.width - RIGHT;
+    const pixel = 1 / this.sheet.sharp;
     let [lowest, highest] = [values[0], values[0]];
-    for (let x = LEFT; x < right; x++) {
+    for (let x = LEFT; x < right; x += pixel) {
       const a = Math.max(0, Math.floor(this.secondAt(x)));
-      const b = Math.min(Math.ceil(this.secondAt(x + 1)), values.length - 1);
+      const b = Math.min(Math.ceil(this.secondAt(x + pixel)), values.length - 1);
       let low = values[a];
       let high = low;
       for (let k = a + 1; k <= b; k++) {
@@ -255,14 +261,14 @@ export class Chart {
       }
       if (x > LEFT) [low, high, lowest, highest] = [Math.min(low, highest), Math.max(high, lowest), low, high];
       else [lowest, highest] = [low, high];
-      this.sheet.fill(colour, x, y(high) - width / 2, Math.min(width, 1.5), y(low) - y(high) + width);
+      this.sheet.fill(colour, x, y(high) - width / 2, Math.min(width, 1.5 * pixel), y(low) - y(high) + width);
     }
   }
 
   speeds() {
     const { sheet, store } = this;
     const { speeds } = store.job;
-    if (this.perSecond < DENSE) {
+    if (this.isDense) {
       this.bars(sheet.colours.accent, 1.75, speeds, (speed) => this.speedY(speed));
       return;
     }
@@ -294,7 +300,7 @@ export class Chart {
     const { sheet } = this;
     const { gears } = this.known;
     const { ink } = sheet.colours;
-    if (this.perSecond < DENSE) {
+    if (this.isDense) {
       this.bars(ink, 1.25, gears, (gear) => this.gearY(gear));
       return;
     }

@@ -31,6 +31,11 @@ export class Clock {
     return this.since !== undefined && this.at() < this.end;
   }
 
+  /** For how many seconds of the wall it has stood at the end. */
+  over() {
+    return this.since === undefined ? 0 : (this.now() - this.since) / 1000 - (this.end - this.base) / this.rate;
+  }
+
   start() {
     const at = this.at();
     this.base = at < this.end ? at : 0;

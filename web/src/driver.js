@@ -1,11 +1,11 @@
 /**
  * The driver's view: a second window, drawn by this page from the one state and the one clock, in frames of its own window.
  *
- * There is no copy of the state here: every frame reads the present card, so that an edit is seen whole in the next frame or not yet. The tolerances have no place
- * here: "the tolerances shall not be shown to the driver".
+ * There is no copy of the state here: every frame reads the present card, so that an edit is seen whole in the next frame or not yet. The tolerances have no
+ * place here: "the tolerances shall not be shown to the driver".
  */
 import { clutchDown, gearOf } from '../../js/gearcard/engine.js';
-import { make, timeText, write } from './dom.js';
+import { element, make, timeText, write } from './dom.js';
 import { Road, speedAt } from './road.js';
 import { gearText, nextChange } from './trips.js';
 
@@ -19,6 +19,7 @@ function partsOf(page) {
   return {
     gear: part('div', 'gear', { 'aria-live': 'assertive', 'aria-atomic': 'true' }),
     hold: part('div', 'hold'),
+    news: part('div', 'news', { 'aria-live': 'assertive' }),
     clutch: part('div', 'clutch'),
     next: part('div', 'next', { class: 'big' }),
     speed: part('div', 'speed', { class: 'big' }),
@@ -34,7 +35,7 @@ function partsOf(page) {
  * @param {Document} page
  * @param {ReturnType<typeof partsOf>} parts
  */
-function lay(page, { gear, hold, clutch, next, speed, place, start, theme, canvas }) {
+function lay(page, { gear, hold, news, clutch, next, speed, place, start, theme, canvas }) {
   /** @type {(name: string, label: string, ...inside: HTMLElement[]) => HTMLElement} */
   const section = (name, label, ...inside) => make(page, 'section', { class: name, 'aria-label': label }, ...inside);
   const label = (/** @type {string} */ words) => make(page, 'div', { class: 'label' }, words);
@@ -43,7 +44,7 @@ function lay(page, { gear, hold, clutch, next, speed, place, start, theme, canva
   page.body.className = 'driver';
   page.body.replaceChildren(
     section('gearbox', 'Gear', label('Gear'), gear, hold, clutch),
-    section('road', 'Speed trace', canvas),
+    section('road', 'Speed trace', canvas, news),
     section('below', 'Run', ...below, controls),
   );
 }
@@ -60,6 +61,9 @@ function dress(page) {
   page.head.replaceChildren(make(page, 'title', {}, 'Gear card: driver'), wide, sheet);
 }
 
+/** How often the window is looked at, and how old its last frame may be while a run is on, in milliseconds. */
+const [OFTEN, OLD] = [100, 500];
+
 export class DriverView {
   /**
    * @param {import('./store.js').Store} store
@@ -72,49 +76,108 @@ export class DriverView {
     this.run = run;
     /** @type {Window | null} */
     this.window = null;
+    /** Windows so far: each has a name of its own, since one that is being closed still has its. */
+    this.count = 0;
+    /** Where the window stood when it was last seen. */
+    this.box = { left: -1, top: -1, width: 1280, height: 800 };
+    /** When the last frame was drawn, and whether the driver sees nothing. */
+    this.drawn = -Infinity;
+    this.lost = false;
     window.addEventListener('pagehide', () => this.window?.close());
+    setInterval(() => this.keep(), OFTEN);
+  }
+
+  /**
+   * The document of the window, where this page may write in it. A window that was loaded anew is another origin's for some browsers, where the page is a file.
+   * @returns {Document | undefined}
+   */
+  get page() {
+    try {
+      return this.window === null || this.window.closed ? undefined : (this.window.document ?? undefined);
+    } catch {
+      return undefined;
+    }
   }
 
   /** @returns {boolean} whether the browser gave a window */
   open() {
-    if (this.window !== null && !this.window.closed) {
-      this.window.focus();
+    if (this.page !== undefined) {
+      this.keep();
+      this.window?.focus();
       return true;
     }
-    this.window = window.open('', 'gearcard-driver', 'popup,width=1280,height=800');
+    this.window?.close();
+    const { left, top, width, height } = this.box;
+    const place = left < 0 && top < 0 ? '' : `,left=${left},top=${top}`;
+    this.count += 1;
+    this.window = window.open('', `gearcard-driver${this.count > 1 ? `-${this.count}` : ''}`, `popup,width=${width},height=${height}${place}`);
     if (this.window === null) return false;
-    this.fill(this.window);
-    this.keep(this.window);
+    this.keep();
     return true;
   }
 
   /**
-   * A browser may put an empty document in place of the one that it opened with, and a driver may press the key that loads it anew: it is filled again.
-   * @param {Window} other
+   * Looks after the window: a browser may put an empty document in place of the one that it opened with, and a driver may press the key that loads it anew.
+   * It is filled again, or opened again where this page can no longer write in it; where that is not given, the engineer is told.
    */
-  keep(other) {
-    const watch = setInterval(() => {
-      if (other.closed) clearInterval(watch);
-      else if (other.document.body !== null && other.document.body.className !== 'driver') this.fill(other);
-    }, 250);
+  keep() {
+    if (this.count === 0) return;
+    if (this.window !== null && this.page === undefined && !this.window.closed) this.open();
+    const { page } = this;
+    if (page?.body && page.body.className !== 'driver' && this.window !== null) this.fill(this.window, page);
+    if (page?.body && this.window !== null) {
+      const { screenX, screenY, innerWidth, innerHeight } = this.window;
+      if (innerWidth > 0) this.box = { left: screenX, top: screenY, width: innerWidth, height: innerHeight };
+    }
+    this.tell();
   }
 
-  /** @param {Window} other */
-  fill(other) {
-    const page = other.document;
+  /** Says that the driver sees nothing while a run is on, and that he sees it again. */
+  tell() {
+    const lost = this.run.on && this.count > 0 && performance.now() - this.drawn > OLD;
+    if (lost) write(element('lost-words'), `The driver sees nothing: his window ${this.page === undefined ? 'is closed' : 'is hidden'}.`);
+    element('lost').hidden = !lost;
+    if (lost !== this.lost) this.run.record.note(lost ? 'lost' : 'found', this.clock.at());
+    this.lost = lost;
+  }
+
+  /**
+   * Looks again at once, and some times more, when the document goes: timers of a page that is not seen come late, messages do not.
+   */
+  soon() {
+    const { port1, port2 } = new MessageChannel();
+    const until = performance.now() + OLD;
+    port1.onmessage = () => {
+      this.keep();
+      if (performance.now() < until && performance.now() - this.drawn > OFTEN) port2.postMessage(null);
+      else port1.close();
+    };
+    port2.postMessage(null);
+  }
+
+  /**
+   * @param {Window} other
+   * @param {Document} page
+   */
+  fill(other, page) {
     const parts = partsOf(page);
     dress(page);
     lay(page, parts);
-    const road = new Road(parts.canvas, this.store);
+    const road = new Road(parts.canvas, this.store, () => (this.run.on ? this.run.lead : 0));
     parts.start.addEventListener('click', () => this.run.toggle());
     parts.theme.addEventListener('click', () => {
       write(parts.theme, page.documentElement.classList.toggle('dark') ? 'Light' : 'Dark');
       road.colours = road.readColours();
     });
-    page.addEventListener('keydown', (event) => this.run.key(event));
+    page.addEventListener('keydown', (event) => {
+      // The keys that load a page anew would leave the driver without one for a moment.
+      if (this.run.on && (event.key === 'F5' || ((event.ctrlKey || event.metaKey) && event.key.toLowerCase() === 'r'))) event.preventDefault();
+      else this.run.key(event);
+    });
+    other.addEventListener('pagehide', () => this.soon());
     const frame = () => {
       // An emptied window has frames of its own again.
-      if (other.closed || !parts.gear.isConnected) return;
+      if (this.page !== page || !parts.gear.isConnected) return;
       other.requestAnimationFrame(frame);
       this.draw(parts, road);
     };
@@ -122,21 +185,31 @@ export class DriverView {
   }
 
   /**
-   * One frame. The second is read once, and all that is shown is of that second of the present card.
-   * @param {ReturnType<typeof partsOf>} parts
-   * @param {Road} road
+   * What a frame shows: the second is read once, and all is of that second of the present card.
+   * @returns {{at: number} & import('./record.js').Frame}
    */
-  draw({ gear, hold, clutch, next, speed, place, start }, road) {
+  frame() {
     const { card, job } = this.store;
     const at = this.clock.at();
     const second = Math.min(Math.floor(at), card.length - 1);
-    const byte = card[second];
-    const held = job.holds[second] !== 0;
+    return { at, second, byte: card[second], hold: job.holds[second] };
+  }
+
+  /**
+   * One frame, and what it shows into the record.
+   * @param {ReturnType<typeof partsOf>} parts
+   * @param {Road} road
+   */
+  draw({ gear, hold, news, clutch, next, speed, place, start }, road) {
+    const frame = this.frame();
+    const { at, second, byte } = frame;
+    const { card, job } = this.store;
     gear.ownerDocument.body.dataset.second = String(second);
     write(gear, gearText(gearOf(byte)));
     gear.classList.toggle('two', gearOf(byte) >= 10);
-    gear.classList.toggle('held', held);
-    write(hold, held ? 'HELD' : '');
+    gear.classList.toggle('held', frame.hold !== 0);
+    write(hold, frame.hold ? 'HELD' : '');
+    write(news, this.run.told);
     write(clutch, clutchDown(byte) ? 'Clutch down' : 'Clutch up');
     clutch.classList.toggle('down', clutchDown(byte));
     write(next, nextText(card, second, at));
@@ -144,6 +217,9 @@ export class DriverView {
     write(place, `${timeText(at)} / ${timeText(card.length - 1)}${this.clock.rate === 1 ? '' : `  ${this.clock.rate}×`}`);
     write(start, this.clock.running ? 'Pause' : 'Start');
     road.draw(at);
+    this.drawn = performance.now();
+    this.run.record.see(frame);
+    this.run.look(0);
   }
 }
 

@@ -2,12 +2,25 @@
 import { clutchDown, gearOf } from '../../js/gearcard/engine.js';
 import { Refused } from '../../js/gearcard/refusals.js';
 import { element, onClick } from './dom.js';
-import { Misuse, say, trying } from './messages.js';
+import { Misuse, complain, say, trying } from './messages.js';
 import { STYLE, picture } from './picture.js';
+import { ask } from './question.js';
 import { SPEED } from './units.js';
 
-/** Bytes that are read of a file: no job and no export is as long. */
+/** Bytes that are read of a file: no job and no export is as long as the first, no table as the second. */
 const LONGEST_FILE = 1 << 20;
+const LONGEST_TABLE = 16 << 20;
+
+/**
+ * Whether a file that is no job by its name is a text, and so a table.
+ * @param {string} name
+ * @param {Uint8Array} bytes
+ */
+function isTable(name, bytes) {
+  if (/\.(csv|tsv|tab|txt|xlsx|ods)$/i.test(name)) return true;
+  // eslint-disable-next-line no-control-regex
+  return bytes.length > 0 && !/\.job$/i.test(name) && !/[\x00-\x08\x0b\x0c\x0e-\x1f\x7f\ufffd]/.test(new TextDecoder().decode(bytes.subarray(0, 4096)));
+}
 
 /**
  * Offers a file for saving.
@@ -46,11 +59,15 @@ export class Files {
    * @param {import('./store.js').Store} store
    * @param {import('./view.js').View} view
    * @param {import('./vehicle.js').VehicleForm} form
+   * @param {import('./trace.js').TraceForm} trace
+   * @param {import('./record.js').Record} record
    */
-  constructor(store, view, form) {
+  constructor(store, view, form, trace, record) {
     this.store = store;
     this.view = view;
     this.form = form;
+    this.trace = trace;
+    this.record = record;
     const chosen = element('file', HTMLInputElement);
     chosen.addEventListener('change', () => {
       if (chosen.files?.length) void this.take(chosen.files[0]);
@@ -63,9 +80,11 @@ export class Files {
     onClick('csv', () => offer(this.named('.csv'), csvOf(store), 'text/csv'));
     onClick('svg', () => offer(this.named('.svg'), pictureOf(store), 'image/svg+xml'));
     onClick('print', () => window.print());
+    onClick('record-json', () => this.saveRecord('.run.json', () => record.json(), 'application/json'));
+    onClick('record-csv', () => this.saveRecord('.run.csv', () => record.csv(), 'text/csv'));
     window.addEventListener('beforeprint', () => this.lay());
     window.addEventListener('beforeunload', (event) => {
-      if (!store.unsaved) return;
+      if (!store.unsaved && !record.on && record.saved) return;
       event.preventDefault();
       event.returnValue = '';
     });
@@ -81,6 +100,37 @@ export class Files {
     offer(this.named('.job'), this.store.bytes(), 'application/octet-stream');
     this.store.markSaved();
     say(`${this.named('.job')} saved`);
+  }
+
+  /**
+   * The record of the run as a file. That of a run that is on stays kept, since more comes.
+   * @param {string} ending
+   * @param {() => string} text
+   * @param {string} type
+   */
+  saveRecord(ending, text, type) {
+    const { record } = this;
+    if (record.kept === undefined) {
+      complain('There is no record: no run was started.');
+      return;
+    }
+    const name = record.kept.job.name.replace(/\.[^.]*$/, '') + ending;
+    offer(name, text(), type);
+    if (!record.on && ending.endsWith('json')) record.drop();
+    say(`${name} saved`);
+  }
+
+  /** What becomes of the record of a run that has ended. */
+  askForRecord() {
+    const { record } = this;
+    const count = new Set(record.kept?.shown.map(({ second }) => second)).size;
+    ask(`The run of ${record.kept?.job.name} has ended; its record has ${count} second${count === 1 ? '' : 's'} that the driver was shown.`, {
+      'Save record': () => {
+        this.saveRecord('.run.csv', () => record.csv(), 'text/csv');
+        this.saveRecord('.run.json', () => record.json(), 'application/json');
+      },
+      Discard: () => record.drop(),
+    });
   }
 
   /** The picture on the paper that is printed, in a tree of its own, since its sheet is not the page's. */
@@ -116,11 +166,11 @@ export class Files {
   }
 
   /**
-   * A file that was chosen or dropped: a job, or a bench export.
+   * A file that was chosen or dropped: a job, a table of speeds, or a bench export.
    * @param {File} file
    */
   async take(file) {
-    const bytes = file.size <= LONGEST_FILE ? new Uint8Array(await file.arrayBuffer()) : undefined;
+    const bytes = file.size <= LONGEST_TABLE ? new Uint8Array(await file.arrayBuffer()) : undefined;
     // Over the form only an export makes sense, and its numbers go into the fields: what else was written there stays.
     if (this.form.dialog.open) this.form.takeLoad(file.name, () => this.store.engine.exportOf(bytes ?? new Uint8Array()));
     else trying(this.view, () => this.takeBytes(file.name, bytes), file.name);
@@ -131,15 +181,28 @@ export class Files {
    * @param {Uint8Array | undefined} bytes none where the file is too long
    */
   takeBytes(name, bytes) {
-    if (bytes === undefined) throw new Misuse('it is longer than any job');
+    if (bytes === undefined) throw new Misuse('it is longer than any job or table');
     if (/\.toml$/i.test(name)) throw new Misuse('it is the text of a job; `gearcard make` makes a job of it');
     if (/\.export$/i.test(name)) return this.takeExport(name, bytes);
+    if (isTable(name, bytes)) return this.takeTable(name, bytes);
+    if (bytes.length > LONGEST_FILE) throw new Misuse('it is longer than any job');
     try {
       this.openJob(name, bytes);
     } catch (why) {
       if (!(why instanceof Refused) || !this.isExport(bytes)) throw why;
       this.takeExport(name, bytes);
     }
+  }
+
+  /**
+   * A table goes into the form of the trace, where it is said what it is, and what of it cannot be read.
+   * @param {string} name
+   * @param {Uint8Array} bytes
+   */
+  takeTable(name, bytes) {
+    this.store.guard();
+    this.trace.openTable(name, bytes);
+    say(`${name} is a table: it stands in the form of the trace.`);
   }
 
   /** @param {Uint8Array} bytes */
@@ -157,6 +220,7 @@ export class Files {
    * @param {Uint8Array} bytes
    */
   openJob(name, bytes) {
+    this.store.guard();
     // Refused before the question is put: there is nothing to lose then.
     this.store.worked(this.store.engine.read(bytes));
     if (this.store.unsaved && !window.confirm(`${this.store.name} has edits that are not saved. Open ${name} all the same?`)) return;

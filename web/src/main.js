@@ -9,6 +9,8 @@ import { listenToKeys } from './keys.js';
 import { complain, say, trying } from './messages.js';
 import { Panel } from './panel.js';
 import { pointAt, scrollBy } from './pointing.js';
+import { ask as question } from './question.js';
+import { Record } from './record.js';
 import { Run } from './run.js';
 import { Store } from './store.js';
 import { TraceForm } from './trace.js';
@@ -33,7 +35,10 @@ const place = element('chart');
 const chart = new Chart(element('picture', HTMLCanvasElement), store, view, clock);
 const overview = new Overview(element('overview', HTMLCanvasElement), store, view, clock);
 const panel = new Panel(store, view);
-const run = new Run(store, view, clock);
+const made = (element('version').textContent ?? '').trim();
+const record = new Record(made);
+const run = new Run(store, view, clock, record);
+panel.allow = (/** @type {number} */ first, /** @type {number} */ last, /** @type {() => void} */ go) => run.allow(first, last, go);
 const driver = new DriverView(store, clock, run);
 
 /** One frame at a time is asked for, and it shows the state as it is then. */
@@ -76,7 +81,8 @@ store.listen((change) => {
   chart.markChanged(change.changed);
   panel.learn();
   heading();
-  if (change.words) say(`${change.words[0].toUpperCase()}${change.words.slice(1)}${countText(change.changed)}.`);
+  const besides = run.edited(change);
+  if (change.words) say(`${change.words[0].toUpperCase()}${change.words.slice(1)}${countText(change.changed)}.${besides}`);
   ask();
 });
 view.listen(() => {
@@ -95,9 +101,11 @@ onClick('check', () => {
   if (store.isRight()) say(`Checked: worked afresh, all ${store.card.length} seconds of the card and the summary are the same.`);
   else complain('The card is not the one that working afresh gives. Save the job, and tell those who made this page.');
 });
-onClick('driver-open', () => {
-  if (!driver.open()) complain('The browser did not open the second window; allow it for this page.');
-});
+for (const name of ['driver-open', 'driver-again']) {
+  onClick(name, () => {
+    if (!driver.open()) complain('The browser did not open the second window; allow it for this page.');
+  });
+}
 const tolerances = element('tolerances', HTMLInputElement);
 tolerances.addEventListener('change', () => {
   view.tolerances = tolerances.checked;
@@ -130,14 +138,13 @@ for (const menu of document.querySelectorAll('details.menu')) {
   });
 }
 
-new Files(store, view, new VehicleForm(store, view));
-new TraceForm(store, view);
+const files = new Files(store, view, new VehicleForm(store, view), new TraceForm(store, view), record);
+run.ended = () => files.askForRecord();
 listenToKeys({ store, view, panel, run, undo, redo });
 pointAt(place, chart, view);
 scrollBy(element('overview'), overview, view);
 new ResizeObserver(ask).observe(place);
 
-const made = (element('version').textContent ?? '').trim();
 write(element('made'), made);
 write(element('made-long'), `This page: ${made}.`);
 
@@ -148,6 +155,9 @@ Object.assign(globalThis, {
     present: () => ({ ...structuredClone(store.job), card: store.card.slice(), summary: structuredClone(store.summary), name: store.name }),
     frames: () => chart.drawn,
     at: () => clock.at(),
+    driver: () => driver.window,
+    record: () => record.kept && JSON.parse(record.json()),
+    shown: () => structuredClone(record.kept?.shown.at(-1)),
   }),
 });
 
@@ -155,4 +165,10 @@ view.tell();
 heading();
 paint(system.matches);
 say(`${store.name}: ${store.job.speeds.length} seconds.`);
+if (record.find()) {
+  question(`A run of ${record.kept?.job.name}, begun ${record.kept?.began.slice(0, 19).replace('T', ' ')} UTC, ended with its page. Its record was kept.`, {
+    'Save record': () => files.saveRecord('.run.json', () => record.json(), 'application/json'),
+    Discard: () => record.drop(),
+  });
+}
 document.documentElement.dataset.ready = String(Math.round(performance.now()));

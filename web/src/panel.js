@@ -33,6 +33,8 @@ export class Panel {
     this.view = view;
     /** @type {{gear: number, button: HTMLElement}[]} */
     this.buttons = [];
+    /** Makes an edit of some seconds, now or when it is allowed. */
+    this.allow = (/** @type {number} */ first, /** @type {number} */ last, /** @type {() => void} */ go) => go();
     onSubmit('range', () => {
       trying(view, () => {
         const [from, to] = ['from', 'to'].map((id) => numberOf('Seconds', element(id, HTMLInputElement).value, SECOND));
@@ -47,16 +49,19 @@ export class Panel {
 
   /** @param {number} gear */
   hold(gear) {
-    trying(this.view, () => this.store.hold(this.view.from, this.view.to, gear));
+    const { from, to } = this.view;
+    this.allow(from, to, () => trying(this.view, () => this.store.hold(from, to, gear)));
   }
 
   release() {
-    trying(this.view, () => this.store.release(this.view.from, this.view.to));
+    const { from, to } = this.view;
+    this.allow(from, to, () => trying(this.view, () => this.store.release(from, to)));
   }
 
   /** @param {string} text */
   mend(text) {
-    trying(this.view, () => this.store.mend(this.view.second, numberOf('Speed', text, SPEED)));
+    const { second } = this.view;
+    this.allow(second, second, () => trying(this.view, () => this.store.mend(second, numberOf('Speed', text, SPEED))));
   }
 
   /** After a change of the job: its trips and the buttons of its gears. */

@@ -1,5 +1,6 @@
 /**
- * The card as a picture: the SVG that `./gearcard picture` draws (python/gearcard/picture.py), byte for byte, which tests/web shows. It is what is saved and printed.
+ * The card as a picture: the SVG that `./gearcard picture` draws (python/gearcard/picture.py), byte for byte, which
+ * tests/web shows. It is what is saved and printed.
  */
 import { clutchDown, gearOf } from '../../js/gearcard/engine.js';
 import { runs, tripsOf } from './trips.js';
@@ -121,7 +122,8 @@ class Row {
 
   /** @param {import('./trips.js').Trip[]} trips */
   drawn(trips) {
-    return ['<g class="row">', ...this.bands(trips), ...this.grid(), ...this.labels(), this.speeds(), ...this.holds(), ...this.gears(), ...this.clutch(), '</g>'];
+    const drawn = [...this.bands(trips), ...this.grid(), ...this.labels(), this.speeds(), ...this.holds(), ...this.gears(), ...this.clutch()];
+    return ['<g class="row">', ...drawn, '</g>'];
   }
 
   /** @param {import('./trips.js').Trip[]} trips */

@@ -21,10 +21,12 @@ export class Road extends Sheet {
   /**
    * @param {HTMLCanvasElement} canvas
    * @param {import('./store.js').Store} store
+   * @param {() => number} lead the seconds ahead that are as good as driven
    */
-  constructor(canvas, store) {
+  constructor(canvas, store, lead) {
     super(canvas);
     this.store = store;
+    this.lead = lead;
     this.at = 0;
     this.size = 0;
     this.axis = { top: 1, step: 1 };
@@ -68,6 +70,7 @@ export class Road extends Sheet {
     pen.beginPath();
     pen.rect(this.left, 0, this.width - this.left, this.height);
     pen.clip();
+    this.near();
     this.gears();
     this.strips();
     /** @type {[number, number][]} */
@@ -103,7 +106,8 @@ export class Road extends Sheet {
       this.stroke(colours.line, 1, [[this.x(a), size * 1.2], [this.x(a), this.height - size * 0.4]]);
       if (to - from < size * 0.9) continue;
       const held = this.store.job.holds.subarray(a, b).some((each) => each !== 0);
-      this.text(gearText(gear), (from + to) / 2, this.height - size * 1.2, { size: size * 1.5, weight: 700, align: 'center', colour: held ? colours.held : colours.ink });
+      const colour = held ? colours.held : colours.ink;
+      this.text(gearText(gear), (from + to) / 2, this.height - size * 1.2, { size: size * 1.5, weight: 700, align: 'center', colour });
     }
   }
 
@@ -117,6 +121,12 @@ export class Road extends Sheet {
     for (const [a, b, down] of this.runsOf((byte) => Number(clutchDown(byte)))) {
       if (down) this.fill(colours.muted, this.x(a), this.height - size * 0.75, this.x(b) - this.x(a), size * 0.35);
     }
+  }
+
+  /** The lead time: what is within it comes too soon to be changed without a question. */
+  near() {
+    const [from, to] = [this.x(this.at), this.x(this.at + this.lead())];
+    this.fill(this.colours.chosen, from, this.size * 1.2, to - from, this.base - this.size * 1.2);
   }
 
   now() {

@@ -14,7 +14,8 @@ import { tripsOf } from './trips.js';
  * @typedef {{kind: 'hold', second: number, gear: number} | {kind: 'release', second: number} | {kind: 'mend', second: number, speed: number}
  *   | {kind: 'whole', job: Job}} Step
  *
- * @typedef {{words: string, changed: Uint8Array | null, trace: boolean}} Change what was done, the seconds of the card that are another now, and whether the trace is
+ * What was done, the seconds of the card that are another now, whether the trace is, and the first and the last second whose hold or speed is.
+ * @typedef {{words: string, changed: Uint8Array | null, trace: boolean, seconds: [number, number] | null}} Change
  */
 
 /** @param {Job} job */
@@ -30,6 +31,8 @@ export class Store {
     this.engine = engine;
     /** @type {((change: Change) => void)[]} */
     this.listeners = [];
+    /** Throws where no other vehicle and no other trace can come in place of these. */
+    this.guard = () => {};
     const { job, card, summary } = this.worked(engine.read(bytes));
     /** @type {Job} */
     this.job = job;
@@ -79,7 +82,7 @@ export class Store {
   /** Called when the job has been written to a file. */
   markSaved() {
     this.saved = this.done[this.done.length - 1];
-    this.tell({ words: '', changed: null, trace: false });
+    this.tell({ words: '', changed: null, trace: false, seconds: null });
   }
 
   /**
@@ -99,8 +102,9 @@ export class Store {
    * @param {string} name
    */
   open(bytes, name) {
+    this.guard();
     Object.assign(this, this.worked(this.engine.read(bytes)), { name, done: [], undone: [], saved: undefined });
-    this.tell({ words: `${name} opened`, changed: null, trace: true });
+    this.tell({ words: `${name} opened`, changed: null, trace: true, seconds: null });
   }
 
   /** The bytes of the job. */
@@ -195,10 +199,26 @@ export class Store {
    */
   apply(step, words, record) {
     const before = this.card.slice();
+    const { holds, speeds } = copied(this.job);
     const trace = this.take(step);
     record();
     const same = before.length === this.card.length && !trace;
-    this.tell({ words, changed: same ? this.card.map((byte, k) => (byte === before[k] ? 0 : 1)) : null, trace });
+    const changed = same ? this.card.map((byte, k) => (byte === before[k] ? 0 : 1)) : null;
+    this.tell({ words, changed, trace, seconds: same ? this.differing(holds, speeds) : null });
+  }
+
+  /**
+   * The first and the last second whose hold or speed is another than in these.
+   * @param {Uint8Array} holds
+   * @param {Uint16Array} speeds
+   * @returns {[number, number] | null}
+   */
+  differing(holds, speeds) {
+    const isOther = (/** @type {number} */ k) => holds[k] !== this.job.holds[k] || speeds[k] !== this.job.speeds[k];
+    let [first, last] = [0, holds.length - 1];
+    while (first <= last && !isOther(first)) first += 1;
+    while (last > first && !isOther(last)) last -= 1;
+    return first > last ? null : [first, last];
   }
 
   /**
@@ -211,6 +231,7 @@ export class Store {
     if (step.kind === 'whole') {
       const next = this.worked(copied(step.job));
       const trace = next.job.speeds.length !== speeds.length || next.job.speeds.some((speed, k) => speed !== speeds[k]);
+      if (trace || JSON.stringify([next.job.vehicle, next.job.version]) !== JSON.stringify([vehicle, job.version])) this.guard();
       Object.assign(this, next);
       return trace;
     }

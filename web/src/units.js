@@ -1,12 +1,66 @@
 /** Numbers as people write them, and document 01's whole numbers: exact both ways, nothing is rounded. */
 
+import { TABLE } from '../../js/gearcard/words.js';
+
 /** A number that is not what its unit can carry; the message says why. */
 export class NotExact extends Error {}
 
-const NUMBER = /^([+-]?)(\d+)?(?:\.(\d*))?$/;
+const NUMBER = /^([+-]?)([0-9]*)(?:\.([0-9]*))?(?:[eE]([+-]?[0-9]{1,9}))?$/;
 
-/** Digits that a number may have before or after the point: more is no number of a bench. */
-const DIGITS = 12;
+/** Digits before or after the point that a number may have: more is no number of a bench, and would only take time. */
+const DIGITS = 30;
+
+/** A decimal number, exactly: whole digits, times a power of ten. */
+export class Decimal {
+  /**
+   * @param {bigint} digits
+   * @param {number} power
+   */
+  constructor(digits, power) {
+    this.digits = digits;
+    this.power = power;
+  }
+
+  /** The power of ten of its first digit. */
+  adjusted() {
+    return this.digits === 0n ? 0 : this.power + String(this.digits).replace('-', '').length - 1;
+  }
+
+  /**
+   * Of numbers of which neither is vast.
+   * @param {Decimal} other
+   */
+  less(other) {
+    const power = Math.min(this.power, other.power);
+    return new Decimal(this.digits * 10n ** BigInt(this.power - power) - other.digits * 10n ** BigInt(other.power - power), power);
+  }
+
+  /** @param {number} whole */
+  plus(whole) {
+    return this.less(new Decimal(BigInt(-whole), 0));
+  }
+
+  /** The same for the same number. */
+  key() {
+    const [, digits, zeros] = /** @type {RegExpExecArray} */ (/^(-?\d+?)(0*)$/.exec(String(this.digits)));
+    return `${digits}e${this.power + zeros.length}`;
+  }
+}
+
+/**
+ * The decimal number that a word writes, in ASCII digits and with that decimal mark; undefined where it writes none, or one of a size that nothing has.
+ * @param {string} word
+ * @param {string} [mark]
+ * @returns {Decimal | undefined}
+ */
+export function decimalOf(word, mark = '.') {
+  if (mark !== '.' && word.includes('.')) return undefined;
+  const found = NUMBER.exec(mark === '.' ? word : word.replace(mark, '.'));
+  if (found === null) return undefined;
+  const [, sign, before, after = '', power = '0'] = found;
+  if (before === '' && after === '') return undefined;
+  return new Decimal(BigInt(before + after) * (sign === '-' ? -1n : 1n), Number(power) - after.length);
+}
 
 /** A unit of document 01: `10 ** decimals` of it are one of the unit that people use. A record carries `least` to `most` of it. */
 export class Unit {
@@ -33,22 +87,36 @@ export class Unit {
   whole(text) {
     const word = text.trim();
     if (word === '') throw new NotExact('a number is missing');
-    const found = NUMBER.exec(word);
-    if (found === null || (found[2] === undefined && !found[3])) {
-      throw new NotExact(`'${word.slice(0, 20)}' is no number${/^[+-]?\d+,\d+$/.test(word) ? ': a decimal point is read, and no comma' : ''}`);
+    const found = decimalOf(word);
+    if (found === undefined) {
+      const why = /^[+-]?\d+,\d+$/.test(word) ? ': a decimal point is read, and no comma' : '';
+      throw new NotExact(`'${word.slice(0, 20)}' is no number${why}`);
     }
-    const before = found[2] ?? '';
-    const after = (found[3] ?? '').replace(/0+$/, '');
-    if (before.length > DIGITS || after.length > DIGITS) throw new NotExact(`${word.slice(0, 20)} has too many digits`);
-    const sign = found[1] === '-' ? -1 : 1;
-    if (after.length > this.decimals) {
-      throw new NotExact(`${word} is no whole number of ${this.paper}`);
+    try {
+      return this.exact(found);
+    } catch (why) {
+      throw why instanceof NotExact ? new NotExact(`${word.slice(0, 20)} ${why.message}`) : why;
     }
-    const whole = sign * Number(before + after.padEnd(this.decimals, '0'));
-    if (whole < this.least || whole > this.most) {
-      throw new NotExact(`${word} is not from ${this.text(this.least)} to ${this.text(this.most)}, which is what a job can carry`);
+  }
+
+  /**
+   * The number in document 01's unit, where it is a whole number of it that a record can carry.
+   * @param {Decimal} number
+   * @returns {number}
+   */
+  exact(number) {
+    if (Math.abs(number.adjusted()) > DIGITS || String(number.digits).length > 2 * DIGITS) {
+      throw new NotExact('is not a number of a size that can be carried');
     }
-    return whole === 0 ? 0 : whole;
+    const power = number.power + this.decimals;
+    const low = power >= 0 ? number.digits * 10n ** BigInt(power) : floored(number.digits, 10n ** BigInt(-power));
+    if (power < 0 && low * 10n ** BigInt(-power) !== number.digits) {
+      throw new NotExact(`is no whole number of ${this.paper}: the nearest that are, are ${this.text(Number(low))} and ${this.text(Number(low) + 1)}`);
+    }
+    if (low < this.least || low > this.most) {
+      throw new NotExact(`is not from ${this.text(this.least)} to ${this.text(this.most)} ${this.people}, which is what a job can carry`);
+    }
+    return Number(low);
   }
 
   /**
@@ -62,13 +130,29 @@ export class Unit {
   }
 }
 
-export const RATIO = new Unit(2, 'min⁻¹ per km/h', 'hundredths of min⁻¹ per km/h');
-export const ENGINE_SPEED = new Unit(0, 'min⁻¹', 'min⁻¹');
-export const F0 = new Unit(1, 'N', 'tenths of N');
-export const F1 = new Unit(3, 'N/(km/h)', 'thousandths of N/(km/h)', -5000, 60535);
-export const F2 = new Unit(5, 'N/(km/h)²', 'hundred-thousandths of N/(km/h)²');
-export const MASS = new Unit(0, 'kg', 'kg');
-export const PER_CENT = new Unit(0, '%', 'per cent');
-export const POWER = new Unit(1, 'kW', 'tenths of kW');
-export const SPEED = new Unit(1, 'km/h', 'tenths of km/h');
-export const FACTOR = new Unit(3, 'of the speed', 'thousandths');
+/**
+ * A unit of words.toml, as the page writes it.
+ * @param {keyof typeof TABLE.unit} name
+ */
+export function unitOf(name) {
+  /** @type {{decimals: number, people: string, paper: string, page?: string, least?: number, most?: number}} */
+  const found = TABLE.unit[name];
+  const powers = (/** @type {string} */ words) => words.replace('^-1', '⁻¹').replace('^2', '²');
+  return new Unit(found.decimals, found.page ?? powers(found.people), powers(found.paper), found.least, found.most);
+}
+
+export const RATIO = unitOf('ratio');
+export const ENGINE_SPEED = unitOf('engine_speed');
+export const PER_CENT = unitOf('per_cent');
+export const POWER = unitOf('power');
+export const SPEED = unitOf('speed');
+export const FACTOR = unitOf('factor');
+export const TIME = unitOf('time');
+
+/**
+ * @param {bigint} a
+ * @param {bigint} b above 0
+ */
+function floored(a, b) {
+  return a / b - (a % b < 0n ? 1n : 0n);
+}

@@ -1,22 +1,24 @@
 /** The vehicle as a form in people's units. What the engine refuses by 3 is said at its field. */
 import { FIELDS, Refused } from '../../js/gearcard/refusals.js';
+import { TABLE } from '../../js/gearcard/words.js';
 import { Sheet } from './canvas.js';
 import { element, field, make, onClick, onSubmit, setError, write } from './dom.js';
-import { Misuse, markPlace } from './messages.js';
+import { Misuse, markPlace, trying } from './messages.js';
 import { curveOf } from './paste.js';
-import { ENGINE_SPEED, F0, F1, F2, MASS, NotExact, PER_CENT, POWER, RATIO } from './units.js';
+import { NotExact, POWER, RATIO, unitOf } from './units.js';
 
-/** The fields with one number: their number in refusal 3, the name, what they are called, the unit and the bounds. */
-const NUMBERS = /** @type {const} */ ([
-  [3, 'idle', 'Idle', ENGINE_SPEED, '300 to 3,000'],
-  [4, 'rated', 'Rated', ENGINE_SPEED, 'above idle, to 12,000'],
-  [5, 'nmax', 'Highest, nmax', ENGINE_SPEED, 'rated to 15,000'],
-  [9, 'tm', 'Test mass', MASS, '400 to 4,000'],
-  [6, 'f0', 'F0', F0, '0.0 to 1,000.0'],
-  [7, 'f1', 'F1', F1, '-5.000 to 5.000'],
-  [8, 'f2', 'F2', F2, '0.00000 to 0.20000'],
-  [10, 'margin', 'Safety margin', PER_CENT, '0 to 50'],
-]);
+/** A field with one number: its number in refusal 3, its name, what it is called, its unit and its bounds. */
+const NUMBERS = TABLE.field.flatMap(({ number, name, title, unit, hint }) =>
+  name === undefined || title === undefined || unit === undefined || hint === undefined
+    ? []
+    : [{ number, name, title, unit: unitOf(/** @type {any} */ (unit)), bounds: hint }],
+);
+
+/**
+ * The number of that name of a vehicle.
+ * @type {(vehicle: import('../../js/gearcard/engine.js').ReadVehicle, name: string) => number}
+ */
+const numberOf = (vehicle, name) => /** @type {Record<string, any>} */ (vehicle)[name];
 
 const GEARS = 10;
 
@@ -35,6 +37,22 @@ export class VehicleForm {
     onClick('vehicle-open', () => this.open());
     onSubmit('vehicle-form', () => this.apply());
     field(this.form, 'curve').addEventListener('input', () => this.drawCurve());
+    /** What the fields had when they were filled. */
+    this.filled = '';
+    this.dialog.addEventListener('cancel', (event) => this.ask(event));
+  }
+
+  /** All that the fields have. */
+  written() {
+    return JSON.stringify(Array.from(new FormData(this.form).entries()));
+  }
+
+  /**
+   * Before Escape discards what was typed.
+   * @param {Event} event
+   */
+  ask(event) {
+    if (this.written() !== this.filled && !window.confirm('Discard what was typed into the vehicle?')) event.preventDefault();
   }
 
   build() {
@@ -43,18 +61,21 @@ export class VehicleForm {
       return make(document, 'label', { 'data-gear': String(k + 1) }, `Gear ${k + 1}`, input);
     });
     element('ratios').querySelector('.ratios')?.replaceChildren(...ratios);
-    const numbers = NUMBERS.map(([number, name, title, unit, bounds]) => {
+    const numbers = NUMBERS.map(({ number, name, title, unit, bounds }) => {
       const input = make(document, 'input', { name, inputmode: 'decimal', autocomplete: 'off', 'aria-describedby': `hint-${name} error-${name}` });
       const label = make(document, 'label', {}, make(document, 'span', {}, `${title} `, make(document, 'span', { class: 'unit' }, unit.people)), input);
       const error = make(document, 'p', { class: 'error', id: `error-${name}`, hidden: '' });
-      return make(document, 'div', { class: 'number', 'data-field': String(number) }, label, make(document, 'p', { class: 'hint', id: `hint-${name}` }, bounds), error);
+      const hint = make(document, 'p', { class: 'hint', id: `hint-${name}` }, bounds);
+      return make(document, 'div', { class: 'number', 'data-field': String(number) }, label, hint, error);
     });
     element('numbers').replaceChildren(...numbers);
   }
 
   open() {
+    if (!trying(this.view, () => this.store.guard())) return;
     this.fill();
     this.clear();
+    this.filled = this.written();
     if (!this.dialog.open) this.dialog.showModal();
     this.drawCurve();
   }
@@ -65,7 +86,7 @@ export class VehicleForm {
     field(this.form, 'version').value = String(version);
     field(this.form, 'profile').checked = vehicle.profile === 1;
     for (let k = 0; k < GEARS; k++) field(this.form, `ratio${k}`).value = k < vehicle.ratios.length ? RATIO.text(vehicle.ratios[k]) : '';
-    for (const [, name, , unit] of NUMBERS) field(this.form, name).value = unit.text(vehicle[name]);
+    for (const { name, unit } of NUMBERS) field(this.form, name).value = unit.text(numberOf(vehicle, name));
     const line = (/** @type {{n: number, p: number, m: number}} */ { n, p, m }) => [n, POWER.text(p), ...(version > 1 ? [m] : [])].join('\t');
     field(this.form, 'curve').value = vehicle.curve.map(line).join('\n');
   }
@@ -117,7 +138,7 @@ export class VehicleForm {
     /** @type {{n: number, p: number, m: number}[]} */
     let curve = [];
     taking(2, () => (ratios = this.ratios()));
-    for (const [number, name, , unit] of NUMBERS) taking(number, () => (numbers[name] = unit.whole(field(this.form, name).value)));
+    for (const { number, name, unit } of NUMBERS) taking(number, () => (numbers[name] = unit.whole(field(this.form, name).value)));
     taking(12, () => (curve = curveOf(field(this.form, 'curve').value)));
     if (!good) return undefined;
     const { job } = this.store;
@@ -148,8 +169,9 @@ export class VehicleForm {
       this.store.change(job, 'vehicle changed');
       this.dialog.close();
     } catch (why) {
-      if (!(why instanceof Refused)) throw why;
-      this.refused(why);
+      if (why instanceof Misuse) setError(element('vehicle-error'), why.message);
+      else if (why instanceof Refused) this.refused(why);
+      else throw why;
     }
   }
 
@@ -162,7 +184,7 @@ export class VehicleForm {
     setError(element('vehicle-error'), '');
     try {
       const found = read();
-      for (const [, key, , unit] of NUMBERS) {
+      for (const { name: key, unit } of NUMBERS) {
         if (key in found) field(this.form, key).value = unit.text(/** @type {Record<string, number>} */ ({ ...found })[key]);
       }
     } catch (why) {
@@ -174,7 +196,7 @@ export class VehicleForm {
   /** @param {Refused} why */
   refused(why) {
     if (why.number === 3) {
-      const [, bounds] = /** @type {Record<number, readonly string[]>} */ (FIELDS)[why.place];
+      const [, bounds] = FIELDS[why.place];
       this.wrong(why.place, `refused 3 at ${why.place}: ${bounds}`);
     } else {
       setError(element('vehicle-error'), why.message);
@@ -198,7 +220,8 @@ export class VehicleForm {
     write(element('curve-count'), `${points.length} points`);
     const [most, power] = [Math.max(...points.map(({ n }) => n)), Math.max(1, ...points.map(({ p }) => p))];
     if (points.length < 2 || sheet.width < 60) return;
-    const [left, right, top, base] = [34, sheet.width - 10, 14, sheet.height - 20];
+    // Above the highest number there is room for the unit.
+    const [left, right, top, base] = [34, sheet.width - 10, 26, sheet.height - 20];
     /** @type {(n: number) => number} */
     const x = (n) => left + ((right - left) * n) / most;
     /** @type {(p: number) => number} */
@@ -208,7 +231,7 @@ export class VehicleForm {
       sheet.stroke(sheet.colours.line, 1, [[left, y(share * power)], [right, y(share * power)]]);
       sheet.text(String(Math.round((share * power) / 10)), left - 6, y(share * power) + 4, { align: 'right' });
     }
-    sheet.text('kW', 2, 11);
+    sheet.text('kW', left - 6, 11, { align: 'right' });
     sheet.text(`${most} min⁻¹`, right, sheet.height - 4, { align: 'right' });
     sheet.stroke(sheet.colours.accent, 2, points.map(({ n, p }) => [x(n), y(p)]));
     for (const { n, p } of points) sheet.fill(sheet.colours.accent, x(n) - 2.5, y(p) - 2.5, 5, 5);

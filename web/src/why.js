@@ -14,15 +14,19 @@ const kilowatts = (numerator, denominator) => (numerator / denominator).toFixed(
 /** @param {boolean} test */
 const yes = (test) => (test ? 'yes' : 'no');
 
+/** Columns of a gear's row, behind its number. */
+const COLUMNS = 5;
+
 /**
- * The cells of a gear's row.
+ * The cells of a gear's row; the last goes over all that are left.
  * @param {import('../../js/gearcard/engine.js').Gear} gear
  * @returns {string[]}
  */
 function cellsOf(gear) {
-  if (gear.rule === 0) return ['a crawler, which is not driven', '', '', '', ''];
-  const power = gear.w === 0 ? ['', ''] : [kilowatts(gear.q, 1e6 * gear.w), yes(gear.enough)];
-  return [(gear.engine / 1000).toFixed(1), String(gear.minimum), gear.underNmax ? yes(gear.fits) : 'no, past nmax', ...power];
+  if (gear.rule === 0) return ['a crawler, which is not driven'];
+  const turns = [(gear.engine / 1000).toFixed(1), String(gear.minimum)];
+  // No power is read past nmax.
+  return gear.underNmax ? [...turns, yes(gear.fits), kilowatts(gear.q, 1e6 * gear.w), yes(gear.enough)] : [...turns, 'no, past nmax'];
 }
 
 /**
@@ -61,7 +65,8 @@ export function showWhy(store, second) {
   element('why-gears').replaceChildren(
     ...(moving ? found.gears : []).map((gear, k) => {
       const chosen = k + 1 === found.choice ? 'chosen' : '';
-      const cells = cellsOf(gear).map((text) => make(document, 'td', {}, text));
+      const texts = cellsOf(gear);
+      const cells = texts.map((text, place) => make(document, 'td', place + 1 < texts.length ? {} : { colspan: String(COLUMNS - place) }, text));
       return make(document, 'tr', { class: chosen, title: RULES[gear.rule] }, make(document, 'th', { scope: 'row' }, String(k + 1)), ...cells);
     }),
   );
