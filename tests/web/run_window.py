@@ -150,13 +150,15 @@ class ReloadedInWebKit(unittest.TestCase):
         browser.js(WATCH)
         browser.js(START, "2")
         longest = 0.0
-        for _ in range(RELOADS):
+        for count in range(1, RELOADS + 1):
             browser.switch(other)
             browser.reload()
             browser.switch(main)
             begun = time.monotonic()
             until("it shows the present second", lambda: browser.js(GOOD))
             longest = max(longest, time.monotonic() - begun)
+            # A browser may let a window that is behind another look seldom.
+            until("it was looked at", lambda: browser.js("return window.seen.frames") >= count)
         seen = browser.js("return window.seen")
         browser.js("document.getElementById('stop').click()")
         browser.js("localStorage.clear()")
@@ -165,5 +167,5 @@ class ReloadedInWebKit(unittest.TestCase):
         browser.switch(main)
         print(told("WebKit", longest, seen))
         self.assertEqual((seen["wrong"], seen["first"], seen["blind"]), (0, "", 0))
-        self.assertGreater(seen["frames"], RELOADS)
+        self.assertGreaterEqual(seen["frames"], RELOADS)
         self.assertLess(longest, 5)
