@@ -18,7 +18,7 @@ FAULTS = [
     Fault(ENGINE, "a mend does not write the speed", "js all", "if (kind === 'mend') speeds.set(", "if (kind === 'mended') speeds.set("),
     Fault(ENGINE, "lists that share memory are taken", "js all", "    apart({ speeds, holds, card });\n", ""),
     Fault(ENGINE, "a part begins a second late", "js all", "speeds.slice(first, first + count)", "speeds.slice(first + 1, first + 1 + count)"),
-    Fault(RECORDS, "a number of 32 bits is read as one of 16", "js whole", "view.getInt32(at, true)", "view.getInt16(at, true)"),
+    Fault(RECORDS, "a number of 32 bits is read as one of 16", "js whole", "view.getUint32(at, true)", "view.getUint16(at, true)"),
     Fault(RECORDS, "a list's places are all its first", "js whole", "valueAt(view, here + k * size, field.kind)", "valueAt(view, here, field.kind)"),
     Fault(RECORDS, "a list is written over its first place", "js all", "view.setUint16(at + 2 * k, number, true)", "view.setUint16(at, number, true)"),
     Fault("js/gearcard/refusals.js", "seconds and bytes swapped", "js all", "numbersOf('second')", "numbersOf('byte')"),
