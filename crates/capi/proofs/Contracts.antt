@@ -1,6 +1,6 @@
 -- What the contracts of the C functions say, as the check reads them: of the working and of the edits what Demands has the demands of, of the others what
 -- Answers has.
-use Rattle.rules.proofs.Offered.{◌≡◌, sym, now, showing, hold_no_speed, release_no_speed, mend_no_hold}
+use Rattle.rules.proofs.Offered.{sym, showing, hold_no_speed, release_no_speed, mend_no_hold}
 use Rattle.rules.specs.Determined.{AsksNothing, Promises}
 use Rattle.rules.specs.declared.Edit.TheVariants.{Hold, Release, Mend}
 use Rattle.edits.specs.Asks.{screen}
@@ -73,12 +73,12 @@ export_asks_nothing κs a = tt
 -- ---- what the working and each edit say
 
 pub work-says : Promises work-kinds.ps work-kinds.r work-reads.Asked work-reads.Learnt
-    (λ κs a z ws. CWorked a.0 (now a.1.0) (now a.1.1.0) (now a.1.1.1.0) z ws.1.1.1.0)
+    (λ κs a z ws. CWorked a.0 a.1.0.now a.1.1.0.now (a.1.1.1.0.now) z ws.1.1.1.0)
 work-says κs a asked z ws p = record { answer = p.0; card_left = p.1 }
 
 pub hold-says : Promises hold-kinds.ps hold-kinds.r hold-reads.Asked hold-reads.Learnt
-    (λ κs a z ws. CEdited a.0 (Hold a.1.1.1.1.0 a.1.1.1.1.1.0) (screen a.1.0 a.1.1.0 a.1.1.1.0 a.1.1.1.1.1.1.0)
-    z.verdict (showing (now a.1.0) ws.1.1.0 ws.1.1.1.0 z.summary))
+    (λ κs a z ws. CEdited a.0 (Hold a.1.1.1.1.0 a.1.1.1.1.1.0) (screen a.1.0.now a.1.1.0.now a.1.1.1.0.now a.1.1.1.1.1.1.0)
+    z.verdict (showing a.1.0.now ws.1.1.0 ws.1.1.1.0 z.summary))
 hold-says κs a asked z ws p = record {
   answer = p.0;
   speeds_left = sym (hold_no_speed _ _ _ _);
@@ -88,8 +88,8 @@ hold-says κs a asked z ws p = record {
 }
 
 pub release-says : Promises release-kinds.ps release-kinds.r release-reads.Asked release-reads.Learnt
-    (λ κs a z ws. CEdited a.0 (Release a.1.1.1.1.0) (screen a.1.0 a.1.1.0 a.1.1.1.0 a.1.1.1.1.1.0) z.verdict
-    (showing (now a.1.0) ws.1.1.0 ws.1.1.1.0 z.summary))
+    (λ κs a z ws. CEdited a.0 (Release a.1.1.1.1.0) (screen a.1.0.now a.1.1.0.now a.1.1.1.0.now a.1.1.1.1.1.0) z.verdict
+    (showing a.1.0.now ws.1.1.0 ws.1.1.1.0 z.summary))
 release-says κs a asked z ws p = record {
   answer = p.0;
   speeds_left = sym (release_no_speed _ _ _);
@@ -99,8 +99,8 @@ release-says κs a asked z ws p = record {
 }
 
 pub mend-says : Promises mend-kinds.ps mend-kinds.r mend-reads.Asked mend-reads.Learnt
-    (λ κs a z ws. CEdited a.0 (Mend a.1.1.1.1.0 a.1.1.1.1.1.0) (screen a.1.0 a.1.1.0 a.1.1.1.0 a.1.1.1.1.1.1.0)
-    z.verdict (showing ws.1.0 (now a.1.1.0) ws.1.1.1.0 z.summary))
+    (λ κs a z ws. CEdited a.0 (Mend a.1.1.1.1.0 a.1.1.1.1.1.0) (screen a.1.0.now a.1.1.0.now a.1.1.1.0.now a.1.1.1.1.1.1.0)
+    z.verdict (showing ws.1.0 a.1.1.0.now ws.1.1.1.0 z.summary))
 mend-says κs a asked z ws p = record {
   answer = p.0;
   speeds_left = p.1.1.0;
@@ -112,29 +112,29 @@ mend-says κs a asked z ws p = record {
 -- ---- what the others say
 
 pub read-says : Promises read-kinds.ps read-kinds.r read-reads.Asked read-reads.Learnt
-    (λ κs a z ws. JobRead (now a.0) (now a.1.0) (now a.1.1.0) z ws.1.0 ws.1.1.0)
+    (λ κs a z ws. JobRead (a.0.now) a.1.0.now a.1.1.0.now z ws.1.0 ws.1.1.0)
 read-says κs a asked z ws p = p
 
 pub write-says : Promises write-kinds.ps write-kinds.r write-reads.Asked write-reads.Learnt
-    (λ κs a z ws. JobWritten a.0 a.1.0 (now a.1.1.0) (now a.1.1.1.0) (now a.1.1.1.1.0) z ws.1.1.1.1.0)
+    (λ κs a z ws. JobWritten a.0 a.1.0 a.1.1.0.now (a.1.1.1.0.now) (a.1.1.1.1.0.now) z ws.1.1.1.1.0)
 write-says κs a asked z ws p = p
 
 pub summary_of-says : Promises summary-of-kinds.ps summary-of-kinds.r summary-of-reads.Asked summary-of-reads.Learnt
-    (λ κs a z ws. CCounted (now a.0) (now a.1.0) z)
+    (λ κs a z ws. CCounted (a.0.now) a.1.0.now z)
 summary_of-says κs a asked z ws p = record { answer = p.0; summary_told = p.1 }
 
 pub why-says : Promises why-kinds.ps why-kinds.r why-reads.Asked why-reads.Learnt
-    (λ κs a z ws. CWhy a.0 (now a.1.0) (now a.1.1.0) a.1.1.1.0 z)
+    (λ κs a z ws. CWhy a.0 a.1.0.now a.1.1.0.now a.1.1.1.0 z)
 why-says κs a asked z ws p = record { answer = p.0; reasons_told = p.1 }
 
 pub cycle-says : Promises cycle-kinds.ps cycle-kinds.r cycle-reads.Asked cycle-reads.Learnt
-    (λ κs a z ws. CFilled a.0 (now a.1.0) z ws.1.0)
+    (λ κs a z ws. CFilled a.0 a.1.0.now z ws.1.0)
 cycle-says κs a asked z ws p = record { answer = p.0; room_left = p.1 }
 
 pub downscale-says : Promises downscale-kinds.ps downscale-kinds.r downscale-reads.Asked downscale-reads.Learnt
-    (λ κs a z ws. CScaled a.0 (now a.1.0) z ws.1.0)
+    (λ κs a z ws. CScaled a.0 a.1.0.now z ws.1.0)
 downscale-says κs a asked z ws p = record { answer = p.0; room_left = p.1 }
 
 pub export_says : Promises export-kinds.ps export-kinds.r export-reads.Asked export-reads.Learnt
-    (λ κs a z ws. ExportRead (now a.0) z)
+    (λ κs a z ws. ExportRead (a.0.now) z)
 export_says κs a asked z ws p = p

@@ -1,5 +1,5 @@
 -- Each public function's contract allows one outcome. `Reads` is the contract's own reading, which the check makes of the clauses.
-use mathlib.Core.Path.{◌≡◌, refl, sym, ◌∙◌}
+use mathlib.Core.Path.{refl, sym, ◌∙◌}
 use Rattle.rules.specs.Determined.{Determined}
 use Rattle.exports.proofs.Determined.{one_number}
 use Rattle.capi.proofs.gearcard_read.Kinds as read-kinds

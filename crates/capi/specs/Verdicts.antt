@@ -1,5 +1,6 @@
 -- What the C functions answer: the refusal's number and place, number 0 where there is none.
-use Rattle.rules.specs.Words.{ℕ, ◌≡◌, ap, ◌∙◌, Option, none, some, List, length, pos}
+use Rattle.std.specs.Prelude.{ℕ, ◌≡◌, List, length, pos}
+use Rattle.rules.specs.Words.{ap, Option, none, some}
 use Rattle.rules.specs.declared.Answer.{Answer}
 use Rattle.rules.specs.declared.Answer.TheVariants.{Done, Refused}
 use Rattle.rules.specs.Refusals.{Fault, said, told, left}

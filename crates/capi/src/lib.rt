@@ -1,6 +1,8 @@
 // The C functions: thin wrappers over the readers, the writer, the working, the summary, the edits of one second, its reasons and the built-in cycle.
 // include/gearcard.h declares them.
-ghost use Rattle.rules.specs.Words.{◌≡◌, length};
+#![tactic(auto)]
+
+ghost use Rattle.std.specs.Prelude.{◌≡◌, length};
 ghost use Rattle.rules.specs.Refusals.{work_fault, work_card};
 ghost use Rattle.rules.specs.declared.Edit.TheVariants.{Hold, Release, Mend};
 ghost use Rattle.rules.specs.Summary.{summary_fault, counted_summary};
@@ -16,7 +18,7 @@ use rules::{Answer, Reasons, Summary, Vehicle};
 
 // The refusal's number, 0 where there is none, and its place.
 #[repr(C)]
-#[derive(Drop)]
+#[derive(Clone, Copy)]
 pub struct Verdict {
     pub number: u32,
     pub place: usize,
@@ -24,7 +26,7 @@ pub struct Verdict {
 
 // What the reader answers: where it refuses, the version is 0, the vehicle all zeros and the count 0.
 #[repr(C)]
-#[derive(Drop)]
+#[derive(Clone, Copy)]
 pub struct JobAnswer {
     pub verdict: Verdict,
     pub version: u16,
@@ -34,7 +36,7 @@ pub struct JobAnswer {
 
 // What an edit answers: the summary as it is then, where it refuses the one it was given.
 #[repr(C)]
-#[derive(Drop)]
+#[derive(Clone, Copy)]
 pub struct SummaryAnswer {
     pub verdict: Verdict,
     pub summary: Summary,
@@ -42,7 +44,7 @@ pub struct SummaryAnswer {
 
 // What the writer answers: how many bytes it wrote, 0 where it refuses.
 #[repr(C)]
-#[derive(Drop)]
+#[derive(Clone, Copy)]
 pub struct WriteAnswer {
     pub verdict: Verdict,
     pub length: usize,
@@ -50,7 +52,7 @@ pub struct WriteAnswer {
 
 // What is said of one second, with the verdict.
 #[repr(C)]
-#[derive(Drop)]
+#[derive(Clone, Copy)]
 pub struct WhyAnswer {
     pub verdict: Verdict,
     pub reasons: Reasons,
@@ -58,7 +60,7 @@ pub struct WhyAnswer {
 
 // What the export reader answers: where it refuses, all are 0.
 #[repr(C)]
-#[derive(Drop)]
+#[derive(Clone, Copy)]
 pub struct ExportAnswer {
     pub verdict: Verdict,
     pub f0: u16,
@@ -159,10 +161,10 @@ pub extern "C" fn gearcard_hold(
     gear: u8,
     summary: Summary,
 ) -> SummaryAnswer
-    ensures answer { result.verdict ≡ as_verdict (edit_fault vehicle (Hold second gear) (screen speeds.entry holds.entry card.entry summary)) }
-    ensures summary { result.summary ≡ (edited vehicle (Hold second gear) (screen speeds.entry holds.entry card.entry summary)).summary }
-    ensures holds { holds.new ≡ (edited vehicle (Hold second gear) (screen speeds.entry holds.entry card.entry summary)).holds }
-    ensures card { card.new ≡ (edited vehicle (Hold second gear) (screen speeds.entry holds.entry card.entry summary)).card }
+    ensures answer { result.verdict ≡ as_verdict (edit_fault vehicle (Hold second gear) (screen speeds.now holds.old card.old summary)) }
+    ensures summary { result.summary ≡ (edited vehicle (Hold second gear) (screen speeds.now holds.old card.old summary)).summary }
+    ensures holds { holds.new ≡ (edited vehicle (Hold second gear) (screen speeds.now holds.old card.old summary)).holds }
+    ensures card { card.new ≡ (edited vehicle (Hold second gear) (screen speeds.now holds.old card.old summary)).card }
 {
     let counted = edits::hold(vehicle, speeds, holds, card, second, gear, summary);
     counted_of(counted)
@@ -178,10 +180,10 @@ pub extern "C" fn gearcard_release(
     second: usize,
     summary: Summary,
 ) -> SummaryAnswer
-    ensures answer { result.verdict ≡ as_verdict (edit_fault vehicle (Release second) (screen speeds.entry holds.entry card.entry summary)) }
-    ensures summary { result.summary ≡ (edited vehicle (Release second) (screen speeds.entry holds.entry card.entry summary)).summary }
-    ensures holds { holds.new ≡ (edited vehicle (Release second) (screen speeds.entry holds.entry card.entry summary)).holds }
-    ensures card { card.new ≡ (edited vehicle (Release second) (screen speeds.entry holds.entry card.entry summary)).card }
+    ensures answer { result.verdict ≡ as_verdict (edit_fault vehicle (Release second) (screen speeds.now holds.old card.old summary)) }
+    ensures summary { result.summary ≡ (edited vehicle (Release second) (screen speeds.now holds.old card.old summary)).summary }
+    ensures holds { holds.new ≡ (edited vehicle (Release second) (screen speeds.now holds.old card.old summary)).holds }
+    ensures card { card.new ≡ (edited vehicle (Release second) (screen speeds.now holds.old card.old summary)).card }
 {
     let counted = edits::release(vehicle, speeds, holds, card, second, summary);
     counted_of(counted)
@@ -198,10 +200,10 @@ pub extern "C" fn gearcard_mend(
     speed: u16,
     summary: Summary,
 ) -> SummaryAnswer
-    ensures answer { result.verdict ≡ as_verdict (edit_fault vehicle (Mend second speed) (screen speeds.entry holds.entry card.entry summary)) }
-    ensures summary { result.summary ≡ (edited vehicle (Mend second speed) (screen speeds.entry holds.entry card.entry summary)).summary }
-    ensures speeds { speeds.new ≡ (edited vehicle (Mend second speed) (screen speeds.entry holds.entry card.entry summary)).speeds }
-    ensures card { card.new ≡ (edited vehicle (Mend second speed) (screen speeds.entry holds.entry card.entry summary)).card }
+    ensures answer { result.verdict ≡ as_verdict (edit_fault vehicle (Mend second speed) (screen speeds.old holds.now card.old summary)) }
+    ensures summary { result.summary ≡ (edited vehicle (Mend second speed) (screen speeds.old holds.now card.old summary)).summary }
+    ensures speeds { speeds.new ≡ (edited vehicle (Mend second speed) (screen speeds.old holds.now card.old summary)).speeds }
+    ensures card { card.new ≡ (edited vehicle (Mend second speed) (screen speeds.old holds.now card.old summary)).card }
 {
     let counted = edits::mend(vehicle, speeds, holds, card, second, speed, summary);
     counted_of(counted)

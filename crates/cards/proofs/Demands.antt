@@ -1,6 +1,6 @@
 -- The demands on the whole working, over the contract of `work` as the check reads it, and document 01's definitions. Those on the edits stand in
 -- rules/proofs/Demands, once for all.
-use Rattle.rules.proofs.Offered.{ℕ, ◌<◌, zero-add, ◌≡◌, sym, ap, ◌∙◌, ◌↔◌, none, some, List, length, now, Lasts, at_exit, Lfts, Dens, ended_of, res_t, at}
+use Rattle.rules.proofs.Offered.{ℕ, ◌<◌, zero-add, ◌≡◌, sym, ap, ◌∙◌, ◌↔◌, none, some, List, length, Lasts, at_exit, Lfts, Dens, ended_of, res_t, at}
 use Rattle.rules.proofs.Offered.{card_at, card, Fault, said, work_fault, showing, Wanting, PassesOthers, Right, Spares, at_table, anew}
 use Rattle.rules.proofs.Demands.{Worked}
 use Rattle.rules.proofs.Outcomes.{work_meets_1, work_meets_2}
@@ -16,7 +16,7 @@ use Rattle.cards.proofs.whole.work.Reads as work-reads
 pub work-says : (κs : Lfts 2) (a : Dens κs work-kinds.ps) → work-reads.Asked κs a
     → (z : (res_t work-kinds.r κs).Denot) (ws : Lasts (ended_of 2 work-kinds.ps work-kinds.r) κs a)
     → work-reads.Learnt κs a z (at_exit (ended_of 2 work-kinds.ps work-kinds.r) κs a ws)
-    → Worked a.0 (now a.1.0) (now a.1.1.0) (now a.1.1.1.0) z ws.1.1.1.0
+    → Worked a.0 (a.1.0.now) (a.1.1.0.now) (a.1.1.1.0.now) z ws.1.1.1.0
 work-says κs a asked z ws p = record { answer = p.0; card_left = p.1 }
 
 -- demand 1: every input gets an answer, for `work` asks nothing of its caller

@@ -1,5 +1,5 @@
 -- Each public function's contract allows one outcome. `Reads` is the contract's own reading, which the check makes of the clauses.
-use Rattle.rules.proofs.Offered.{◌≡◌, refl, sym, ◌∙◌, ap, List, ℕ, said_once}
+use Rattle.rules.proofs.Offered.{refl, sym, ◌∙◌, ap, List, ℕ, said_once}
 use Rattle.rules.specs.Determined.{Determined}
 use Rattle.cards.proofs.whole.work.Kinds as work-kinds
 use Rattle.cards.proofs.whole.work.Reads as work-reads

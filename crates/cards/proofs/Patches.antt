@@ -1,10 +1,9 @@
 -- Lists of which a stretch has been worked.
-use Rattle.rules.proofs.Offered.{ℕ, zero, suc, ◌+◌, ◌-◌, ◌≤◌, ◌<◌, ◌%◌, zero-add, arith, ◌≡◌, refl, sym, ap, ◌∙◌, ◌≢◌, ◌⊎◌, inl, inr, Bool, true, false, List}
-use Rattle.rules.proofs.Offered.{[], ◌∷◌, ◌++◌, leb, ltb, length, set, take, drop, length-set, length-drop, list_get_or-eq_default, ext_get_or, take_all}
-use Rattle.rules.proofs.Offered.{get_or-set_same, get_or-set_other, lt-leb, le-leb, lt-ltb, le-ltb, if◌then◌else◌, ◌and◌, at, part, table, patch, moving, rise}
-use Rattle.rules.proofs.Offered.{start, stop, gears, trip_speeds, trip_holds, gear_at, clutch, byte, card_at, card, IsTrip, by_order, at_part, length_part}
-use Rattle.rules.proofs.Offered.{at_table, length-table, table_ext, table_add, table_at, patch_in, patch_out, trip_start, trip_stop, of₃}
-use Rattle.rules.specs.declared.Vehicle.{Vehicle}
+use Rattle.rules.proofs.Offered.{ℕ, suc, ◌+◌, ◌-◌, ◌≤◌, ◌<◌, zero-add, arith, ◌≡◌, sym, ap, ◌∙◌, inl, inr, List}
+use Rattle.rules.proofs.Offered.{◌++◌, leb, ltb, length, set, take, drop, length-set, length-drop, ext_get_or, take_all}
+use Rattle.rules.proofs.Offered.{get_or-set_same, get_or-set_other, lt-leb, le-leb, lt-ltb, le-ltb, if◌then◌else◌, ◌and◌, at, table, patch}
+use Rattle.rules.proofs.Offered.{by_order}
+use Rattle.rules.proofs.Offered.{at_table, length-table, table_ext, table_add, table_at, patch_in, patch_out, of₃}
 
 -- ---- a list of which a stretch has been worked
 

@@ -1,9 +1,9 @@
 -- The card worked in place, stretch by stretch.
-use Rattle.rules.proofs.Offered.{ℕ, zero, suc, ◌+◌, ◌-◌, ◌≤◌, ◌<◌, ◌%◌, min, add-zero, add-one, arith, ◌≡◌, refl, sym, ap, ◌∙◌, ◌⊎◌, inl, inr, Bool, true}
-use Rattle.rules.proofs.Offered.{false, none, List, ◌++◌, ltb, eqb, nat_abs, length, set, take, drop, lt-ltb, ltb-false, eq-eqb, ne_eqb, if◌then◌else◌, ◌and◌}
-use Rattle.rules.proofs.Offered.{◌or◌, at, part, table, patch, steepest, moving, rise, start, stop, gear_at, card_at, card, Check, speed, step, ends, over-ng}
-use Rattle.rules.proofs.Offered.{bad, span_fault, IsTrip, patch_in, clash, by_test, by_order, both, or_left, or_right, at_part, length_part, natAbs_gap}
-use Rattle.rules.proofs.Offered.{trip_of, stop_le, stop_to, stop-after, stop_in, stop_standing, standing_past, passed, driven, floor-low, low_from, fit_of}
+use Rattle.rules.proofs.Offered.{ℕ, suc, ◌+◌, ◌-◌, ◌≤◌, ◌<◌, ◌%◌, min, add-one, arith, ◌≡◌, refl, sym, ap, ◌∙◌, ◌⊎◌, inr, true}
+use Rattle.rules.proofs.Offered.{false, none, List, ◌++◌, length, set, take, drop, lt-ltb, ltb-false}
+use Rattle.rules.proofs.Offered.{at, part, patch, moving, rise, start, stop, gear_at, card_at, speed, step, ends}
+use Rattle.rules.proofs.Offered.{bad, span_fault, IsTrip, patch_in, clash, by_test, by_order, both, at_part, length_part}
+use Rattle.rules.proofs.Offered.{trip_of, stop_le, stop-after, stop_in, stop_standing, passed, driven, floor-low, low_from, fit_of}
 use Rattle.rules.proofs.Offered.{gear_in_range, byte_gear, InBounds}
 use Rattle.rules.specs.declared.Vehicle.{Vehicle}
 use Rattle.gears.specs.declared.Numbers.{Numbers}

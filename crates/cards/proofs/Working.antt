@@ -1,5 +1,5 @@
 -- Each way out of the whole working.
-use Rattle.rules.proofs.Offered.{ℕ, suc, min, arith, ◌≡◌, refl, sym, ap, ◌∙◌, inl, Option, List, length, set, length-set, set_out, set-get_or, at, patch, card_at}
+use Rattle.rules.proofs.Offered.{ℕ, suc, min, arith, ◌≡◌, refl, sym, ◌∙◌, inl, Option, List, length, set, length-set, patch, card_at}
 use Rattle.rules.proofs.Offered.{card, Fault, said, span_fault, work_fault, work_card, by_order, standing_past, trace_in}
 use Rattle.rules.specs.declared.Vehicle.{Vehicle}
 use Rattle.rules.specs.declared.Refusal.{Refusal}

@@ -1,5 +1,6 @@
 -- What working the card in place asks.
-use Rattle.rules.specs.Words.{ℕ, suc, ◌-◌, ◌≤◌, ◌<◌, min, ◌≡◌, false, List, none, nat_abs, length, at}
+use Rattle.std.specs.Prelude.{ℕ, suc, ◌≤◌, ◌<◌, min, ◌≡◌, false, List, nat_abs, length}
+use Rattle.rules.specs.Words.{none, at}
 use Rattle.rules.specs.declared.Vehicle.{Vehicle}
 use Rattle.rules.specs.Units.{fastest, steepest, moving, rise}
 use Rattle.rules.specs.Refusals.{span_fault}

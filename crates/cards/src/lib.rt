@@ -1,4 +1,6 @@
 // The whole working of document 01, and the sweep that works a range of the card in place.
+#![tactic(auto)]
+
 mod rework;
 mod whole;
 

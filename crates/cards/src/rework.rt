@@ -1,5 +1,6 @@
 // The card, worked in place.
-ghost use Rattle.rules.specs.Words.{◌≡◌, ◌+◌, ◌-◌, patch};
+ghost use Rattle.std.specs.Prelude.{◌≡◌, ◌+◌, ◌-◌};
+ghost use Rattle.rules.specs.Words.{patch};
 ghost use Rattle.rules.specs.Units.{stop};
 ghost use Rattle.rules.specs.Corrections.{card_at};
 ghost use Rattle.gears.specs.Parts.{Parts, OfLent};

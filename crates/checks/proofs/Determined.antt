@@ -1,5 +1,5 @@
 -- Each public function's contract allows one outcome. `Reads` is the contract's own reading, which the check makes of the clauses.
-use Rattle.rules.proofs.Offered.{ℕ, ◌≡◌, refl, sym, ◌∙◌, length, replicate, length-replicate, now, said_once}
+use Rattle.rules.proofs.Offered.{ℕ, ◌≡◌, refl, sym, ◌∙◌, length, replicate, length-replicate, said_once}
 use Rattle.gears.proofs.Parts.{built_has}
 use Rattle.rules.specs.Determined.{Determined}
 use Rattle.checks.proofs.opening.check_lengths.Kinds as check-lengths-kinds
@@ -41,7 +41,7 @@ pub trip_stop : Determined trip-stop-kinds.ps trip-stop-kinds.r trip-stop-reads.
 trip_stop κs a asked z z' ws ws' p q = (p ∙ sym q, refl)
 
 pub check_seconds : Determined check-seconds-kinds.ps check-seconds-kinds.r check-seconds-reads.Asked check-seconds-reads.Learnt
-check_seconds κs a asked z z' ws ws' p q = let H = built_has a.0 (now a.1.0) in (said_once z z' (p _ H ∙ sym (q _ H)), refl)
+check_seconds κs a asked z z' ws ws' p q = let H = built_has a.0 (a.1.0.now) in (said_once z z' (p _ H ∙ sym (q _ H)), refl)
 
 pub check_span : Determined check-span-kinds.ps check-span-kinds.r check-span-reads.Asked check-span-reads.Learnt
 check_span κs a asked z z' ws ws' p q = let car = asked.0.car in let L = asked.0.lent in (said_once z z' (p car L ∙ sym (q car L)), refl)

@@ -1,7 +1,7 @@
 -- The dry run of first choices: a span that it can go through, a trip part by part, and the trips of the span one after the other.
-use Rattle.rules.proofs.Offered.{ℕ, zero, suc, ◌+◌, ◌-◌, ◌≤◌, ◌<◌, add-one, arith, ◌≡◌, refl, sym, ap, ◌∙◌, ◌≢◌, ◌⊎◌, inl, inr, Bool, true, false, Option, none}
-use Rattle.rules.proofs.Offered.{some, List, eqb, lit<, nat_abs, length, ltb-false, lt-ltb, eq-eqb, eqb-true, eqb-false, ◌and◌, ◌or◌, at, part, first, fastest}
-use Rattle.rules.proofs.Offered.{steepest, moving, rise, start, stop, first_at, speed, step, ends, no-gear, checks, bad, seconds_fault, clash, by_test}
+use Rattle.rules.proofs.Offered.{ℕ, zero, suc, ◌+◌, ◌-◌, ◌≤◌, ◌<◌, add-one, arith, ◌≡◌, refl, ◌⊎◌, inl, inr, Bool, true, false, Option, none}
+use Rattle.rules.proofs.Offered.{List, eqb, lit<, nat_abs, length, ltb-false, lt-ltb, eq-eqb, eqb-true, eqb-false, ◌and◌, ◌or◌, at, part, fastest}
+use Rattle.rules.proofs.Offered.{steepest, moving, rise, stop, first_at, step, no-gear, checks, bad, seconds_fault, clash, by_test}
 use Rattle.rules.proofs.Offered.{by_order, by_eq, both, and_no, or_left, or_right, at_part, length_part, natAbs_gap, Left, again, trip_of, start_le, stop_le}
 use Rattle.rules.proofs.Offered.{stop-after, stop_standing, listed, step_passed}
 use Rattle.rules.specs.declared.Vehicle.{Vehicle}

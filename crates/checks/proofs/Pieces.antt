@@ -1,5 +1,5 @@
 -- A span with what is asked for at one second: what is found of the pieces before and after it, and of the second itself, is found of the span.
-use Rattle.rules.proofs.Offered.{ℕ, suc, ◌+◌, ◌-◌, ◌≤◌, ◌<◌, le_trans, arith, ◌≡◌, sym, ◌∙◌, ◌≢◌, false, none, List, eqb, length, eqb-true, eqb-false, at}
+use Rattle.rules.proofs.Offered.{ℕ, ◌+◌, ◌-◌, ◌≤◌, ◌<◌, le_trans, arith, ◌≡◌, sym, ◌≢◌, false, none, List, eqb, length, eqb-true, eqb-false, at}
 use Rattle.rules.proofs.Offered.{fastest, steepest, step, bad, seconds_fault, by_test, by_order, by_eq}
 use Rattle.rules.specs.declared.Vehicle.{Vehicle}
 use Rattle.gears.specs.declared.Numbers.{Numbers}

@@ -1,6 +1,6 @@
 -- The two scans of a trip, as a loop meets them: here, one second further, and at the end of the trace.
-use Rattle.rules.proofs.Offered.{ℕ, zero, suc, ◌+◌, ◌-◌, ◌≤◌, ◌<◌, add-zero, add-suc, suc-add, add-one, arith, ◌≡◌, sym, ap, ◌∙◌, Bool, true, false, not, List}
-use Rattle.rules.proofs.Offered.{length, drop, drop_of_length-le, drop-cons, not-true, not-false, at, moving, start, run, stop}
+use Rattle.rules.proofs.Offered.{ℕ, suc, ◌+◌, ◌-◌, ◌≤◌, ◌<◌, add-zero, add-suc, suc-add, add-one, arith, ◌≡◌, sym, ap, ◌∙◌, Bool, true, false, not, List}
+use Rattle.rules.proofs.Offered.{length, drop_of_length-le, drop-cons, not-true, not-false, at, moving, start, run, stop}
 
 -- what the code found not to be so is not, and what it did not find not to be so is
 pub not_so : {r t : Bool} → r ≡ t → not r ≡ true → t ≡ false

@@ -1,6 +1,6 @@
 -- Each check of a second as the code compares it, and the number of the first that fails.
-use Rattle.rules.proofs.Offered.{ℕ, suc, ◌+◌, ◌-◌, ◌*◌, ◌≤◌, ◌<◌, arith, ◌≡◌, refl, sym, ap, ◌∙◌, Bool, true, false, not, List, eqb, length, lt-ltb, le-ltb}
-use Rattle.rules.proofs.Offered.{le-leb, lt-leb, eq-eqb, ne_eqb, if◌then◌else◌, ◌and◌, ◌or◌, at, highest, fastest, steepest, moving, engine, is_under_nmax, fits}
+use Rattle.rules.proofs.Offered.{ℕ, suc, ◌+◌, ◌-◌, ◌*◌, ◌≤◌, ◌<◌, arith, ◌≡◌, refl, sym, ◌∙◌, Bool, true, false, not, List, eqb, length, lt-ltb, le-ltb}
+use Rattle.rules.proofs.Offered.{le-leb, lt-leb, eq-eqb, ne_eqb, ◌and◌, ◌or◌, at, highest, fastest, steepest, moving, engine, is_under_nmax, fits}
 use Rattle.rules.proofs.Offered.{role_at, not_driven, speed, step, ends, over-ng, at_rest, over-rev, no-gear, check_number, checks, bad, by_order, and_no}
 use Rattle.rules.proofs.Offered.{first_at_is, choice_none_fits}
 use Rattle.rules.specs.declared.Vehicle.{Vehicle}

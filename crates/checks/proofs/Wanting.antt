@@ -1,9 +1,9 @@
 -- No gap between two gears' speeds is enough: no second of a span that passes the checks before wants a gear.
 use Rattle.rules.proofs.Offered.{ℕ, zero, suc, ◌+◌, ◌-◌, ◌*◌, ◌≤◌, ◌<◌, mul_comm, mul_assoc, mul-le-mul_left, mul-le-mul_right, le_of_mul-le-mul_right}
-use Rattle.rules.proofs.Offered.{le_trans, le_of_eq, le_of_lt, zero-mul, arith, ◌≡◌, refl, sym, ap, ◌∙◌, Bool, true, false, not, List, Option, none, some, eqb}
-use Rattle.rules.proofs.Offered.{length, drop, le-leb, leb-false, eqb-true, eqb-false, ne_eqb, not-true, eq-eqb, if◌then◌else◌, ◌and◌, ◌or◌, at, first, highest}
-use Rattle.rules.proofs.Offered.{low, fastest, steepest, moving, start, is_first, minimum, engine, is_under_nmax, is_over_minimum, allowed, fits, closing, role_of}
-use Rattle.rules.proofs.Offered.{first_at, Fault, refuse_at, ◌orelse◌, step, no-gear, bad, seconds_fault, clash, by_test, by_order, by_eq, first_none}
+use Rattle.rules.proofs.Offered.{le_trans, le_of_eq, le_of_lt, zero-mul, arith, ◌≡◌, refl, sym, ap, ◌∙◌, Bool, true, false, not, List, none, some, eqb}
+use Rattle.rules.proofs.Offered.{length, drop, le-leb, leb-false, eqb-true, eqb-false, ne_eqb, not-true, eq-eqb, ◌and◌, ◌or◌, at, first, highest}
+use Rattle.rules.proofs.Offered.{low, steepest, moving, start, is_first, minimum, engine, is_under_nmax, is_over_minimum, allowed, fits, closing, role_of}
+use Rattle.rules.proofs.Offered.{first_at, refuse_at, ◌orelse◌, no-gear, bad, seconds_fault, clash, by_test, by_order, by_eq, first_none}
 use Rattle.rules.proofs.Offered.{one_holds, start_le, step_passed, role_at, gear_fault}
 use Rattle.rules.proofs.Theorems.Choosing.{fits-at_any}
 use Rattle.rules.specs.declared.Vehicle.{Vehicle}

@@ -4,7 +4,7 @@ use Rattle.rules.proofs.Offered.{drop, length-take-le, le-leb, lt-leb, eq-eqb, n
 use Rattle.rules.proofs.Offered.{role_at, by_order, and_no, at_part, length_part, pass-at, pass_done, trip_start, closing-part, first_at_is, of₃}
 use Rattle.rules.specs.declared.Vehicle.{Vehicle}
 use Rattle.gears.specs.Choosing.{first_of}
-use Rattle.trips.specs.Ready.{Aligned, Paced}
+use Rattle.trips.specs.Ready.{Paced}
 use Rattle.trips.specs.Trip.{on_way}
 use Rattle.trips.proofs.Clutch.{rise-here}
 use Rattle.checks.specs.declared.Asked.{Asked}

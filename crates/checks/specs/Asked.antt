@@ -1,5 +1,5 @@
 -- What is asked for and not yet written, as the checks look through it.
-use Rattle.rules.specs.Words.{ℕ, List, set}
+use Rattle.std.specs.Prelude.{ℕ, List, set}
 use Rattle.checks.specs.declared.Asked.{Asked}
 
 -- the speeds, were it written

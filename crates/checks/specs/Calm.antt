@@ -1,5 +1,6 @@
 -- What the cheap tests of a span ask and find.
-use Rattle.rules.specs.Words.{ℕ, zero, suc, ◌+◌, ◌-◌, ◌*◌, ◌≤◌, ◌<◌, max, ◌≡◌, ◌≢◌, false, List, length, at}
+use Rattle.std.specs.Prelude.{ℕ, zero, suc, ◌+◌, ◌-◌, ◌*◌, ◌≤◌, ◌<◌, max, ◌≡◌, ◌≢◌, false, List, length}
+use Rattle.rules.specs.Words.{at}
 use Rattle.rules.specs.declared.Vehicle.{Vehicle}
 use Rattle.rules.specs.declared.Role.TheVariants.{AfterLow}
 use Rattle.rules.specs.Units.{fastest, steepest, moving}

@@ -1,5 +1,6 @@
 -- What the checks of a span ask of their arguments and answer, and which checks look at a hold.
-use Rattle.rules.specs.Words.{ℕ, ◌≤◌, ◌<◌, ◌≡◌, List, [], ◌∷◌, Option, none, some, ltb, length, if◌then◌else◌, at}
+use Rattle.std.specs.Prelude.{ℕ, ◌≤◌, ◌<◌, ◌≡◌, List, [], ◌∷◌, ltb, length, if◌then◌else◌}
+use Rattle.rules.specs.Words.{Option, none, some}
 use Rattle.rules.specs.declared.Vehicle.{Vehicle}
 use Rattle.rules.specs.Refusals.{Fault, Check, over-ng, at_rest, over-rev, check_number, bad}
 use Rattle.gears.specs.declared.Numbers.{Numbers}

@@ -1,5 +1,6 @@
 -- What the check for want of a gear asks and finds.
-use Rattle.rules.specs.Words.{ℕ, suc, ◌+◌, ◌-◌, ◌≤◌, ◌<◌, ◌≡◌, ◌≢◌, Bool, true, false, List, eqb, nat_abs, length, at, part}
+use Rattle.std.specs.Prelude.{ℕ, suc, ◌+◌, ◌-◌, ◌≤◌, ◌<◌, ◌≡◌, ◌≢◌, Bool, true, false, List, eqb, nat_abs, length}
+use Rattle.rules.specs.Words.{at, part}
 use Rattle.rules.specs.declared.Vehicle.{Vehicle}
 use Rattle.rules.specs.Units.{fastest, steepest, moving, rise}
 use Rattle.rules.specs.Corrections.{first_at}

@@ -1,6 +1,7 @@
 // A cheap test of a span: what it lets through passes checks 4 to 9, and what it does not is judged second by second. It is of the seconds as they are
 // written, but for the one that is asked for, which is judged. Its loops neither branch nor leave early, so that several seconds are looked at at once.
-ghost use Rattle.rules.specs.Words.{◌≡◌, true, none, ◌-◌, ◌≤◌, max, at};
+ghost use Rattle.std.specs.Prelude.{◌≡◌, true, ◌-◌, ◌≤◌, max};
+ghost use Rattle.rules.specs.Words.{none, at};
 ghost use Rattle.rules.specs.declared.Vehicle.{Vehicle};
 ghost use Rattle.rules.specs.Refusals.{seconds_fault};
 ghost use Rattle.gears.specs.Parts.{Has};
@@ -14,7 +15,7 @@ use gears::Numbers;
 use rules::{FASTEST, STEEPEST, moving};
 
 // What a look at the speeds of a span finds: the highest, and the largest step.
-#[derive(Drop)]
+#[derive(Clone, Copy)]
 pub struct Sight {
     pub fastest: u16,
     pub steepest: u16,

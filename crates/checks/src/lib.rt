@@ -1,5 +1,7 @@
 // The checks of document 01's table: 1 to 3 by lengths and the record, 4 to 9 of the seconds of a span, 10 for want of a gear, all of what is asked for
 // and not yet written; and where a trip lies.
+#![tactic(auto)]
+
 mod calm;
 mod opening;
 mod row;
@@ -16,7 +18,7 @@ pub use want::check_gears;
 
 // What is asked for at one second and not yet written: its speed and its hold, 0 for none. A hold or a release asks for the speed that is there, a mended
 // sample for the hold that is there. A second past the trace asks for nothing.
-#[derive(Drop)]
+#[derive(Clone, Copy)]
 pub struct Asked {
     pub second: usize,
     pub speed: u16,
@@ -24,7 +26,7 @@ pub struct Asked {
 }
 
 // The seconds from lo up to, not including, hi.
-#[derive(Drop)]
+#[derive(Clone, Copy)]
 pub struct Span {
     pub lo: usize,
     pub hi: usize,

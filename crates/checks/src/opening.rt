@@ -1,5 +1,5 @@
 // The refusals that come before the seconds are looked at.
-ghost use Rattle.rules.specs.Words.{◌≡◌, List, ℕ, length};
+ghost use Rattle.std.specs.Prelude.{◌≡◌, List, ℕ, length};
 ghost use Rattle.rules.specs.Refusals.{said, ◌orelse◌, trace_fault, room_fault, vehicle_fault};
 ghost use Rattle.gears.specs.Parts.{whole};
 

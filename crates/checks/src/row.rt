@@ -1,5 +1,5 @@
 // Checks 4 to 10 on the seconds of a span.
-ghost use Rattle.rules.specs.Words.{◌≡◌, ◌≤◌};
+ghost use Rattle.std.specs.Prelude.{◌≡◌, ◌≤◌};
 ghost use Rattle.rules.specs.Refusals.{said, span_fault};
 ghost use Rattle.gears.specs.Parts.{Parts, OfLent};
 ghost use Rattle.checks.specs.Asked.{speeds_with, holds_with};

@@ -1,5 +1,6 @@
 // Checks 4 to 9 of the seconds of a span, in one pass: a trace is as long as it is, and six passes over it would look at each second six times.
-ghost use Rattle.rules.specs.Words.{◌≡◌, List, ℕ, ◌+◌, ◌-◌, ◌≤◌, ◌<◌, length, at};
+ghost use Rattle.std.specs.Prelude.{◌≡◌, List, ℕ, ◌+◌, ◌-◌, ◌≤◌, ◌<◌, length};
+ghost use Rattle.rules.specs.Words.{at};
 ghost use Rattle.rules.specs.declared.Vehicle.{Vehicle};
 ghost use Rattle.rules.specs.Refusals.{step, ends, checks, bad, said, seconds_fault};
 ghost use Rattle.gears.specs.Parts.{Has};

@@ -1,5 +1,6 @@
 // Where a trip ends and where its closing run begins, of the speeds as they would be with what is asked for.
-ghost use Rattle.rules.specs.Words.{◌≡◌, suc, ◌+◌, ◌≤◌, ◌<◌, length, at, part};
+ghost use Rattle.std.specs.Prelude.{◌≡◌, suc, ◌+◌, ◌≤◌, ◌<◌, length};
+ghost use Rattle.rules.specs.Words.{at, part};
 ghost use Rattle.rules.specs.Units.{stop};
 ghost use Rattle.trips.specs.Trip.{RunFrom};
 ghost use Rattle.checks.specs.Asked.{speeds_with};

@@ -1,5 +1,5 @@
 // Where the trip of a second lies: two scans, one to each side, that stop at the first standing second.
-ghost use Rattle.rules.specs.Words.{◌≡◌, ◌≤◌, length};
+ghost use Rattle.std.specs.Prelude.{◌≡◌, ◌≤◌, length};
 ghost use Rattle.rules.specs.Units.{start, stop};
 
 use rules::moving;

@@ -1,6 +1,7 @@
 // Check 10, for want of a gear, of the seconds of a span that passes the checks before it. Where the vehicle's gears leave no speed between them, by
 // engine speed alone; elsewhere by a dry run of the first choices. All of it is of what is asked for and not yet written.
-ghost use Rattle.rules.specs.Words.{◌≡◌, true, none, ℕ, ◌+◌, ◌-◌, ◌*◌, ◌≤◌, ◌<◌, eqb, length, at};
+ghost use Rattle.std.specs.Prelude.{◌≡◌, true, ℕ, ◌+◌, ◌-◌, ◌*◌, ◌≤◌, ◌<◌, eqb, length};
+ghost use Rattle.rules.specs.Words.{none, at};
 ghost use Rattle.rules.specs.declared.Vehicle.{Vehicle};
 ghost use Rattle.rules.specs.Corrections.{first_at};
 ghost use Rattle.rules.specs.Refusals.{no-gear, bad, said, seconds_fault};
@@ -72,7 +73,7 @@ pub fn no_gap(k: Numbers, ratio: &[u16; 10], most: u16) -> bool
 }
 
 // Seconds of a trip gone through: up to where each first choice is a gear, and the last one.
-#[derive(Drop)]
+#[derive(Clone, Copy)]
 struct Gone {
     until: usize,
     last: u8,

@@ -1,5 +1,5 @@
 -- The demands on the functions of the built-in cycle, over their contracts as the check reads them.
-use Rattle.rules.proofs.Offered.{ℕ, ◌≡◌, sym, ◌∙◌, none, some, List, length, now, Fault, said, filled, left_none}
+use Rattle.rules.proofs.Offered.{ℕ, ◌≡◌, sym, ◌∙◌, none, some, List, length, Fault, said, filled, left_none}
 use Rattle.rules.proofs.Offered.{left_some}
 use Rattle.rules.specs.Determined.{AsksNothing, Promises}
 use Rattle.rules.specs.declared.Answer.{Answer}
@@ -31,7 +31,7 @@ pub record Filled (part : ℕ) (room : List ℕ) (z : Answer) (room' : List ℕ)
   pub room_left : room' ≡ fill_room part room
 
 pub fill-says : Promises fill-kinds.ps fill-kinds.r fill-reads.Asked fill-reads.Learnt
-    (λ κs a z ws. Filled a.0 (now a.1.0) z ws.1.0)
+    (λ κs a z ws. Filled a.0 (a.1.0.now) z ws.1.0)
 fill-says κs a asked z ws p = record { answer = p.0; room_left = p.1 }
 
 module _ {part : ℕ} {room : List ℕ} {z : Answer} {room' : List ℕ} (F : Filled part room z room') where

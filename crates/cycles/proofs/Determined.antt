@@ -1,5 +1,5 @@
 -- Each public function's contract allows one outcome. `Reads` is the contract's own reading, which the check makes of the clauses.
-use Rattle.rules.proofs.Offered.{refl, sym, ◌∙◌, List, ℕ, now, said_once}
+use Rattle.rules.proofs.Offered.{refl, sym, ◌∙◌, List, ℕ, said_once}
 use Rattle.rules.specs.Determined.{Determined, DeterminedAs}
 use Rattle.cycles.proofs.filling.fill.Kinds as fill-kinds
 use Rattle.cycles.proofs.filling.fill.Reads as fill-reads
@@ -15,5 +15,5 @@ pub stretch_of : Determined stretch-kinds.ps stretch-kinds.r stretch-reads.Asked
 stretch_of κs a asked z z' ws ws' p q = (p ∙ sym q, refl)
 
 -- the part by its contents: it is a part of the caller's room
-pub part_of : DeterminedAs part-kinds.ps part-kinds.r (List ℕ) (λ κs z. now z) part-reads.Asked part-reads.Learnt
+pub part_of : DeterminedAs part-kinds.ps part-kinds.r (List ℕ) (λ κs z. z.now) part-reads.Asked part-reads.Learnt
 part_of κs a asked z z' ws ws' p q = (p ∙ sym q, refl)

@@ -84,7 +84,8 @@ pub part_there : (p : ℕ) (room : List ℕ)
     → part room (stretch p (length room)).first ((stretch p (length room)).first + (stretch p (length room)).count) ≡ part_seconds p room
 unfolding part_seconds left
 part_there p room =
-    by_fault (λ f. fill_fault p (length room) ≡ f → part room (stretch p (length room)).first ((stretch p (length room)).first + (stretch p (length room)).count)
+    by_fault (λ f. fill_fault p (length room) ≡ f → part room (stretch p (length room)).first
+    ((stretch p (length room)).first + (stretch p (length room)).count)
     ≡ left f [] (part room (first_second p) (last_second p + 1))) (fill_fault p (length room))
     (λ e. let h : first_second p + (last_second p + 1 - first_second p) ≡ last_second p + 1 = omega (arith, (ordered p).0) in
     rw (stretch-part p (length room) e, h))

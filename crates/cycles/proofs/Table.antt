@@ -1,6 +1,6 @@
 -- The cycle's rules at each second, by one test that is computed over the whole table, one second after the other.
 use Rattle.rules.proofs.Offered.{ℕ, zero, suc, ◌+◌, ◌≤◌, ◌<◌, add-zero, zero-add, add-suc, suc-add, le_of_suc-le-suc, not-suc-le-zero, ◌≡◌, refl, sym, ◌∙◌}
-use Rattle.rules.proofs.Offered.{subst, Bool, true, false, not, List, [], ◌∷◌, leb, eqb, length, leb-true, not-true, if◌then◌else◌, ◌and◌, ◌or◌, at, moving}
+use Rattle.rules.proofs.Offered.{subst, Bool, true, false, List, [], ◌∷◌, length, leb-true, not-true, ◌and◌, ◌or◌, at, moving}
 use Rattle.rules.proofs.Offered.{and_left, and_right}
 use Rattle.cycles.specs.Cycle.{cycle, low_phase, medium_phase, high_phase, extra_high_phase}
 unfoldable pub use Rattle.cycles.proofs.Sound.{walk, boundary, close, sound}

@@ -1,6 +1,6 @@
 -- What a reader of request Three may conclude of the cycle and of the two calls, each by name.
 use Rattle.rules.proofs.Offered.{ℕ, suc, ◌+◌, ◌-◌, ◌≤◌, ◌<◌, arith, ◌≡◌, refl, sym, ap, ◌∙◌, false, none, some, List, [], ◌++◌, lit<, lit≤, length, drop}
-use Rattle.rules.proofs.Offered.{length-append, length-drop, take-append-le, drop-append-le, drop-append_seam, now}
+use Rattle.rules.proofs.Offered.{length-append, length-drop, take-append-le, drop-append-le, drop-append_seam}
 use Rattle.rules.proofs.Offered.{◌or◌, at, part, longest, moving, filled, Fault, said, left}
 use Rattle.rules.specs.Determined.{Promises}
 use Rattle.rules.specs.declared.Vehicle.{Vehicle}
@@ -76,7 +76,7 @@ pub record HandedBack (p : ℕ) (room r : List ℕ) : Type 0 where
   pub part_back : r ≡ part_seconds p room
 
 pub part_says : Promises part-kinds.ps part-kinds.r part-reads.Asked part-reads.Learnt
-    (λ κs a z ws. HandedBack a.1.0 (now a.0) (now z))
+    (λ κs a z ws. HandedBack a.1.0 (a.0.now) (z.now))
 part_says κs a asked z ws p = record { part_back = p }
 
 -- a part that lies in the first of two lists

@@ -1,6 +1,6 @@
 -- Document 000, Annex 1: the Class 3 cycle for top speeds of 120 km/h and over, in
 -- tenths of km/h, 20 seconds a line. docs/CYCLES.md says how the print was read.
-use Rattle.rules.specs.Words.{ℕ, ◌+◌, List, [], ◌∷◌, ◌++◌}
+use Rattle.std.specs.Prelude.{ℕ, ◌+◌, List, [], ◌∷◌, ◌++◌}
 
 -- Low3: seconds 0 to 589
 unfoldable pub low_phase : List ℕ

@@ -1,5 +1,6 @@
 -- Document 02, request Three: the parts of the cycle, and what filling a room and taking a part of it refuse and give.
-use Rattle.rules.specs.Words.{ℕ, ◌+◌, ◌-◌, Option, none, some, List, [], ◌∷◌, length, ltb, at, part}
+use Rattle.std.specs.Prelude.{ℕ, ◌+◌, ◌-◌, List, [], ◌∷◌, length, ltb}
+use Rattle.rules.specs.Words.{Option, none, some, at, part}
 use Rattle.rules.specs.declared.Vehicle.{Vehicle}
 use Rattle.rules.specs.Job.{filled}
 use Rattle.rules.specs.Refusals.{Fault, refuse_at, ◌orelse◌, when, left, trace_fault, bad, fault_of, speed, step, ends}

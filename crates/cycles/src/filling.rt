@@ -1,5 +1,5 @@
 // A room filled with the cycle.
-ghost use Rattle.rules.specs.Words.{◌≡◌, ◌≤◌, length};
+ghost use Rattle.std.specs.Prelude.{◌≡◌, ◌≤◌, length};
 ghost use Rattle.rules.specs.Job.{filled};
 ghost use Rattle.rules.specs.Refusals.{said};
 ghost use Rattle.cycles.specs.Parts.{fill_fault, fill_room};

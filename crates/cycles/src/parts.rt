@@ -7,7 +7,7 @@ use rules::{Answer, Refusal};
 
 // Seconds of a room that follow each other.
 #[repr(C)]
-#[derive(Drop)]
+#[derive(Clone, Copy)]
 pub struct Stretch {
     pub first: usize,
     pub count: usize,

@@ -1,5 +1,5 @@
 -- The demands on downscaling, over the contracts of its two functions as the check reads them.
-use Rattle.rules.proofs.Offered.{ℕ, ◌≡◌, sym, ◌∙◌, none, some, List, length, now, Fault, said, left_none, left_some}
+use Rattle.rules.proofs.Offered.{ℕ, ◌≡◌, sym, ◌∙◌, none, some, List, length, Fault, said, left_none, left_some}
 use Rattle.rules.specs.Determined.{AsksNothing, Promises}
 use Rattle.rules.specs.declared.Answer.{Answer}
 use Rattle.downscale.specs.Steps.{scaled_cycle, down_fault, down_room}
@@ -24,11 +24,11 @@ pub record Scaled (factor : ℕ) (room : List ℕ) (z : Answer) (room' : List �
   pub room_left : room' ≡ down_room factor room
 
 pub downscale-says : Promises closed-kinds.ps closed-kinds.r closed-reads.Asked closed-reads.Learnt
-    (λ κs a z ws. Scaled a.0 (now a.1.0) z ws.1.0)
+    (λ κs a z ws. Scaled a.0 (a.1.0.now) z ws.1.0)
 downscale-says κs a asked z ws p = record { answer = p.0; room_left = p.1 }
 
 pub steps-say : Promises steps-kinds.ps steps-kinds.r steps-reads.Asked steps-reads.Learnt
-    (λ κs a z ws. Scaled a.0 (now a.1.0) z ws.1.0)
+    (λ κs a z ws. Scaled a.0 (a.1.0.now) z ws.1.0)
 steps-say κs a asked z ws p = record { answer = p.0; room_left = p.1 }
 
 module _ {factor : ℕ} {room : List ℕ} {z : Answer} {room' : List ℕ} (S : Scaled factor room z room') where

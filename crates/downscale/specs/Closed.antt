@@ -1,5 +1,6 @@
 -- The closed form: a scaled speed from the cycle's own speed at that second alone, with one division. And what the functions below the call ask and do.
-use Rattle.rules.specs.Words.{ℕ, ◌+◌, ◌-◌, ◌*◌, ◌≤◌, ◌<◌, ◌≡◌, List, length, nearest, at}
+use Rattle.std.specs.Prelude.{ℕ, ◌+◌, ◌-◌, ◌*◌, ◌≤◌, ◌<◌, ◌≡◌, List, length}
+use Rattle.rules.specs.Words.{nearest, at}
 use Rattle.cycles.specs.Cycle.{cycle}
 use Rattle.downscale.specs.Steps.{by_stretch}
 

@@ -1,5 +1,6 @@
 -- Document 000, Annex 1, "Downscaling procedure for Class 3 vehicles", with exact fractions, and document 02, request Eleven.
-use Rattle.rules.specs.Words.{ℕ, zero, suc, ◌+◌, ◌-◌, not, Option, List, length, ltb, eqb, ℤ, pos, nat_abs, ◌+ℤ◌, ◌-ℤ◌, ◌*ℤ◌, if◌then◌else◌, within, nearest, at}
+use Rattle.std.specs.Prelude.{ℕ, zero, suc, ◌+◌, ◌-◌, not, List, length, ltb, eqb, ℤ, pos, nat_abs, ◌+ℤ◌, ◌-ℤ◌, ◌*ℤ◌, if◌then◌else◌}
+use Rattle.rules.specs.Words.{Option, within, nearest, at}
 use Rattle.rules.specs.Words.{table}
 use Rattle.rules.specs.Refusals.{Fault, refuse_at, ◌orelse◌, when, left}
 use Rattle.cycles.specs.Cycle.{cycle}

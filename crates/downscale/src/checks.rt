@@ -1,5 +1,6 @@
 // What both ways share: the refusals, and the rounding.
-ghost use Rattle.rules.specs.Words.{◌≡◌, ◌*◌, ◌≤◌, nearest};
+ghost use Rattle.std.specs.Prelude.{◌≡◌, ◌*◌, ◌≤◌};
+ghost use Rattle.rules.specs.Words.{nearest};
 ghost use Rattle.rules.specs.Refusals.{said};
 ghost use Rattle.downscale.specs.Steps.{down_fault};
 

@@ -1,5 +1,6 @@
 // The closed form: one division a second.
-ghost use Rattle.rules.specs.Words.{◌≡◌, ◌≤◌, length, at};
+ghost use Rattle.std.specs.Prelude.{◌≡◌, ◌≤◌, length};
+ghost use Rattle.rules.specs.Words.{at};
 ghost use Rattle.rules.specs.Refusals.{said};
 ghost use Rattle.downscale.specs.Steps.{down_fault, down_room};
 ghost use Rattle.downscale.specs.Closed.{drawn_speed, Drawing, Changed};

@@ -1,5 +1,6 @@
 // Annex 1, step by step, with exact fractions: what the closed form is run against.
-ghost use Rattle.rules.specs.Words.{◌≡◌, suc, ◌+◌, ◌-◌, ◌*◌, ◌≤◌, length, pos, nat_abs, nearest};
+ghost use Rattle.std.specs.Prelude.{◌≡◌, suc, ◌+◌, ◌-◌, ◌*◌, ◌≤◌, length, pos, nat_abs};
+ghost use Rattle.rules.specs.Words.{nearest};
 ghost use Rattle.rules.specs.Refusals.{said};
 ghost use Rattle.downscale.specs.Steps.{steps, down_fault, down_room};
 ghost use Rattle.downscale.specs.Closed.{Changed, Stepping};

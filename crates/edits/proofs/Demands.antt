@@ -1,6 +1,6 @@
 -- What the contracts of `hold`, `release` and `mend` say, as the check reads them: each is one edit of the screen, of which rules/proofs/Demands has the
 -- demands, requests Nine and Twelve, and runs of edits.
-use Rattle.rules.proofs.Offered.{◌≡◌, sym, now, showing, hold_no_speed, release_no_speed, mend_no_hold}
+use Rattle.rules.proofs.Offered.{sym, showing, hold_no_speed, release_no_speed, mend_no_hold}
 use Rattle.rules.specs.Determined.{AsksNothing, Promises}
 use Rattle.rules.proofs.Demands.{EditedWith}
 use Rattle.rules.specs.declared.Edit.TheVariants.{Hold, Release, Mend}
@@ -26,24 +26,24 @@ mend_asks_nothing κs a = tt
 -- ---- what each says
 
 pub hold-says : Promises hold-kinds.ps hold-kinds.r hold-reads.Asked hold-reads.Learnt
-    (λ κs a z ws. EditedWith a.0 (Hold a.1.1.1.1.0 a.1.1.1.1.1.0) (screen a.1.0 a.1.1.0 a.1.1.1.0 a.1.1.1.1.1.1.0)
-    z.answer (showing (now a.1.0) ws.1.1.0 ws.1.1.1.0 z.summary))
+    (λ κs a z ws. EditedWith a.0 (Hold a.1.1.1.1.0 a.1.1.1.1.1.0) (screen a.1.0.now a.1.1.0.now a.1.1.1.0.now a.1.1.1.1.1.1.0)
+    z.answer (showing a.1.0.now ws.1.1.0 ws.1.1.1.0 z.summary))
 hold-says κs a asked z ws p = record {
   lists = record { answer = p.0; speeds_left = sym (hold_no_speed _ _ _ _); holds_left = p.1.1.0; card_left = p.1.1.1 };
   summary_left = p.1.0;
 }
 
 pub release-says : Promises release-kinds.ps release-kinds.r release-reads.Asked release-reads.Learnt
-    (λ κs a z ws. EditedWith a.0 (Release a.1.1.1.1.0) (screen a.1.0 a.1.1.0 a.1.1.1.0 a.1.1.1.1.1.0) z.answer
-    (showing (now a.1.0) ws.1.1.0 ws.1.1.1.0 z.summary))
+    (λ κs a z ws. EditedWith a.0 (Release a.1.1.1.1.0) (screen a.1.0.now a.1.1.0.now a.1.1.1.0.now a.1.1.1.1.1.0) z.answer
+    (showing a.1.0.now ws.1.1.0 ws.1.1.1.0 z.summary))
 release-says κs a asked z ws p = record {
   lists = record { answer = p.0; speeds_left = sym (release_no_speed _ _ _); holds_left = p.1.1.0; card_left = p.1.1.1 };
   summary_left = p.1.0;
 }
 
 pub mend-says : Promises mend-kinds.ps mend-kinds.r mend-reads.Asked mend-reads.Learnt
-    (λ κs a z ws. EditedWith a.0 (Mend a.1.1.1.1.0 a.1.1.1.1.1.0) (screen a.1.0 a.1.1.0 a.1.1.1.0 a.1.1.1.1.1.1.0)
-    z.answer (showing ws.1.0 (now a.1.1.0) ws.1.1.1.0 z.summary))
+    (λ κs a z ws. EditedWith a.0 (Mend a.1.1.1.1.0 a.1.1.1.1.1.0) (screen a.1.0.now a.1.1.0.now a.1.1.1.0.now a.1.1.1.1.1.1.0)
+    z.answer (showing ws.1.0 a.1.1.0.now ws.1.1.1.0 z.summary))
 mend-says κs a asked z ws p = record {
   lists = record { answer = p.0; speeds_left = p.1.1.0; holds_left = sym (mend_no_hold _ _ _ _); card_left = p.1.1.1 };
   summary_left = p.1.0;

@@ -1,5 +1,5 @@
 -- Each public function's contract allows one outcome. `Reads` is the contract's own reading, which the check makes of the clauses.
-use mathlib.Core.Path.{◌≡◌, sym, ◌∙◌}
+use mathlib.Core.Path.{sym, ◌∙◌}
 use Rattle.rules.specs.Determined.{Determined}
 use Rattle.summaries.proofs.Determined.{counted_once}
 use Rattle.edits.proofs.buttons.hold.Kinds as hold-kinds

@@ -1,12 +1,12 @@
 -- What the code asks the checks of an edit, what it knows where none of them refuses, and what carrying it out asks and leaves.
-use Rattle.std.specs.Borrow.{Bor}
-use Rattle.rules.specs.Words.{ℕ, ◌-◌, ◌≡◌, List, length, eqb, if◌then◌else◌, at, patch}
+use Rattle.std.specs.Prelude.{ℕ, ◌-◌, ◌≡◌, List, length, eqb, if◌then◌else◌}
+use Rattle.rules.specs.Words.{at, patch}
 use Rattle.rules.specs.declared.Vehicle.{Vehicle}
 use Rattle.rules.specs.declared.Summary.{Summary}
 use Rattle.rules.specs.declared.Answer.TheVariants.{Done}
 use Rattle.rules.specs.declared.Edit.{Edit}
 use Rattle.rules.specs.declared.Edit.TheVariants.{Hold, Release, Mend}
-use Rattle.rules.specs.Edit.{Screen, showing, second, asked_speeds, asked_holds, span}
+use Rattle.rules.specs.Edit.{Screen, showing, asked_speeds, asked_holds, span}
 use Rattle.rules.specs.Corrections.{card_at}
 use Rattle.rules.specs.Summary.{updated}
 use Rattle.gears.specs.declared.Numbers.{Numbers}
@@ -18,8 +18,8 @@ use Rattle.summaries.specs.Tallies.{tallied, in_ten, Countable}
 use Rattle.edits.specs.declared.Judged.{Judged}
 
 -- the screen that stands in the three lists that an edit is lent, with its summary
-abbrev pub screen : Bor (List ℕ) → Bor (List ℕ) → Bor (List ℕ) → Summary → Screen
-screen speeds holds card n = showing speeds.now holds.now card.now n
+abbrev pub screen : List ℕ → List ℕ → List ℕ → Summary → Screen
+screen speeds holds card n = showing speeds holds card n
 
 -- a gear above every ng
 unfoldable pub over_all : ℕ

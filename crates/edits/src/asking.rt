@@ -1,5 +1,5 @@
 // What an edit asks for, at the second that it names.
-ghost use Rattle.rules.specs.Words.{◌≡◌, ◌<◌, length};
+ghost use Rattle.std.specs.Prelude.{◌≡◌, ◌<◌, length};
 ghost use Rattle.rules.specs.Edit.{second};
 ghost use Rattle.edits.specs.Asks.{gear_asked, asked_of};
 

@@ -46,10 +46,10 @@ pub fn hold(
     gear: u8,
     summary: Summary,
 ) -> Summarized
-    ensures answer { said result.answer ≡ edit_fault vehicle (Hold second gear) (screen speeds.entry holds.entry card.entry summary) }
-    ensures summary { result.summary ≡ (edited vehicle (Hold second gear) (screen speeds.entry holds.entry card.entry summary)).summary }
-    ensures holds { holds.new ≡ (edited vehicle (Hold second gear) (screen speeds.entry holds.entry card.entry summary)).holds }
-    ensures card { card.new ≡ (edited vehicle (Hold second gear) (screen speeds.entry holds.entry card.entry summary)).card }
+    ensures answer { said result.answer ≡ edit_fault vehicle (Hold second gear) (screen speeds.now holds.old card.old summary) }
+    ensures summary { result.summary ≡ (edited vehicle (Hold second gear) (screen speeds.now holds.old card.old summary)).summary }
+    ensures holds { holds.new ≡ (edited vehicle (Hold second gear) (screen speeds.now holds.old card.old summary)).holds }
+    ensures card { card.new ≡ (edited vehicle (Hold second gear) (screen speeds.now holds.old card.old summary)).card }
 {
     let k = numbers_of(vehicle);
     let mut powers = [0u32; 64];
@@ -93,10 +93,10 @@ pub fn release(
     second: usize,
     summary: Summary,
 ) -> Summarized
-    ensures answer { said result.answer ≡ edit_fault vehicle (Release second) (screen speeds.entry holds.entry card.entry summary) }
-    ensures summary { result.summary ≡ (edited vehicle (Release second) (screen speeds.entry holds.entry card.entry summary)).summary }
-    ensures holds { holds.new ≡ (edited vehicle (Release second) (screen speeds.entry holds.entry card.entry summary)).holds }
-    ensures card { card.new ≡ (edited vehicle (Release second) (screen speeds.entry holds.entry card.entry summary)).card }
+    ensures answer { said result.answer ≡ edit_fault vehicle (Release second) (screen speeds.now holds.old card.old summary) }
+    ensures summary { result.summary ≡ (edited vehicle (Release second) (screen speeds.now holds.old card.old summary)).summary }
+    ensures holds { holds.new ≡ (edited vehicle (Release second) (screen speeds.now holds.old card.old summary)).holds }
+    ensures card { card.new ≡ (edited vehicle (Release second) (screen speeds.now holds.old card.old summary)).card }
 {
     let k = numbers_of(vehicle);
     let mut powers = [0u32; 64];
@@ -141,10 +141,10 @@ pub fn mend(
     speed: u16,
     summary: Summary,
 ) -> Summarized
-    ensures answer { said result.answer ≡ edit_fault vehicle (Mend second speed) (screen speeds.entry holds.entry card.entry summary) }
-    ensures summary { result.summary ≡ (edited vehicle (Mend second speed) (screen speeds.entry holds.entry card.entry summary)).summary }
-    ensures speeds { speeds.new ≡ (edited vehicle (Mend second speed) (screen speeds.entry holds.entry card.entry summary)).speeds }
-    ensures card { card.new ≡ (edited vehicle (Mend second speed) (screen speeds.entry holds.entry card.entry summary)).card }
+    ensures answer { said result.answer ≡ edit_fault vehicle (Mend second speed) (screen speeds.old holds.now card.old summary) }
+    ensures summary { result.summary ≡ (edited vehicle (Mend second speed) (screen speeds.old holds.now card.old summary)).summary }
+    ensures speeds { speeds.new ≡ (edited vehicle (Mend second speed) (screen speeds.old holds.now card.old summary)).speeds }
+    ensures card { card.new ≡ (edited vehicle (Mend second speed) (screen speeds.old holds.now card.old summary)).card }
 {
     let k = numbers_of(vehicle);
     let mut powers = [0u32; 64];

@@ -1,5 +1,5 @@
 // An edit judged as it would stand.
-ghost use Rattle.rules.specs.Words.{◌≡◌, length};
+ghost use Rattle.std.specs.Prelude.{◌≡◌, length};
 ghost use Rattle.rules.specs.declared.Summary.{Summary};
 ghost use Rattle.rules.specs.Refusals.{said};
 ghost use Rattle.rules.specs.Edit.{edit_fault};
@@ -44,7 +44,7 @@ pub fn judge<'a>(
     requires { length powers.old ≡ 64 }
     ensures answer { (kept : Summary) → said result.answer
         ≡ edit_fault (whole k ratio.now n.now p.now m.now margin) edit
-        (screen speeds.entry holds.entry card.entry kept) }
+        (screen speeds.now holds.now card.now kept) }
     ensures ready { result.answer ≡ Done → Clear (whole k ratio.now n.now p.now m.now margin) edit
         speeds.now holds.now card.now result powers.new }
 {

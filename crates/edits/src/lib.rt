@@ -1,5 +1,7 @@
 // The edits of one second, each with the summary kept beside the card: held, released, its sample mended. What is asked for is judged as it would stand,
 // and nothing is written before every check has passed.
+#![tactic(auto)]
+
 mod asking;
 mod buttons;
 mod judging;
@@ -11,7 +13,7 @@ use rules::Answer;
 use summaries::Tally;
 
 // What was found out of an edit: the answer, and where there is no refusal the seconds that it re-works, and what the card as it stands counts there.
-#[derive(Drop)]
+#[derive(Clone, Copy)]
 pub struct Judged {
     pub answer: Answer,
     pub range: Span,

@@ -1,5 +1,5 @@
 // The seconds that an edit re-works, and those that are looked at for it. None of it hangs on the speed or the hold that is asked for.
-ghost use Rattle.rules.specs.Words.{◌≡◌, ◌+◌, ◌-◌, ◌<◌, min, length};
+ghost use Rattle.std.specs.Prelude.{◌≡◌, ◌+◌, ◌-◌, ◌<◌, min, length};
 ghost use Rattle.rules.specs.Edit.{second, around, hold_span, span};
 
 use checks::{Span, trip_start, trip_stop};

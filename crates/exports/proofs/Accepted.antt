@@ -6,7 +6,7 @@ use Rattle.exports.specs.declared.Record.{Record}
 use Rattle.exports.specs.declared.Record.TheVariants as record_is
 use Rattle.exports.specs.declared.Found.{Found}
 use Rattle.exports.specs.declared.Field.{Field}
-use Rattle.exports.specs.Fields.{F0, F1, F2, TM}
+use Rattle.exports.specs.Fields.{f0_field, f1_field, f2_field, tm_field}
 use Rattle.exports.specs.Export.{none_yet, with_record, float, finite_float, judged, coefficients_read, mass_read, end_read, of_kind, record_read}
 use Rattle.exports.specs.Export.{export_read}
 use Rattle.exports.specs.Answers.{Fresh}
@@ -52,12 +52,12 @@ module _ (bytes : List ℕ) where
     coefficients_stand : at bytes spot ≡ 1 → coefficients_read bytes spot (spot + 1) ≡ got r j → RecordStands bytes spot r j
     unfolding coefficients_read
     coefficients_stand z e =
-        went (judged bytes spot F0 (spot + 1)) _ e (λ x k a e.
-        went (judged bytes spot F1 k) _ e (λ y l b e.
-        went (judged bytes spot F2 l) _ e (λ w m c e.
-        let p = judged_ends spot F0 (spot + 1) a in
-        let q = judged_ends spot F1 k b in
-        let s = judged_ends spot F2 l c in
+        went (judged bytes spot f0_field (spot + 1)) _ e (λ x k a e.
+        went (judged bytes spot f1_field k) _ e (λ y l b e.
+        went (judged bytes spot f2_field l) _ e (λ w m c e.
+        let p = judged_ends spot f0_field (spot + 1) a in
+        let q = judged_ends spot f1_field k b in
+        let s = judged_ends spot f2_field l c in
         let t = same_place e in
         let n : j ≡ spot + 13 = omega arith in
         rw (← same_record e) (z, n))))
@@ -65,8 +65,8 @@ module _ (bytes : List ℕ) where
     mass_stands : at bytes spot ≡ 2 → mass_read bytes spot (spot + 1) ≡ got r j → RecordStands bytes spot r j
     unfolding mass_read
     mass_stands z e =
-        went (judged bytes spot TM (spot + 1)) _ e (λ x k a e.
-        let p = judged_ends spot TM (spot + 1) a in
+        went (judged bytes spot tm_field (spot + 1)) _ e (λ x k a e.
+        let p = judged_ends spot tm_field (spot + 1) a in
         let t = same_place e in
         let n : j ≡ spot + 5 = omega arith in
         rw (← same_record e) (z, n))

@@ -1,12 +1,13 @@
 -- Sums done by hand: what the definitions give for floats and for whole exports, one table each, each under one theorem.
-use Rattle.rules.proofs.Offered.{ℕ, ◌*◌, ◌^◌, ◌≡◌, refl, none, some, List, [], ◌∷◌, ◌++◌, ℤ, pos, neg_ℤ, count_trailing_zeros, odd, of_fields, of_bits, nearest, ◌and◌}
+use Rattle.rules.proofs.Offered.{ℕ, ◌*◌, ◌^◌, ◌≡◌, refl, none, some, List, [], ◌∷◌, ◌++◌, ℤ, pos, neg_ℤ, count_trailing_zeros, odd, of_fields}
+use Rattle.rules.proofs.Offered.{of_bits, nearest, ◌and◌}
 use Rattle.rules.proofs.Offered.{early, hand_on, demand, read_fault}
 use Rattle.rules.proofs.Cases.Rows.{Value, scaled as amount, refusal, ◌beside◌, Row, row, sums, papers}
 use Rattle.exports.specs.declared.Field.{Field}
 use Rattle.exports.specs.Floats.{four_bytes, float_of, finite, signed, scaled}
-use Rattle.exports.specs.Fields.{F0, F1, F2, TM, units, in_bounds}
+use Rattle.exports.specs.Fields.{f0_field, f1_field, f2_field, tm_field, units, in_bounds}
 use Rattle.exports.specs.Export.{none_yet, kind, float, finite_float, judged, coefficients_read, mass_read, end_read, of_kind, record_read, export_read}
-use Rattle.exports.specs.Export.{Figures, figures_of}
+use Rattle.exports.specs.Export.{figures_of}
 
 -- ---- a float's bits, and its value in a field's units
 
@@ -17,26 +18,26 @@ sum field bits value = row (amount (units field (float_of bits))) (amount value)
 pub floats : List Row
 floats =
     -- 0.25 N are 2.5 tenths: halves away from zero, on both sides
-    sum F0 1048576000 (pos 3)
-    ∷ sum F0 3196059648 (neg_ℤ (pos 3))
+    sum f0_field 1048576000 (pos 3)
+    ∷ sum f0_field 3196059648 (neg_ℤ (pos 3))
     -- -0.0, and -0.04 N
-    ∷ sum F0 2147483648 (pos 0)
-    ∷ sum F0 3173242634 (pos 0)
+    ∷ sum f0_field 2147483648 (pos 0)
+    ∷ sum f0_field 3173242634 (pos 0)
     -- 103.35 N as a float is below 1033.5 tenths; its product with 10, rounded to a float, is 1033.5
-    ∷ sum F0 1120842547 (pos 1033)
+    ∷ sum f0_field 1120842547 (pos 1033)
     -- 0.0625 and -0.0625 N/(km/h) are 62.5 thousandths in size
-    ∷ sum F1 1031798784 (pos 63)
-    ∷ sum F1 3179282432 (neg_ℤ (pos 63))
+    ∷ sum f1_field 1031798784 (pos 63)
+    ∷ sum f1_field 3179282432 (neg_ℤ (pos 63))
     -- the smallest denormal, the largest denormal, and the largest finite float
-    ∷ sum F2 1 (pos 0)
-    ∷ sum F2 8388607 (pos 0)
-    ∷ sum F2 2139095039 (pos (100000 * (16777215 * 2 ^ 104)))
+    ∷ sum f2_field 1 (pos 0)
+    ∷ sum f2_field 8388607 (pos 0)
+    ∷ sum f2_field 2139095039 (pos (100000 * (16777215 * 2 ^ 104)))
     -- 399.5 kg
-    ∷ sum TM 1137164288 (pos 400)
+    ∷ sum tm_field 1137164288 (pos 400)
     ∷ []
 
 pub every_sum : sums floats ≡ papers floats
-unfolding sums papers row sum floats F0 F1 F2 TM units scaled float_of of_bits of_fields odd count_trailing_zeros nearest signed
+unfolding sums papers row sum floats f0_field f1_field f2_field tm_field units scaled float_of of_bits of_fields odd count_trailing_zeros nearest signed
 every_sum = refl
 
 -- ---- whole exports
@@ -86,6 +87,7 @@ rows =
 
 pub every-row : sums rows ≡ papers rows
 unfolding sums papers row told told_of rows three mass taken refused_by ◌and◌ hand_on demand read_fault four_bytes float_of finite of_bits of_fields odd
-    count_trailing_zeros nearest signed scaled F0 F1 F2 TM units in_bounds none_yet early kind float finite_float judged coefficients_read mass_read end_read of_kind
+    count_trailing_zeros nearest signed scaled f0_field f1_field f2_field tm_field units in_bounds none_yet early kind float finite_float judged
+    coefficients_read mass_read end_read of_kind
     record_read export_read figures_of
 every-row = refl

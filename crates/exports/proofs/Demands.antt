@@ -1,5 +1,5 @@
 -- The demands on the reader of an export, over the contract of `read_export` as the check reads it.
-use Rattle.rules.proofs.Offered.{ℕ, ◌≡◌, refl, sym, ◌∙◌, none, List, arith, now, said, Read, got, refused, read_fault}
+use Rattle.rules.proofs.Offered.{ℕ, ◌≡◌, refl, sym, ◌∙◌, none, List, arith, said, Read, got, refused, read_fault}
 use Rattle.rules.specs.Determined.{AsksNothing, Promises}
 use Rattle.exports.specs.declared.Export.{Export}
 use Rattle.exports.specs.declared.Found.{Found}
@@ -14,7 +14,7 @@ demand_1_asks_nothing κs a = tt
 
 -- what the contract says
 pub export_says : Promises read-kinds.ps read-kinds.r read-reads.Asked read-reads.Learnt
-    (λ κs a z ws. ExportAs (now a.0) z)
+    (λ κs a z ws. ExportAs (a.0.now) z)
 export_says κs a asked z ws p = p
 
 -- refused by number and place exactly where request Five says

@@ -5,7 +5,7 @@ use Rattle.exports.specs.declared.Record.{Record}
 use Rattle.exports.specs.declared.Record.TheVariants as record_is
 use Rattle.exports.specs.declared.Found.{Found}
 use Rattle.exports.specs.declared.Coefficients.{Coefficients}
-use Rattle.exports.specs.Fields.{F0, F1, F2, TM}
+use Rattle.exports.specs.Fields.{f0_field, f1_field, f2_field, tm_field}
 use Rattle.exports.specs.Export.{none_yet, with_record, judged, coefficients_read, mass_read, end_read, of_kind, record_read, export_read}
 use Rattle.exports.specs.Answers.{Fresh}
 use Rattle.exports.proofs.RecordAnswers.{no_kind, by_kind}
@@ -39,11 +39,12 @@ module _ (bytes : List ℕ) (found : Found) (i : ℕ) {r : Record} {j : ℕ} whe
   coefficients_fresh : (k : ℕ) → found.has_coefficients ≡ false → coefficients_read bytes i k ≡ got r j → Fresh found r
   unfolding coefficients_read
   coefficients_fresh k t e =
-      went (judged bytes i F0 k) _ e (λ x k _ e. went (judged bytes i F1 k) _ e (λ y k _ e. went (judged bytes i F2 k) _ e (λ z k _ e. rw (← same_record e) t)))
+      went (judged bytes i f0_field k) _ e (λ x k _ e. went (judged bytes i f1_field k) _ e
+      (λ y k _ e. went (judged bytes i f2_field k) _ e (λ z k _ e. rw (← same_record e) t)))
 
   mass_fresh : (k : ℕ) → found.has_mass ≡ false → mass_read bytes i k ≡ got r j → Fresh found r
   unfolding mass_read
-  mass_fresh k t e = went (judged bytes i TM k) _ e (λ x k _ e. rw (← same_record e) t)
+  mass_fresh k t e = went (judged bytes i tm_field k) _ e (λ x k _ e. rw (← same_record e) t)
 
   kind_fresh : (n k : ℕ) → of_kind bytes i n found k ≡ got r j → Fresh found r
   unfolding of_kind

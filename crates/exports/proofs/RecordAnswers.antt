@@ -7,7 +7,7 @@ use Rattle.exports.specs.declared.Record.TheVariants as record_is
 use Rattle.exports.specs.declared.Found.{Found}
 use Rattle.exports.specs.declared.Field.{Field}
 use Rattle.exports.specs.Floats.{four_bytes, float_of}
-use Rattle.exports.specs.Fields.{F0, F1, F2, TM, in_bounds}
+use Rattle.exports.specs.Fields.{f0_field, f1_field, f2_field, tm_field, in_bounds}
 use Rattle.exports.specs.Export.{kind, float, finite_float, judged, coefficients_read, mass_read, end_read, of_kind, record_read}
 use Rattle.exports.specs.Bits.{exponent, Finite}
 use Rattle.exports.proofs.Values.{is_finite, not_finite}
@@ -51,29 +51,29 @@ module _ (bytes : List ℕ) (spot i : ℕ) where
 
   -- ---- a record's floats
 
-  pub mass_stops : {f : Fault} → refused f ≡ judged bytes spot TM i → refused f ≡ mass_read bytes spot i
+  pub mass_stops : {f : Fault} → refused f ≡ judged bytes spot tm_field i → refused f ≡ mass_read bytes spot i
   unfolding mass_read hand_on
   mass_stops e = rw (← e)
 
-  pub mass_comes : {x : Float} {j : ℕ} → got x j ≡ judged bytes spot TM i → got (record_is.Mass x) j ≡ mass_read bytes spot i
+  pub mass_comes : {x : Float} {j : ℕ} → got x j ≡ judged bytes spot tm_field i → got (record_is.Mass x) j ≡ mass_read bytes spot i
   unfolding mass_read hand_on
   mass_comes e = rw (← e)
 
-  pub f0_stops : {f : Fault} → refused f ≡ judged bytes spot F0 i → refused f ≡ coefficients_read bytes spot i
+  pub f0_stops : {f : Fault} → refused f ≡ judged bytes spot f0_field i → refused f ≡ coefficients_read bytes spot i
   unfolding coefficients_read hand_on
   f0_stops e = rw (← e)
 
-  module _ {x : Float} {j : ℕ} (e : got x j ≡ judged bytes spot F0 i) where
-    pub f1_stops : {f : Fault} → refused f ≡ judged bytes spot F1 j → refused f ≡ coefficients_read bytes spot i
+  module _ {x : Float} {j : ℕ} (e : got x j ≡ judged bytes spot f0_field i) where
+    pub f1_stops : {f : Fault} → refused f ≡ judged bytes spot f1_field j → refused f ≡ coefficients_read bytes spot i
     unfolding coefficients_read hand_on
     f1_stops g = rw (← e, ← g)
 
-    module _ {y : Float} {k : ℕ} (g : got y k ≡ judged bytes spot F1 j) where
-      pub f2_stops : {f : Fault} → refused f ≡ judged bytes spot F2 k → refused f ≡ coefficients_read bytes spot i
+    module _ {y : Float} {k : ℕ} (g : got y k ≡ judged bytes spot f1_field j) where
+      pub f2_stops : {f : Fault} → refused f ≡ judged bytes spot f2_field k → refused f ≡ coefficients_read bytes spot i
       unfolding coefficients_read hand_on
       f2_stops h = rw (← e, ← g, ← h)
 
-      pub three_come : {z : Float} {l : ℕ} → got z l ≡ judged bytes spot F2 k → got (record_is.Coefficients (record { f0 = x; f1 = y; f2 = z })) l
+      pub three_come : {z : Float} {l : ℕ} → got z l ≡ judged bytes spot f2_field k → got (record_is.Coefficients (record { f0 = x; f1 = y; f2 = z })) l
           ≡ coefficients_read bytes spot i
       unfolding coefficients_read hand_on
       three_come h = rw (← e, ← g, ← h)

@@ -1,11 +1,12 @@
 -- Sizes: what fits the code's types, and what a judged value is in them.
 use Rattle.rules.proofs.Offered.{ℕ, zero, suc, ◌+◌, ◌*◌, ◌/◌, ◌%◌, ◌^◌, ◌<◌, ◌≤◌, mul-le-mul, mul_comm, div-eq_of_lt, mod-eq_of_lt, one-mul, arith, ◌≡◌, refl}
-use Rattle.rules.proofs.Offered.{ap, ◌∙◌, Bool, true, false, ℤ, pos, negsuc, neg_ℤ, ◌-ℤ◌, +ℤ_idl, le_z, lt_z, pow-add, pow_mono, shr_le, Float, binary32, to_bits}
+use Rattle.rules.proofs.Offered.{ap, ◌∙◌, Bool, true, false, ℤ, pos, negsuc, neg_ℤ, ◌-ℤ◌, +ℤ_idl, le_z, lt_z, pow-add, pow_mono, shr_le, Float}
+use Rattle.rules.proofs.Offered.{binary32, to_bits}
 use Rattle.rules.proofs.Offered.{to_z-of_z, to_z_pos, sfits_lit, SFits, to_z, of_z, w32, w64, le-leb, lt-leb, leb-true, ltb-true, ltb-false, nearest, ◌and◌}
 use Rattle.rules.proofs.Offered.{and_left, and_right}
 use Rattle.exports.specs.declared.Field.{Field}
 use Rattle.exports.specs.Floats.{signed, scaled}
-use Rattle.exports.specs.Fields.{F0, F1, F2, TM, units, in_bounds}
+use Rattle.exports.specs.Fields.{f0_field, f1_field, f2_field, tm_field, units, in_bounds}
 use Rattle.exports.specs.Bits.{negative, significand, shift, size_of, Moderate, InField, Fair, Unsigned}
 use Rattle.exports.proofs.Values.{scaled_is, moderate}
 
@@ -94,9 +95,9 @@ short (pos n) l m = let u = leb-true n 5000 m in record { sfits = omega arith }
 short (negsuc n) l m = let u = leb-true n 4999 l in record { sfits = omega arith }
 
 -- F1 fits 32 bits
-pub f1_short : (x : Float) → InField F1 x → SFits w32 (units F1 x)
-unfolding units F1
-f1_short x j = let t = inside F1 x j.bounded in short (scaled 1000 x) (and_left _ _ t) (and_right _ _ t)
+pub f1_short : (x : Float) → InField f1_field x → SFits w32 (units f1_field x)
+unfolding units f1_field
+f1_short x j = let t = inside f1_field x j.bounded in short (scaled 1000 x) (and_left _ _ t) (and_right _ _ t)
 
 -- ---- the sign in front
 
@@ -123,7 +124,8 @@ module _ (k : ℕ) (x : Float) (m : Moderate k x) (n : ℕ) (e : n ≡ size_of k
   unfolding signed
   minus_short = rw minus_is (signed_short true n low)
 
-  pub turned : 2147483648 ≤ to_bits binary32 x → (to_z w64 (of_z w64 (pos 0 -ℤ to_z w64 n)) ≡ scaled k x) × SFits w64 (to_z w64 (of_z w64 (pos 0 -ℤ to_z w64 n)))
+  pub turned : 2147483648 ≤ to_bits binary32 x → (to_z w64 (of_z w64 (pos 0 -ℤ to_z w64 n)) ≡ scaled k x) × SFits w64
+      (to_z w64 (of_z w64 (pos 0 -ℤ to_z w64 n)))
   unfolding signed negative
   turned l =
       let same : to_z w64 (of_z w64 (pos 0 -ℤ to_z w64 n)) ≡ scaled k x = to_z-of_z minus_short ∙ minus_is
@@ -132,28 +134,28 @@ module _ (k : ℕ) (x : Float) (m : Moderate k x) (n : ℕ) (e : n ≡ size_of k
 
 -- ---- the fields
 
-pub f0_plain : Unsigned F0
-unfolding F0
+pub f0_plain : Unsigned f0_field
+unfolding f0_field
 f0_plain = record {
   fair = record { least = omega arith; most = omega arith; lower = refl; upper = refl; lo_held = sfits_lit tt; hi_held = sfits_lit tt };
   from_zero = refl;
   short = refl;
 }
 
-pub f1_fair : Fair F1
-unfolding F1
+pub f1_fair : Fair f1_field
+unfolding f1_field
 f1_fair = record { least = omega arith; most = omega arith; lower = refl; upper = refl; lo_held = sfits_lit tt; hi_held = sfits_lit tt }
 
-pub f2_plain : Unsigned F2
-unfolding F2
+pub f2_plain : Unsigned f2_field
+unfolding f2_field
 f2_plain = record {
   fair = record { least = omega arith; most = omega arith; lower = refl; upper = refl; lo_held = sfits_lit tt; hi_held = sfits_lit tt };
   from_zero = refl;
   short = refl;
 }
 
-pub tm_plain : Unsigned TM
-unfolding TM
+pub tm_plain : Unsigned tm_field
+unfolding tm_field
 tm_plain = record {
   fair = record { least = omega arith; most = omega arith; lower = refl; upper = refl; lo_held = sfits_lit tt; hi_held = sfits_lit tt };
   from_zero = refl;

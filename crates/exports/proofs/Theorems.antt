@@ -1,9 +1,10 @@
 -- What a reader of request Five may conclude of the definitions, each theorem by name.
-use Rattle.rules.proofs.Offered.{ℕ, ◌+◌, ◌*◌, ◌/◌, ◌%◌, ◌<◌, ◌≤◌, div-mul-le_self, div-add-mod', mod-lt, mul_left_comm, arith, ◌≡◌, refl, true, false, get_or, ℤ}
+use Rattle.rules.proofs.Offered.{ℕ, ◌+◌, ◌*◌, ◌/◌, ◌%◌, ◌<◌, ◌≤◌, div-mul-le_self, div-add-mod', mod-lt, mul_left_comm, arith, ◌≡◌, refl, true, false}
+use Rattle.rules.proofs.Offered.{get_or, ℤ}
 use Rattle.rules.proofs.Offered.{pos, neg_ℤ, le_z, Float, fin, le-leb, nearest, ◌and◌, within, newest, bounds}
 use Rattle.rules.specs.declared.Vehicle.{Vehicle}
 use Rattle.exports.specs.Floats.{signed, scaled}
-use Rattle.exports.specs.Fields.{F0, F1, F2, TM, units, in_bounds}
+use Rattle.exports.specs.Fields.{f0_field, f1_field, f2_field, tm_field, units, in_bounds}
 
 -- ---- rounding
 
@@ -35,18 +36,18 @@ unfolding ◌and◌
 from_zero n hi = rw (le-leb 0 n (omega arith))
 
 module _ (car : Vehicle) (x : Float) where
-  pub bounds_f0 : pos car.f0 ≡ units F0 x → in_bounds F0 x ≡ get_or (bounds newest car) 5 true
-  unfolding in_bounds F0 bounds
+  pub bounds_f0 : pos car.f0 ≡ units f0_field x → in_bounds f0_field x ≡ get_or (bounds newest car) 5 true
+  unfolding in_bounds f0_field bounds
   bounds_f0 e = rw (← e) (from_zero car.f0 10000)
 
-  pub bounds_f1 : car.f1 ≡ units F1 x → in_bounds F1 x ≡ get_or (bounds newest car) 6 true
-  unfolding in_bounds F1 bounds
+  pub bounds_f1 : car.f1 ≡ units f1_field x → in_bounds f1_field x ≡ get_or (bounds newest car) 6 true
+  unfolding in_bounds f1_field bounds
   bounds_f1 e = rw (← e)
 
-  pub bounds_f2 : pos car.f2 ≡ units F2 x → in_bounds F2 x ≡ get_or (bounds newest car) 7 true
-  unfolding in_bounds F2 bounds
+  pub bounds_f2 : pos car.f2 ≡ units f2_field x → in_bounds f2_field x ≡ get_or (bounds newest car) 7 true
+  unfolding in_bounds f2_field bounds
   bounds_f2 e = rw (← e) (from_zero car.f2 20000)
 
-  pub bounds_tm : pos car.tm ≡ units TM x → in_bounds TM x ≡ get_or (bounds newest car) 8 true
-  unfolding in_bounds TM bounds within
+  pub bounds_tm : pos car.tm ≡ units tm_field x → in_bounds tm_field x ≡ get_or (bounds newest car) 8 true
+  unfolding in_bounds tm_field bounds within
   bounds_tm e = rw (← e)

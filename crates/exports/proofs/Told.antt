@@ -5,7 +5,7 @@ use Rattle.rules.specs.declared.Refusal.TheVariants.{JobEndsEarly, BadKind, NotF
 use Rattle.exports.specs.declared.Record.{Record}
 use Rattle.exports.specs.declared.Found.{Found}
 use Rattle.exports.specs.declared.Field.{Field}
-use Rattle.exports.specs.Fields.{F0, F1, F2, TM}
+use Rattle.exports.specs.Fields.{f0_field, f1_field, f2_field, tm_field}
 use Rattle.exports.specs.Export.{kind, float, finite_float, judged, coefficients_read, mass_read, end_read, of_kind, record_read, export_read}
 
 module _ (bytes : List ℕ) where
@@ -31,10 +31,11 @@ module _ (bytes : List ℕ) where
       (λ _. told_then _ _ (told-demand _ 22 spot i (KindMissing spot, refl)) (λ t j. told_got _ j)) (λ _.
       if_ind (λ (f : Reader Record). ToldRead (f i)) (eqb k 1 and not found.has_coefficients)
       (λ _.
-      told_then _ _ (judged-told spot F0 i) (λ x j. told_then _ _ (judged-told spot F1 j) (λ y j. told_then _ _ (judged-told spot F2 j) (λ z j. told_got _ j))))
+      told_then _ _ (judged-told spot f0_field i) (λ x j. told_then _ _ (judged-told spot f1_field j)
+      (λ y j. told_then _ _ (judged-told spot f2_field j) (λ z j. told_got _ j))))
       (λ _.
       if_ind (λ (f : Reader Record). ToldRead (f i)) (eqb k 2 and not found.has_mass)
-      (λ _. told_then _ _ (judged-told spot TM i) (λ x j. told_got _ j))
+      (λ _. told_then _ _ (judged-told spot tm_field i) (λ x j. told_got _ j))
       (λ _. told-refused (BadKind spot, refl))))
 
   record_told : (found : Found) (i : ℕ) → ToldRead (record_read bytes found i)

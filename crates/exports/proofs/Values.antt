@@ -3,7 +3,8 @@
 use Rattle.rules.proofs.Base.{fits}
 use Rattle.rules.proofs.Offered.{ℕ, zero, suc, ◌+◌, ◌-◌, ◌*◌, ◌/◌, ◌%◌, ◌^◌, ◌<◌, ◌≤◌, add-mul, mul-one, mul_comm, mul_assoc, mul_left_comm, mul-le-mul, arith}
 use Rattle.rules.proofs.Offered.{◌≡◌, refl, sym, ap, ◌∙◌, Bool, true, false, not, T, leb, eqb, ℤ, pos, negsuc, neg_ℤ, le_z, pow_pos, pow-add, Float, nan, inf}
-use Rattle.rules.proofs.Offered.{fin, up, down, binary32, of_bits, of_fields, to_bits, is_nan, odd, of_bits-to_bits, HasValue, odd_sign, div_same, lt-leb, ne_eqb}
+use Rattle.rules.proofs.Offered.{fin, up, down, binary32, of_bits, of_fields, to_bits, is_nan, odd, of_bits-to_bits, HasValue, odd_sign, div_same}
+use Rattle.rules.proofs.Offered.{lt-leb, ne_eqb}
 use Rattle.rules.proofs.Offered.{leb-true, nearest, ◌and◌, by_test, by_order, and_no}
 use Rattle.exports.specs.declared.Field.{Field}
 use Rattle.exports.specs.Floats.{float_of, finite, signed, scaled}

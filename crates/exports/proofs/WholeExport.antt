@@ -4,9 +4,8 @@ use Rattle.rules.specs.declared.Refusal.{Refusal}
 use Rattle.rules.specs.declared.Refusal.TheVariants.{BytesAfter}
 use Rattle.rules.specs.declared.Answer.TheVariants.{Done, Refused}
 use Rattle.exports.specs.declared.Record.{Record}
-use Rattle.exports.specs.declared.Record.TheVariants as record_is
 use Rattle.exports.specs.declared.Found.{Found}
-use Rattle.exports.specs.Fields.{TM, units}
+use Rattle.exports.specs.Fields.{tm_field, units}
 use Rattle.exports.specs.Export.{none_yet, with_record, record_read, export_read, figures_of, ExportAs}
 use Rattle.exports.specs.Bits.{InField, Bounded, InUnits}
 use Rattle.exports.specs.Answers.{Fresh, Good, no_export}
@@ -14,11 +13,11 @@ use Rattle.exports.proofs.Once.{two_kinds}
 
 -- the coefficients and the mass of two records that come were judged
 pub both-judged : (one two : Record) → Fresh none_yet one → Fresh (with_record none_yet one) two → Good one → Good two
-    → Bounded (with_record (with_record none_yet one) two).coefficients × InField TM (with_record (with_record none_yet one) two).mass
+    → Bounded (with_record (with_record none_yet one) two).coefficients × InField tm_field (with_record (with_record none_yet one) two).mass
 both-judged =
     two_kinds
     (λ one two. Good one → Good two → Bounded (with_record (with_record none_yet one) two).coefficients
-    × InField TM (with_record (with_record none_yet one) two).mass)
+    × InField tm_field (with_record (with_record none_yet one) two).mass)
     (λ c m p q. (p, q))
     (λ m c p q. (q, p))
 
@@ -59,7 +58,7 @@ unfolding said read_fault figures_of
 refused_as bytes e = record { answered = cc; the_f0 = cc; the_f1 = cc; the_f2 = cc; the_tm = cc }
 
 pub read_as_found : (bytes : List ℕ) {found : Found} {k : ℕ} → got found k ≡ export_read bytes 0
-    → {a b t : ℕ} {s : ℤ} → InUnits found.coefficients (record { f0 = a; f1 = s; f2 = b }) → pos t ≡ units TM found.mass
+    → {a b t : ℕ} {s : ℤ} → InUnits found.coefficients (record { f0 = a; f1 = s; f2 = b }) → pos t ≡ units tm_field found.mass
     → ExportAs bytes (record { answer = Done; f0 = a; f1 = s; f2 = b; tm = t })
 unfolding said read_fault figures_of
 read_as_found bytes e u m =

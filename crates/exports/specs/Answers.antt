@@ -1,6 +1,5 @@
 -- What the functions of the reader answer, stage by stage.
-use Rattle.rules.specs.Words.{◌≡◌, true, false, pos}
-use Rattle.std.specs.Prelude.{Float}
+use Rattle.std.specs.Prelude.{Float, ◌≡◌, true, false, pos}
 use Rattle.rules.specs.declared.Answer.{Answer}
 use Rattle.rules.specs.declared.Answer.TheVariants.{Done, Refused}
 use Rattle.rules.specs.Refusals.{fault}
@@ -14,7 +13,7 @@ use Rattle.exports.specs.declared.Next.TheVariants as next-is
 use Rattle.exports.specs.declared.Found.{Found}
 use Rattle.exports.specs.declared.Field.{Field}
 use Rattle.exports.specs.declared.Export.{Export}
-use Rattle.exports.specs.Fields.{TM}
+use Rattle.exports.specs.Fields.{tm_field}
 use Rattle.exports.specs.Bits.{Finite, InField, Bounded}
 
 -- what the answer for a float, and for a record, says
@@ -44,7 +43,7 @@ Fresh found record_is.End = (found.has_coefficients ≡ true) × (found.has_mass
 -- and each of its floats was judged
 abbrev pub Good : Record → Type 0
 Good (record_is.Coefficients c) = Bounded c
-Good (record_is.Mass m) = InField TM m
+Good (record_is.Mass m) = InField tm_field m
 Good record_is.End = Unit {0}
 
 abbrev pub ComesAfter : Found → Next → Type 0

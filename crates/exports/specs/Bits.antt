@@ -1,7 +1,7 @@
 -- The way of the code: a float's fields as whole numbers, and its scaled value from them. The reader of a contract need not believe these: `proofs/Values.antt`
 -- shows that they come to the exact value.
-use Rattle.rules.specs.Words.{ℕ, ◌+◌, ◌-◌, ◌*◌, ◌/◌, ◌%◌, ◌^◌, ◌≤◌, ◌<◌, ◌≡◌, Bool, true, T, leb, eqb, pos, neg_ℤ, le_z, if◌then◌else◌, nearest}
-use Rattle.std.specs.Prelude.{Float}
+use Rattle.rules.specs.Words.{le_z, nearest}
+use Rattle.std.specs.Prelude.{Float, ℕ, ◌+◌, ◌-◌, ◌*◌, ◌/◌, ◌%◌, ◌^◌, ◌≤◌, ◌<◌, ◌≡◌, Bool, true, T, leb, eqb, pos, neg_ℤ, if◌then◌else◌}
 use Rattle.std.specs.Float.{binary32}
 use Rattle.std.specs.Float.Ieee.{fits, to_bits}
 use Rattle.std.proofs.Common.{SFits}
@@ -10,7 +10,7 @@ use Rattle.exports.specs.declared.Field.{Field}
 use Rattle.exports.specs.declared.Coefficients.{Coefficients}
 use Rattle.exports.specs.declared.Units.{Units}
 use Rattle.exports.specs.Floats.{finite}
-use Rattle.exports.specs.Fields.{F0, F1, F2, units, in_bounds}
+use Rattle.exports.specs.Fields.{f0_field, f1_field, f2_field, units, in_bounds}
 
 -- the sign, the exponent's field and the digits below the leading one
 unfoldable pub negative : ℕ → Bool
@@ -68,12 +68,12 @@ pub record Unsigned (field : Field) : Type 0 where
 
 -- coefficients that were judged
 pub record Bounded (c : Coefficients) : Type 0 where
-  pub f0_in : InField F0 c.f0
-  pub f1_in : InField F1 c.f1
-  pub f2_in : InField F2 c.f2
+  pub f0_in : InField f0_field c.f0
+  pub f1_in : InField f1_field c.f1
+  pub f2_in : InField f2_field c.f2
 
 -- these in document 01's units
 pub record InUnits (c : Coefficients) (r : Units) : Type 0 where
-  pub f0_is : pos r.f0 ≡ units F0 c.f0
-  pub f1_is : r.f1 ≡ units F1 c.f1
-  pub f2_is : pos r.f2 ≡ units F2 c.f2
+  pub f0_is : pos r.f0 ≡ units f0_field c.f0
+  pub f1_is : r.f1 ≡ units f1_field c.f1
+  pub f2_is : pos r.f2 ≡ units f2_field c.f2

@@ -1,7 +1,7 @@
 -- Request Five: the export, read from left to right, each float judged once its bytes are read.
 -- Place is the byte where the record begins, for 12 the length, for 16 the first extra byte.
-use Rattle.rules.specs.Words.{ℕ, ◌+◌, ◌≡◌, true, false, not, List, length, leb, ltb, eqb, ℤ, pos, if◌then◌else◌, ◌and◌, at}
-use Rattle.std.specs.Prelude.{Float}
+use Rattle.rules.specs.Words.{◌and◌, at}
+use Rattle.std.specs.Prelude.{Float, ℕ, ◌+◌, ◌≡◌, true, false, not, List, length, leb, ltb, eqb, ℤ, pos, if◌then◌else◌}
 use Rattle.std.specs.Float.{fin}
 use Rattle.rules.specs.Refusals.{said}
 use Rattle.rules.specs.Groups.{Read, got, refused, Reader, ◌>>=◌, ◌>>◌, give, cursor, demand, early}
@@ -12,7 +12,7 @@ use Rattle.exports.specs.declared.Found.{Found}
 use Rattle.exports.specs.declared.Field.{Field}
 use Rattle.exports.specs.declared.Export.{Export}
 use Rattle.exports.specs.Floats.{four_bytes, float_of, finite}
-use Rattle.exports.specs.Fields.{F0, F1, F2, TM, units, in_bounds}
+use Rattle.exports.specs.Fields.{f0_field, f1_field, f2_field, tm_field, units, in_bounds}
 
 -- ---- what was found
 
@@ -60,15 +60,15 @@ module _ (bytes : List ℕ) where
   -- kind 1 carries f0, f1, f2 in N and km/h
   unfoldable pub coefficients_read : ℕ → Reader Record
   coefficients_read spot = do
-    f0 ← judged spot F0
-    f1 ← judged spot F1
-    f2 ← judged spot F2
+    f0 ← judged spot f0_field
+    f1 ← judged spot f1_field
+    f2 ← judged spot f2_field
     give (record_is.Coefficients (record { f0 = f0; f1 = f1; f2 = f2 }))
 
   -- kind 2 carries the test mass in kg
   unfoldable pub mass_read : ℕ → Reader Record
   mass_read spot = do
-    m ← judged spot TM
+    m ← judged spot tm_field
     give (record_is.Mass m)
 
   -- kind 0 ends the export: 22 ended with a kind missing
@@ -115,10 +115,10 @@ pub record Figures : Type 0 where
 -- those of what was found; all 0 where the export is refused
 unfoldable pub figures_of : Read Found → Figures
 figures_of (got found j) = record {
-  f0 = units F0 found.coefficients.f0;
-  f1 = units F1 found.coefficients.f1;
-  f2 = units F2 found.coefficients.f2;
-  tm = units TM found.mass;
+  f0 = units f0_field found.coefficients.f0;
+  f1 = units f1_field found.coefficients.f1;
+  f2 = units f2_field found.coefficients.f2;
+  tm = units tm_field found.mass;
 }
 figures_of (refused f) = record { f0 = pos 0; f1 = pos 0; f2 = pos 0; tm = pos 0 }
 

@@ -1,7 +1,7 @@
 -- Request Five, "the nearest whole number of their units to the exact value of the float, halves away from zero".
 -- A `Float` is the logic's own of IEEE 754: `fin s m e` is the number m x 2^e, negative where s is true, and 2^e is the fraction up e / down e.
-use Rattle.rules.specs.Words.{ℕ, ◌+◌, ◌*◌, Bool, true, false, List, ℤ, pos, neg_ℤ, nearest, at}
-use Rattle.std.specs.Prelude.{Float}
+use Rattle.rules.specs.Words.{nearest, at}
+use Rattle.std.specs.Prelude.{Float, ℕ, ◌+◌, ◌*◌, Bool, true, false, List, ℤ, pos, neg_ℤ}
 use Rattle.std.specs.Float.{nan, inf, fin, binary32}
 use Rattle.std.specs.Float.Ieee.{up, down, of_bits}
 

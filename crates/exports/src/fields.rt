@@ -1,6 +1,7 @@
 // The fields that the bench gives: which floats are within document 01's bounds, and what they are in its units.
-ghost use Rattle.rules.specs.Words.{◌≡◌, pos, le_z, ◌and◌};
-ghost use Rattle.exports.specs.Fields.{F1, units, in_bounds};
+ghost use Rattle.std.specs.Prelude.{◌≡◌, pos};
+ghost use Rattle.rules.specs.Words.{le_z, ◌and◌};
+ghost use Rattle.exports.specs.Fields.{f1_field, units, in_bounds};
 ghost use Rattle.exports.specs.Bits.{Finite, InField, Fair, Unsigned, Bounded, InUnits};
 
 use crate::floats::{exponent, scaled, size_of};
@@ -66,8 +67,8 @@ pub fn whole_number(x: f32, field: Field) -> u16
 
 // F1, which may be negative.
 fn thousandths(x: f32) -> i32
-    requires { InField F1 x }
-    ensures { result ≡ units F1 x }
+    requires { InField f1_field x }
+    ensures { result ≡ units f1_field x }
 {
     scaled(x, 1000) as i32
 }

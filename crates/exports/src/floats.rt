@@ -1,5 +1,5 @@
 // A float's bits, and its value in document 01's units from them: sign, exponent and digits as whole numbers, no product of floats.
-ghost use Rattle.rules.specs.Words.{◌≡◌, ◌+◌, ◌*◌, ◌<◌, ◌≤◌, length};
+ghost use Rattle.std.specs.Prelude.{◌≡◌, ◌+◌, ◌*◌, ◌<◌, ◌≤◌, length};
 ghost use Rattle.std.proofs.Common.{SFits};
 ghost use Rattle.std.specs.Int.{w64};
 ghost use Rattle.exports.specs.Floats.{four_bytes, scaled};

@@ -1,5 +1,7 @@
 // The bench computer's export, request Five of document 02: road load coefficients and test mass as single-precision floats, turned into document 01's
 // units from their bits, in whole numbers only. The first fault from left to right is the answer.
+#![tactic(auto)]
+
 ghost use Rattle.std.specs.Prelude.{◌≡◌};
 ghost use Rattle.exports.specs.Export.{ExportAs, none_yet, with_record};
 ghost use Rattle.exports.specs.Answers.{number_next, next_answer, no_export};
@@ -13,7 +15,7 @@ use records::record_at;
 use rules::{Answer, Refusal};
 
 // A field of the vehicle that the bench gives: how many of its units make one of the bench's, and its bounds.
-#[derive(Drop)]
+#[derive(Clone, Copy)]
 struct Field {
     scale: u64,
     lo: i64,
@@ -21,7 +23,7 @@ struct Field {
 }
 
 // The coefficients as the bench has them, in N and km/h.
-#[derive(Drop)]
+#[derive(Clone, Copy)]
 struct Coefficients {
     f0: f32,
     f1: f32,
@@ -29,7 +31,7 @@ struct Coefficients {
 }
 
 // The coefficients in document 01's units.
-#[derive(Drop)]
+#[derive(Clone, Copy)]
 struct Units {
     f0: u16,
     f1: i32,
@@ -37,7 +39,7 @@ struct Units {
 }
 
 // A record of the export: kind 1, kind 2 and kind 0.
-#[derive(Drop)]
+#[derive(Clone, Copy)]
 enum Record {
     Coefficients(Coefficients),
     Mass(f32),
@@ -45,21 +47,21 @@ enum Record {
 }
 
 // What reading a float answers: the float and the place after it, or why not.
-#[derive(Drop)]
+#[derive(Clone, Copy)]
 enum Number {
     Value(f32, usize),
     Fault(Refusal),
 }
 
 // What reading a record answers: the record and the place after it, or why not.
-#[derive(Drop)]
+#[derive(Clone, Copy)]
 enum Next {
     Record(Record, usize),
     Fault(Refusal),
 }
 
 // What was found so far: which kinds were met, and their floats.
-#[derive(Drop)]
+#[derive(Clone, Copy)]
 struct Found {
     has_coefficients: bool,
     coefficients: Coefficients,
@@ -69,7 +71,7 @@ struct Found {
 
 // What the reader answers: F0 in tenths of N, F1 in thousandths of N/(km/h), F2 in hundred-thousandths of N/(km/h)^2 and TM in kg; all 0 where it
 // refuses.
-#[derive(Drop)]
+#[derive(Clone, Copy)]
 pub struct Export {
     pub answer: Answer,
     pub f0: u16,

@@ -1,5 +1,5 @@
 // The records of an export: each float is judged once its bytes are read, and a fault is handed up.
-ghost use Rattle.rules.specs.Words.{◌≡◌, false, List, ℕ};
+ghost use Rattle.std.specs.Prelude.{◌≡◌, false, List, ℕ};
 ghost use Rattle.exports.specs.declared.Found.{Found};
 ghost use Rattle.exports.specs.Export.{finite_float, judged, coefficients_read, mass_read, end_read, record_read};
 ghost use Rattle.exports.specs.Bits.{Fair};

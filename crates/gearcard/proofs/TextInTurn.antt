@@ -1,7 +1,8 @@
 -- Text put piece by piece: the digits of a number, the pieces of a line, line after line, and what begins the memory is seen there.
 use Rattle.rules.proofs.Offered.{ℕ, zero, suc, ◌+◌, ◌-◌, ◌*◌, ◌%◌, ◌/◌, ◌≤◌, ◌<◌, arith, add-zero, zero-add, add-one, ◌≡◌, refl, ◌∙◌, List, [], ◌∷◌, ◌++◌}
 use Rattle.rules.proofs.Offered.{append-nil, append_assoc, length, drop, set, get_or, length-append, length-drop, length-set, drop_of_length-le, take_all}
-use Rattle.rules.proofs.Offered.{sets-eq, length-sets, drop-cons, get_or-set_same, drop-set-lt, take-append_seam, drop-append_seam, le-leb, lt-leb, part, decimal}
+use Rattle.rules.proofs.Offered.{sets-eq, length-sets, drop-cons, get_or-set_same, drop-set-lt, take-append_seam, drop-append_seam, le-leb, lt-leb}
+use Rattle.rules.proofs.Offered.{part, decimal}
 use Rattle.rules.proofs.Offered.{pedal, line, lines, tens, decimal-one, decimal-more, line_short, lines_more}
 use Rattle.reading.specs.Lent.{Put}
 use Rattle.reading.proofs.PutInTurn.{put_both}

@@ -1,5 +1,5 @@
 -- What is printed, and the pieces of its lines.
-use Rattle.rules.specs.Words.{ℕ, ◌/◌, ◌%◌, ◌≤◌, ◌≡◌, List, ◌∷◌, ◌++◌, length, take, drop}
+use Rattle.std.specs.Prelude.{ℕ, ◌/◌, ◌%◌, ◌≤◌, ◌≡◌, List, ◌∷◌, ◌++◌, length, take, drop}
 use Rattle.rules.specs.declared.Vehicle.{Vehicle}
 use Rattle.rules.specs.Refusals.{work_fault}
 use Rattle.rules.specs.Text.{decimal, pedal, worked_text}

@@ -1,14 +1,37 @@
 // The card program: reads a job on standard input and prints its card, or the one refusal. It only reads and writes: what is printed is
 // `text::answer`. It has room for 4,096 seconds: a job of a longer trace is refused by 1. A job of that many has at most 12,504 groups of at most 3
 // bytes, so 37,512 bytes; one byte more shows that it is too long, and by the theorem `long_input` of rules the bytes after it change nothing.
+// Where a read or a write fails, the program says so on standard error and ends with status 1.
+#![tactic(auto)]
+
+ghost use Rattle.std.specs.Prelude.{◌≤◌, length, IfOk};
+
+use std::io;
+use std::io::Read;
+
 mod text;
 
 use text::{TEXT, answer};
 
-fn main() {
+// Reads until the memory is full or the input ends, and answers how many bytes came.
+fn read_full(input: &mut impl Read, job: &mut [u8]) -> io::Result<usize>
+    ensures { IfOk result (λ n. n ≤ length job.new) }
+{
+    let mut done = 0;
+    while done < job.len() {
+        let n = input.read(&mut job[done..])?;
+        if n == 0 {
+            break;
+        }
+        done += n;
+    }
+    Ok(done)
+}
+
+fn main(rt: HostRuntime) -> io::Result<()> {
     let mut job = [0u8; 37513];
     let mut out = [0u8; TEXT];
-    let n = io::read_full(0, &mut job);
+    let n = read_full(&mut rt.stdin(), &mut job)?;
     let k = answer(&job[..n], &mut out);
-    io::write_all(1, &out[..k]);
+    rt.write_all(&out[..k])
 }

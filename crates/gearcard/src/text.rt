@@ -1,5 +1,6 @@
 // The text that the card program prints, built in lent memory piece by piece. Each function that puts answers the place after what it put.
-ghost use Rattle.rules.specs.Words.{◌≡◌, ◌+◌, ◌*◌, ◌%◌, ◌≤◌, ◌<◌, length, part};
+ghost use Rattle.std.specs.Prelude.{◌≡◌, ◌+◌, ◌*◌, ◌%◌, ◌≤◌, ◌<◌, length};
+ghost use Rattle.rules.specs.Words.{part};
 ghost use Rattle.rules.specs.Refusals.{fault};
 ghost use Rattle.rules.specs.Text.{decimal, pedal, line, lines, card_text, refusal_text, program_room, printed_fault, printed};
 ghost use Rattle.reading.specs.Lent.{Put};

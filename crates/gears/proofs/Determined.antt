@@ -1,5 +1,5 @@
 -- Each public function's contract allows one outcome. `Reads` is the contract's own reading, which the check makes of the clauses.
-use Rattle.rules.proofs.Offered.{ℕ, refl, sym, ap, ◌∙◌, List, [], now, said_once}
+use Rattle.rules.proofs.Offered.{ℕ, refl, sym, ap, ◌∙◌, List, [], said_once}
 use Rattle.rules.specs.Determined.{Determined, DeterminedAs}
 use Rattle.gears.proofs.Parts.{built_has}
 use Rattle.gears.proofs.second.top.Kinds as top-kinds
@@ -55,7 +55,7 @@ pub minimum : Determined minimum-kinds.ps minimum-kinds.r minimum-reads.Asked mi
 minimum κs a asked z z' ws ws' p q = let C = (built_has a.0 []).counts in (p.0 _ C ∙ sym (q.0 _ C), refl)
 
 pub floor : Determined floor-kinds.ps floor-kinds.r floor-reads.Asked floor-reads.Learnt
-floor κs a asked z z' ws ws' p q = let H = built_has a.0 (now a.1.0) in (p _ H ∙ sym (q _ H), refl)
+floor κs a asked z z' ws ws' p q = let H = built_has a.0 (a.1.0.now) in (p _ H ∙ sym (q _ H), refl)
 
 pub step_of : Determined step-of-kinds.ps step-of-kinds.r step-of-reads.Asked step-of-reads.Learnt
 step_of κs a asked z z' ws ws' p q = (p ∙ sym q, refl)

@@ -1,6 +1,8 @@
 -- The bounds of a vehicle, as a chain of tests meets them: the first k hold, so the first that fails is one of the others.
-use Rattle.rules.proofs.Offered.{ℕ, suc, ◌+◌, ◌-◌, ◌≤◌, ◌<◌, arith, ◌≡◌, refl, ◌∙◌, Bool, true, false, none, some, List, length, get_or, drop, leb, drop-cons, ℤ}
-use Rattle.rules.proofs.Offered.{pos, negsuc, le_z, w32, SFits, to_z, of_z, to_z-of_z, leb-true, leb-false, le-leb, lt-leb, if◌then◌else◌, ◌and◌, within, bounds}
+use Rattle.rules.proofs.Offered.{ℕ, suc, ◌+◌, ◌-◌, ◌≤◌, ◌<◌, arith, ◌≡◌, refl, ◌∙◌, Bool, true, false, none, some, List, length, get_or, drop, leb}
+use Rattle.rules.proofs.Offered.{drop-cons, ℤ}
+use Rattle.rules.proofs.Offered.{pos, negsuc, le_z, w32, SFits, to_z, of_z, to_z-of_z, leb-true, leb-false, le-leb, lt-leb, if◌then◌else◌, ◌and◌}
+use Rattle.rules.proofs.Offered.{within, bounds}
 use Rattle.rules.proofs.Offered.{first_failed, said, refuse_at, by_test, sym, not, not-true, not-false}
 use Rattle.rules.specs.declared.Vehicle.{Vehicle}
 use Rattle.rules.specs.declared.Refusal.TheVariants.{VehicleField}

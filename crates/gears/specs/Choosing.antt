@@ -1,5 +1,6 @@
 -- The rules of a choice over the parts that the functions are lent, and what those functions ask of them.
-use Rattle.rules.specs.Words.{ℕ, suc, ◌+◌, ◌-◌, ◌*◌, ◌≤◌, ◌<◌, max, ◌≡◌, refl, Bool, List, option_get_or, leb, ltb, eqb, ℤ, pos, nat_abs, ◌*ℤ◌, le_z, if◌then◌else◌}
+use Rattle.std.specs.Prelude.{ℕ, suc, ◌+◌, ◌-◌, ◌*◌, ◌≤◌, ◌<◌, max, ◌≡◌, refl, Bool, List, leb, ltb, eqb, ℤ, pos, nat_abs, ◌*ℤ◌, if◌then◌else◌}
+use Rattle.rules.specs.Words.{option_get_or, le_z}
 use Rattle.rules.specs.Words.{◌and◌, at, first, pass}
 use Rattle.rules.specs.declared.Vehicle.{Vehicle}
 use Rattle.rules.specs.declared.Role.{Role}

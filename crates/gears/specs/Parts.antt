@@ -1,6 +1,7 @@
 -- A vehicle in parts: what its numbers and its lent arrays say of it. A contract that does not look at a part holds for every vehicle that has the
 -- others.
-use Rattle.rules.specs.Words.{ℕ, ◌+◌, ◌<◌, ◌≡◌, List, pos, at}
+use Rattle.std.specs.Prelude.{ℕ, ◌+◌, ◌<◌, ◌≡◌, List, pos}
+use Rattle.rules.specs.Words.{at}
 use Rattle.rules.specs.declared.Vehicle.{Vehicle}
 use Rattle.rules.specs.Gears.{derated}
 use Rattle.rules.specs.Inside.{InBounds}

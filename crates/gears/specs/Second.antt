@@ -1,5 +1,6 @@
 -- What the functions of one second ask of their arguments.
-use Rattle.rules.specs.Words.{ℕ, ◌+◌, ◌≤◌, ◌<◌, ◌≡◌, List, ℤ, nat_abs, at}
+use Rattle.std.specs.Prelude.{ℕ, ◌+◌, ◌≤◌, ◌<◌, ◌≡◌, List, ℤ, nat_abs}
+use Rattle.rules.specs.Words.{at}
 use Rattle.rules.specs.declared.Vehicle.{Vehicle}
 use Rattle.rules.specs.Units.{fastest, steepest}
 use Rattle.gears.specs.declared.Numbers.{Numbers}

@@ -1,5 +1,6 @@
 // The vehicle's bounds in a version of the job: the first field out of bounds is refused.
-ghost use Rattle.rules.specs.Words.{◌≡◌, ◌+◌, ◌-◌, ◌≤◌, ◌<◌, pos, neg_ℤ, le_z, leb, ltb, eqb, ◌and◌, ◌or◌, within, at, every};
+ghost use Rattle.std.specs.Prelude.{◌≡◌, ◌+◌, ◌-◌, ◌≤◌, ◌<◌, pos, neg_ℤ, leb, ltb, eqb};
+ghost use Rattle.rules.specs.Words.{le_z, ◌and◌, ◌or◌, within, at, every};
 ghost use Rattle.rules.specs.Units.{ratio_good, point_good, bounds, first_failed};
 ghost use Rattle.rules.specs.Refusals.{said, refuse_at};
 ghost use Rattle.rules.specs.declared.Vehicle.{Vehicle};

@@ -1,5 +1,5 @@
 // The first choice of one second.
-ghost use Rattle.rules.specs.Words.{◌≡◌, false, ◌+◌, ◌*◌, ◌≤◌, ◌<◌, pos, ◌-ℤ◌};
+ghost use Rattle.std.specs.Prelude.{◌≡◌, false, ◌+◌, ◌*◌, ◌≤◌, ◌<◌, pos, ◌-ℤ◌};
 ghost use Rattle.rules.specs.declared.Role.TheVariants.{Inner};
 ghost use Rattle.rules.specs.declared.Vehicle.{Vehicle};
 ghost use Rattle.rules.specs.Gears.{fits, more, choose};

@@ -1,5 +1,6 @@
 // The power curve: the available power of its points, the segment of an engine speed, and the power there.
-ghost use Rattle.rules.specs.Words.{◌≡◌, suc, ◌+◌, ◌-◌, ◌*◌, ◌≤◌, ◌<◌, max, at, pos};
+ghost use Rattle.std.specs.Prelude.{◌≡◌, suc, ◌+◌, ◌-◌, ◌*◌, ◌≤◌, ◌<◌, max, pos};
+ghost use Rattle.rules.specs.Words.{at};
 ghost use Rattle.rules.specs.Gears.{between, power};
 ghost use Rattle.gears.specs.Parts.{Parts, OfLent};
 ghost use Rattle.gears.specs.Second.{Gear, Derates};

@@ -1,5 +1,7 @@
 // One second of document 01's rules, as code. The vehicle's arrays are lent and its numbers passed in a small struct, so that nothing
 // hot copies the record.
+#![tactic(auto)]
+
 ghost use Rattle.std.specs.Prelude.{◌≡◌};
 ghost use Rattle.gears.specs.Parts.{numbers_of};
 
@@ -18,7 +20,7 @@ pub use second::{engine, floor, lowest, minimum, not_driven, required, step_of, 
 pub const NEWEST: u16 = 3;
 
 // The vehicle's numbers, without its arrays.
-#[derive(Drop)]
+#[derive(Clone, Copy)]
 pub struct Numbers {
     pub ng: u16,
     pub idle: u16,
@@ -33,21 +35,21 @@ pub struct Numbers {
 }
 
 // The available power at a gear: Q/(100,000 w) tenths of kW.
-#[derive(Drop)]
+#[derive(Clone, Copy)]
 pub struct Power {
     pub q: i64,
     pub w: i64,
 }
 
 // A gear and its power; gear 0 where none has been met.
-#[derive(Drop)]
+#[derive(Clone, Copy)]
 pub struct Best {
     pub gear: usize,
     pub power: Power,
 }
 
 // The first choice of a second, and the segment of the curve from which the search for the next one's starts.
-#[derive(Drop)]
+#[derive(Clone, Copy)]
 pub struct Chosen {
     pub gear: u8,
     pub segment: usize,

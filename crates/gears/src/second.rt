@@ -1,5 +1,6 @@
 // One second of a trip: engine speed, minimum speed, the floor, the step D and the required power E.
-ghost use Rattle.rules.specs.Words.{◌≡◌, false, ◌+◌, ◌-◌, ◌*◌, ◌≤◌, pos, ◌-ℤ◌, at};
+ghost use Rattle.std.specs.Prelude.{◌≡◌, false, ◌+◌, ◌-◌, ◌*◌, ◌≤◌, pos, ◌-ℤ◌};
+ghost use Rattle.rules.specs.Words.{at};
 ghost use Rattle.rules.specs.Gears.{next_minimum, minimum, required};
 ghost use Rattle.rules.specs.Corrections.{floor};
 ghost use Rattle.rules.specs.Refusals.{not_driven};

@@ -1,5 +1,5 @@
 -- The contracts of the reader's public functions as the check reads them: they ask nothing, and what `read` says of the rooms past what it fills.
-use Rattle.rules.proofs.Offered.{ℕ, ◌≤◌, ◌≡◌, ap, ◌∙◌, List, arith, length, now, at, job_of, job_even}
+use Rattle.rules.proofs.Offered.{ℕ, ◌≤◌, ◌≡◌, ap, ◌∙◌, List, arith, length, at, job_of, job_even}
 use Rattle.rules.proofs.Offered.{filled_beyond}
 use Rattle.rules.specs.Determined.{AsksNothing, Promises}
 use Rattle.reading.specs.declared.Reading.{Reading}
@@ -18,7 +18,7 @@ group_asks_nothing κs a = tt
 
 -- what the contract of `read` says
 pub read-says : Promises read-kinds.ps read-kinds.r read-reads.Asked read-reads.Learnt
-    (λ κs a z ws. ReadAs (now a.0) (now a.1.0) (now a.1.1.0) z ws.1.0 ws.1.1.0)
+    (λ κs a z ws. ReadAs (a.0.now) (a.1.0.now) (a.1.1.0.now) z ws.1.0 ws.1.1.0)
 read-says κs a asked z ws p = p
 
 -- document 01: "room beyond is untouched": past as many places as the sample count, which is 0 in a refusal

@@ -1,6 +1,6 @@
 -- What the stages of the vehicle answer, one law for each way through them.
 use Rattle.rules.proofs.Offered.{ℕ, zero, suc, ◌+◌, ◌-◌, ◌≤◌, zero-add, arith, ◌≡◌, ◌∙◌, List, map, append-nil, length, drop, replicate, length-map}
-use Rattle.rules.proofs.Offered.{length-replicate, sets, sets-eq, drop-length, leb, at, Fault, Read, got, refused, hand_on, give, Form, value, known, only_if}
+use Rattle.rules.proofs.Offered.{length-replicate, sets, sets-eq, drop-length, leb, Fault, Read, got, refused, hand_on, give, Form, value, known, only_if}
 use Rattle.rules.proofs.Offered.{bounded, ◌then◌, seen, many, counted, version, profile, gearbox, numbers, point, curve, padded, vehicle_of, vehicle, by_test}
 use Rattle.rules.proofs.Offered.{Sound, value_sound, point_sound}
 use Rattle.rules.specs.declared.Vehicle.{Vehicle}

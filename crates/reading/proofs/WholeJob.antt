@@ -1,5 +1,5 @@
 -- What is left to read of the job after each stage is what was asked, and what it answers there: one law for each way on.
-use Rattle.rules.proofs.Offered.{ℕ, ◌≤◌, ◌≡◌, sym, ◌∙◌, true, false, List, length, replicate, leb, eqb, le-leb, leb-true, eq-eqb, ne_eqb, ◌and◌, longest, fault}
+use Rattle.rules.proofs.Offered.{ℕ, ◌≤◌, ◌≡◌, sym, true, false, List, length, replicate, leb, eqb, le-leb, leb-true, eq-eqb, ne_eqb, ◌and◌, longest, fault}
 use Rattle.rules.proofs.Offered.{Read, got, refused, Reader, hand_on, ◌>>=◌, ◌>>◌, give, cursor, demand, group, value, checked, bounded, ◌then◌, seen, many}
 use Rattle.rules.proofs.Offered.{counted, to_the_end, seconds, trace, put, holds, Job, packed, stages, job, job_read, and_left, and_right, both, value_sound}
 use Rattle.rules.specs.declared.Vehicle.{Vehicle}

@@ -1,5 +1,5 @@
 -- Lent memory: bytes put into it. The card program prints and the writer writes with these words, so they stand below both.
-use Rattle.rules.specs.Words.{ℕ, ◌+◌, ◌≤◌, ◌≡◌, List, length}
+use Rattle.std.specs.Prelude.{ℕ, ◌+◌, ◌≤◌, ◌≡◌, List, length}
 use Rattle.std.proofs.lemmas.List.Edits.{sets}
 
 -- bytes are put at a place: r is the place after them, and no other byte has changed

@@ -1,5 +1,6 @@
 -- What the reader's own functions answer: how far reading came, and what is made of what was read.
-use Rattle.rules.specs.Words.{ℕ, suc, ◌<◌, ◌≡◌, List, map, length, pos, ◌-ℤ◌, at}
+use Rattle.std.specs.Prelude.{ℕ, suc, ◌<◌, ◌≡◌, List, map, length, pos, ◌-ℤ◌}
+use Rattle.rules.specs.Words.{at}
 use Rattle.std.proofs.lemmas.List.Edits.{sets}
 use Rattle.rules.specs.declared.Vehicle.{Vehicle}
 use Rattle.rules.specs.declared.Answer.{Answer}

@@ -1,5 +1,5 @@
 -- What the reader's public functions answer, as document 01 has it.
-use Rattle.rules.specs.Words.{ℕ, ◌≡◌, List, length}
+use Rattle.std.specs.Prelude.{ℕ, ◌≡◌, List, length}
 use Rattle.rules.specs.Refusals.{fault, said}
 use Rattle.rules.specs.Groups.{Read, got, refused}
 use Rattle.rules.specs.Job.{Job, job_read, read_fault, job_of, filled}

@@ -1,5 +1,5 @@
 // Groups: read with every test while the job is judged, and with none where they were judged before.
-ghost use Rattle.rules.specs.Words.{◌≡◌, true, ◌≤◌, ◌<◌, length};
+ghost use Rattle.std.specs.Prelude.{◌≡◌, true, ◌≤◌, ◌<◌, length};
 ghost use Rattle.rules.specs.Refusals.{fault};
 ghost use Rattle.rules.specs.Groups.{got, group};
 ghost use Rattle.rules.specs.Forms.{value, bounded, many};

@@ -1,5 +1,5 @@
 // Holds: judged first, put into the lent room after that.
-ghost use Rattle.rules.specs.Words.{◌≡◌, true, ◌≤◌, length, replicate};
+ghost use Rattle.std.specs.Prelude.{◌≡◌, true, ◌≤◌, length, replicate};
 ghost use Rattle.rules.specs.Groups.{got};
 ghost use Rattle.rules.specs.Job.{put};
 ghost use Rattle.reading.specs.Progress.{hold_row, reached, Comes, used};

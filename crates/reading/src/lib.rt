@@ -1,4 +1,6 @@
 // The job reader of document 01: the first fault from left to right, and nothing written where there is one.
+#![tactic(auto)]
+
 ghost use Rattle.std.specs.Prelude.{◌≡◌};
 ghost use Rattle.reading.specs.Reader.{ReadAs};
 ghost use Rattle.reading.specs.Progress.{group_came, came_answer, no_reading};
@@ -14,42 +16,42 @@ use rules::{Answer, LONGEST, Refusal, Vehicle};
 use vehicle::{blank, car_at};
 
 // What reading a group answers: its value and the place after it, or why not.
-#[derive(Drop)]
+#[derive(Clone, Copy)]
 pub enum Group {
     Value(u16, usize),
     Fault(Refusal),
 }
 
 // How far reading came: the place after what was read, or why not.
-#[derive(Drop)]
+#[derive(Clone, Copy)]
 enum Came {
     To(usize),
     Fault(Refusal),
 }
 
 // A group that was judged: its value and the place after it.
-#[derive(Drop)]
+#[derive(Clone, Copy)]
 struct GoodGroup {
     value: u16,
     next: usize,
 }
 
 // The same of a group in one or two bytes.
-#[derive(Drop)]
+#[derive(Clone, Copy)]
 struct Brief {
     value: usize,
     next: usize,
 }
 
 // The gears, the curve, and the version with the whole vehicle, each with how far reading came.
-#[derive(Drop)]
+#[derive(Clone, Copy)]
 struct Gearbox {
     at: Came,
     ng: u16,
     ratio: [u16; 10],
 }
 
-#[derive(Drop)]
+#[derive(Clone, Copy)]
 struct CurveRead {
     at: Came,
     points: u16,
@@ -58,7 +60,7 @@ struct CurveRead {
     m: [u16; 64],
 }
 
-#[derive(Drop)]
+#[derive(Clone, Copy)]
 struct Car {
     at: Came,
     version: u16,
@@ -66,7 +68,7 @@ struct Car {
 }
 
 // What the reader answers; where it refuses, the version is 0, the vehicle of zeros and the count 0.
-#[derive(Drop)]
+#[derive(Clone, Copy)]
 pub struct Reading {
     pub answer: Answer,
     pub version: u16,

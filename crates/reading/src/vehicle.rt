@@ -1,5 +1,5 @@
 // The version and the vehicle.
-ghost use Rattle.rules.specs.Words.{◌≡◌, ◌≤◌, length, pos, ◌-ℤ◌, leb};
+ghost use Rattle.std.specs.Prelude.{◌≡◌, ◌≤◌, length, pos, ◌-ℤ◌, leb};
 ghost use Rattle.rules.specs.Forms.{◌then◌, value, only_if, many};
 ghost use Rattle.rules.specs.Job.{version, profile, gearbox, point, curve, vehicle};
 ghost use Rattle.reading.specs.Reader.{group_as};

@@ -1,5 +1,5 @@
 -- The public function's contract allows one outcome. `Reads` is the contract's own reading, which the check makes of the clauses.
-use Rattle.rules.proofs.Offered.{◌≡◌, refl, sym, ◌∙◌}
+use Rattle.rules.proofs.Offered.{refl, sym, ◌∙◌}
 use Rattle.rules.proofs.Theorems.Cards.{said_of-one}
 use Rattle.rules.specs.Determined.{Determined}
 use Rattle.reasons.proofs.whole.why.Kinds as why-kinds

@@ -1,14 +1,14 @@
 -- What is said of a gear, from the parts that the code works it out of.
-use Rattle.rules.proofs.Offered.{ℕ, suc, ◌-◌, ◌*◌, ◌≤◌, ◌<◌, arith, le_trans, mul-le-mul_left, mul-le-mul_right, ◌≡◌, refl, sym, ap, ◌∙◌, Bool, true, false}
-use Rattle.rules.proofs.Offered.{not, List, leb, eqb, ℤ, pos, le-leb, lt-leb, eq-eqb, ne_eqb, if◌then◌else◌, ◌and◌, ◌or◌, within, at, low, ratio_of, Power}
+use Rattle.rules.proofs.Offered.{ℕ, suc, ◌-◌, ◌*◌, ◌≤◌, ◌<◌, arith, mul-le-mul_right, ◌≡◌, refl, Bool, true}
+use Rattle.rules.proofs.Offered.{not, List, leb, eqb, ℤ, pos, le-leb, lt-leb, eq-eqb, ne_eqb, ◌and◌, ◌or◌, within, at, low, ratio_of, Power}
 use Rattle.rules.proofs.Offered.{is_first, engine, minimum, is_under_nmax, is_over_minimum, allowed, fits, required, power, enough, minimum_role, minimum_rule}
-use Rattle.rules.proofs.Offered.{listed_power, driven_facts, no_facts, gear_facts, InBounds, by_test}
+use Rattle.rules.proofs.Offered.{listed_power, driven_facts, no_facts, gear_facts, by_test}
 use Rattle.rules.specs.declared.Vehicle.{Vehicle}
 use Rattle.rules.specs.declared.Role.{Role}
 use Rattle.rules.specs.declared.GearFacts.{GearFacts}
 use Rattle.gears.specs.declared.Numbers.{Numbers}
 use Rattle.gears.specs.Parts.{low_in, Counts, Has, Lent, Parts}
-use Rattle.gears.specs.Choosing.{Turning, enough_for}
+use Rattle.gears.specs.Choosing.{enough_for}
 use Rattle.gears.proofs.Parts.{low_of, ng_of, idle_of, rated_of, nmax_of, engine_of}
 use Rattle.reasons.specs.Asks.{DrivenGear}
 

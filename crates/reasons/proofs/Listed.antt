@@ -1,15 +1,13 @@
 -- What is listed of each gear, held or not: it agrees with itself, and request Two's minimum in the closing run.
-use Rattle.rules.proofs.Offered.{ℕ, suc, ◌+◌, ◌-◌, ◌≤◌, arith, add_comm, ◌≡◌, refl, sym, ap, ◌∙◌, ◌≢◌, Bool, true, false, not, none, List, leb, eqb, ℤ, drop}
-use Rattle.rules.proofs.Offered.{get_or}
-use Rattle.rules.proofs.Offered.{le-leb, eqb-false, ne_eqb, ◌and◌, ◌or◌, within, at, low, rise, is_first, next_minimum, minimum, minimum_of, is_under_nmax}
+use Rattle.rules.proofs.Offered.{ℕ, ◌+◌, ◌-◌, ◌≤◌, arith, ◌≡◌, refl, sym, ◌≢◌, Bool, true, false, not, none, List, leb, eqb, ℤ, drop}
+use Rattle.rules.proofs.Offered.{◌and◌, ◌or◌, at, low, rise, is_first, next_minimum, minimum, minimum_of, is_under_nmax}
 use Rattle.rules.proofs.Offered.{is_over_minimum, allowed, fits}
-use Rattle.rules.proofs.Offered.{closing, role_of, first_at, start, role_at, kind, about, minimum_role, driven_facts, no_facts, gear_facts, gear_list}
-use Rattle.rules.proofs.Offered.{early_fault, why_fault}
-use Rattle.rules.proofs.Offered.{said_of, why, clash, by_test, and_no, low_from, InBounds}
+use Rattle.rules.proofs.Offered.{closing, role_of, start, role_at, kind, about, minimum_role, driven_facts, gear_facts, gear_list}
+use Rattle.rules.proofs.Offered.{early_fault}
+use Rattle.rules.proofs.Offered.{said_of, why, clash, by_test, and_no, low_from}
 use Rattle.rules.specs.declared.Vehicle.{Vehicle}
 use Rattle.rules.specs.declared.Role.{Role}
 use Rattle.rules.specs.declared.Role.TheVariants.{Closing}
-use Rattle.rules.specs.declared.GearFacts.{GearFacts}
 use Rattle.reasons.specs.Says.{fact, Agrees}
 use Rattle.reasons.proofs.Passed.{bounds, said_there}
 use Rattle.reasons.proofs.Chosen.{place, driven_is}

@@ -1,8 +1,8 @@
 -- What is left of the row of checks where it passes, and that an accepted trace passes it at each second.
 use Rattle.rules.proofs.Offered.{ℕ, suc, ◌-◌, ◌≤◌, ◌<◌, arith, ◌≡◌, refl, sym, ◌∙◌, Bool, false, not, Option, none, List, [], ◌∷◌, ltb, eqb, length, ltb-true}
-use Rattle.rules.proofs.Offered.{lt-ltb, le-ltb, eq-eqb, ne_eqb, eqb-true, eqb-false, not-false, ◌and◌, at, first, enough, Fault, refuse_at, when, trace_fault}
-use Rattle.rules.proofs.Offered.{room_fault, vehicle_fault, Check, speed, step, ends, over-ng, at_rest, over-rev, no-gear, check_number, checks, bad, fault_of}
-use Rattle.rules.proofs.Offered.{seconds_fault, span_fault, work_fault, left, all_checks, ◌orelse◌, InBounds, kind, about, why_lo, why_end, row_fault}
+use Rattle.rules.proofs.Offered.{lt-ltb, le-ltb, eq-eqb, ne_eqb, eqb-true, eqb-false, not-false, ◌and◌, first, Fault, refuse_at, when, trace_fault}
+use Rattle.rules.proofs.Offered.{room_fault, vehicle_fault, Check, speed, step, ends, over-ng, at_rest, over-rev, no-gear, check_number, bad, fault_of}
+use Rattle.rules.proofs.Offered.{seconds_fault, span_fault, work_fault, all_checks, ◌orelse◌, InBounds, kind, about, why_lo, why_end, row_fault}
 use Rattle.rules.proofs.Offered.{why_fault, early_fault, nothing, said_of, why, by_test, by_order, orelse_none, none_orelse, refuse_none, when_none, rooms_in}
 use Rattle.rules.proofs.Offered.{vehicle_in, gears_last, left_none, first_none, none_first, moving_in, accepted}
 use Rattle.rules.specs.declared.Vehicle.{Vehicle}

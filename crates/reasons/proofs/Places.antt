@@ -1,10 +1,10 @@
 -- Where the second that is spoken of lies: what is looked at, and its trip.
-use Rattle.rules.proofs.Offered.{ℕ, suc, ◌+◌, ◌-◌, ◌≤◌, ◌<◌, min, add-one, arith, ◌≡◌, refl, sym, ap, ◌∙◌, ◌≢◌, Bool, true, false, Option, none, List, leb, eqb}
-use Rattle.rules.proofs.Offered.{lit<, length, set, length-set, set_out, eq-eqb, ne_eqb, eqb-true, eqb-false, lt-ltb, if◌then◌else◌, at, part, moving, rise}
-use Rattle.rules.proofs.Offered.{start, stop, longest, trip_speeds, trip_holds, Fault, checks, bad, seconds_fault, gear_fault, fastest, Extent, around}
+use Rattle.rules.proofs.Offered.{ℕ, suc, ◌+◌, ◌-◌, ◌≤◌, ◌<◌, min, add-one, arith, ◌≡◌, refl, sym, ap, ◌∙◌, ◌≢◌, true, false, Option, none, List, eqb}
+use Rattle.rules.proofs.Offered.{lit<, length, set, length-set, set_out, eq-eqb, ne_eqb, eqb-true, eqb-false, lt-ltb, at, part, moving, rise}
+use Rattle.rules.proofs.Offered.{start, stop, trip_speeds, trip_holds, Fault, checks, bad, seconds_fault, gear_fault, fastest, Extent, around}
 use Rattle.rules.proofs.Offered.{hold_span}
 use Rattle.rules.proofs.Offered.{IsTrip, kind, about, clash, by_test, by_order, at_part, length_part, trip_of, trip_start, trip_stop, start_le, start-before}
-use Rattle.rules.proofs.Offered.{stop_le, stop-after, stop_to, moving_in, standing_past, listed, driven, trace_in}
+use Rattle.rules.proofs.Offered.{stop_le, stop-after, stop_to, moving_in, listed, driven, trace_in}
 use Rattle.rules.proofs.Theorems.Edits.{span_of-hold}
 use Rattle.rules.specs.declared.Vehicle.{Vehicle}
 use Rattle.gears.specs.declared.Numbers.{Numbers}
@@ -16,7 +16,7 @@ use Rattle.checks.specs.Calm.{AtMost}
 use Rattle.checks.specs.Want.{Resting, Level, Ahead}
 use Rattle.checks.proofs.Through.{unasked}
 use Rattle.checks.proofs.Dry.{level, ahead}
-use Rattle.checks.proofs.Rows.{Opened, spanned, longest_is}
+use Rattle.checks.proofs.Rows.{Opened, spanned}
 use Rattle.trips.proofs.Passes.{gears_to}
 use Rattle.reasons.specs.declared.Chain.{Chain}
 use Rattle.reasons.specs.Asks.{InTrip, chain_of}

@@ -1,20 +1,19 @@
 -- What is said of a second, field by field, and each way out of asking.
-use Rattle.rules.proofs.Offered.{ℕ, suc, ◌+◌, ◌-◌, ◌*◌, ◌≤◌, ◌<◌, arith, add-one, ◌≡◌, refl, sym, ap, ◌∙◌, Bool, true, false, not, Option, none, some, List}
-use Rattle.rules.proofs.Offered.{eqb, ltb, ℤ, pos, ◌-ℤ◌, le_z, length, drop, set, set_out, eq-eqb, ne_eqb, lt-ltb, le-ltb, if◌then◌else◌, ◌and◌, at, part}
+use Rattle.rules.proofs.Offered.{ℕ, ◌+◌, ◌-◌, ◌*◌, ◌≤◌, ◌<◌, arith, ◌≡◌, refl, sym, ap, ◌∙◌, Bool, true, false, not, Option, none, some, List}
+use Rattle.rules.proofs.Offered.{eqb, ltb, ℤ, pos, le_z, length, drop, eq-eqb, ne_eqb, lt-ltb, le-ltb, if◌then◌else◌, at}
 use Rattle.rules.proofs.Offered.{moving, rise, start, stop, engine, required, floor, closing, role_of, here, firsts, trip_speeds, trip_holds, first_at, gear_at}
 use Rattle.rules.proofs.Offered.{Fault, said, fault, refuse_at, ◌orelse◌, when, span_fault, seconds_fault, left, role_at, gear_fault, kind, about, role_code}
 use Rattle.rules.proofs.Offered.{gear_facts, gear_list, sentence, A_at, B_at, ceiling_at, clutch_reason_at, pedal_down, byte_of, why_lo, why_end, row_fault}
 use Rattle.rules.proofs.Offered.{why_fault, early_fault, nothing, said_of, why, by_order, trip_of, trip_start, trip_stop, stop_in, closing-part, none_orelse}
 use Rattle.rules.proofs.Offered.{gears_last}
 use Rattle.rules.specs.declared.Vehicle.{Vehicle}
-use Rattle.rules.specs.declared.Role.{Role}
 use Rattle.rules.specs.declared.GearFacts.{GearFacts}
 use Rattle.rules.specs.declared.Reasons.{Reasons}
 use Rattle.rules.specs.declared.Refusal.{Refusal}
 use Rattle.rules.specs.declared.Refusal.TheVariants.{OutsideTrace}
 use Rattle.rules.specs.declared.Answer.{Answer}
 use Rattle.rules.specs.declared.Answer.TheVariants.{Done, Refused}
-use Rattle.checks.proofs.Rows.{opening, Opened, after_opening, opening_first, said-first, said_none, left_old, left_new}
+use Rattle.checks.proofs.Rows.{opening, Opened, after_opening, opening_first, said-first, left_old, left_new}
 use Rattle.trips.proofs.Clutch.{rise-here, fall_yes, fall_no}
 use Rattle.reasons.specs.declared.Chain.{Chain}
 use Rattle.reasons.specs.Asks.{chain_of, uncorrected}

@@ -1,6 +1,7 @@
 -- The byte that is explained is the card's.
 use Rattle.rules.proofs.Offered.{ℕ, suc, ◌+◌, ◌*◌, ◌<◌, add_comm, zero-add, mod-eq_of_lt, add-mod_right, arith, ◌≡◌, refl, sym, ◌∙◌, true, false, none, List}
-use Rattle.rules.proofs.Offered.{ltb, pos, le_z, length, within, at, ◌and◌, moving, rise, engine, gear_at, clutch, byte, pressed, card_at, card, left, hold_span}
+use Rattle.rules.proofs.Offered.{ltb, pos, le_z, length, within, at, ◌and◌, moving, rise, engine, gear_at, clutch, byte, pressed, card_at, card, left}
+use Rattle.rules.proofs.Offered.{hold_span}
 use Rattle.rules.proofs.Offered.{kind, about, clutch_reason_at, pedal_down, byte_of, why_lo, why_end, why_fault, early_fault, nothing, said_of, why, by_test}
 use Rattle.rules.proofs.Offered.{at_table, fit_of, gear_in_range, card_mod}
 use Rattle.rules.specs.declared.Vehicle.{Vehicle}

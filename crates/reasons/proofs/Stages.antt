@@ -1,7 +1,7 @@
 -- The stages of a trip at one of its seconds: what it is, B's ceiling there, and what each stage left.
-use Rattle.rules.proofs.Offered.{ℕ, suc, ◌+◌, ◌-◌, ◌≤◌, ◌<◌, arith, ◌≡◌, refl, sym, ap, ◌∙◌, Bool, true, false, List, leb, ltb, eqb, length, drop, le-leb}
-use Rattle.rules.proofs.Offered.{lt-leb, lt-ltb, le-ltb, eq-eqb, ne_eqb, if◌then◌else◌, ◌and◌, at, pass, low, closing, role_of, ceiling, here, free, peak}
-use Rattle.rules.proofs.Offered.{rising, slowing, firsts, after_A, after_B, gears, B_looks, ceiling_of, and_no, both, length_B}
+use Rattle.rules.proofs.Offered.{ℕ, suc, ◌-◌, ◌≤◌, ◌<◌, arith, ◌≡◌, ap, ◌∙◌, Bool, List, length, drop, le-leb}
+use Rattle.rules.proofs.Offered.{lt-leb, lt-ltb, le-ltb, eq-eqb, ne_eqb, if◌then◌else◌, ◌and◌, at, pass, closing, role_of, ceiling, here, free, peak}
+use Rattle.rules.proofs.Offered.{rising, slowing, firsts, after_A, after_B, gears, B_looks, ceiling_of, and_no, length_B}
 use Rattle.rules.specs.declared.Vehicle.{Vehicle}
 use Rattle.rules.specs.declared.Role.{Role}
 use Rattle.rules.specs.declared.Role.TheVariants.{First, Closing, AfterLow, Inner}

@@ -1,6 +1,6 @@
 -- Refused for want of a gear.
 use Rattle.rules.proofs.Offered.{ℕ, ◌-◌, ◌≤◌, ◌<◌, arith, ◌≡◌, refl, sym, ap, ◌∙◌, true, false, Option, none, some, List, eqb, length, leb-true, lt-ltb, eq-eqb}
-use Rattle.rules.proofs.Offered.{eqb-true, eqb-false, ◌and◌, within, at, first, drop, low, moving, rise, closing, fits, choose, first_at, Fault, numbered}
+use Rattle.rules.proofs.Offered.{eqb-true, eqb-false, within, at, first, drop, low, moving, rise, closing, fits, first_at, Fault, numbered}
 use Rattle.rules.proofs.Offered.{refuse_at, when, no-gear, checks, bad, seconds_fault, work_fault, ◌orelse◌, gear_fault, PassesOthers, role_at, kind, about}
 use Rattle.rules.proofs.Offered.{driven_facts, no_facts, gear_facts, gear_list, sentence, why_lo, why_end, row_fault, why_fault, early_fault, said_of, why}
 use Rattle.rules.proofs.Offered.{by_test, if_ind, and_left, and_right, none_orelse, gears_last, first_found, moving_in, first_choice_plainly, first_at_is}

@@ -1,5 +1,6 @@
 -- What the functions that explain a second ask of their arguments.
-use Rattle.rules.specs.Words.{ℕ, suc, ◌≤◌, ◌<◌, ◌≡◌, false, List, length, drop, at}
+use Rattle.std.specs.Prelude.{ℕ, suc, ◌≤◌, ◌<◌, ◌≡◌, false, List, length, drop}
+use Rattle.rules.specs.Words.{at}
 use Rattle.rules.specs.declared.Vehicle.{Vehicle}
 use Rattle.rules.specs.declared.Reasons.{Reasons}
 use Rattle.rules.specs.Inside.{InBounds}

@@ -1,5 +1,6 @@
 -- The words of the theorems on what is said of a second.
-use Rattle.rules.specs.Words.{ℕ, ◌+◌, ◌-◌, ◌*◌, ◌≤◌, ◌≡◌, true, false, List, leb, eqb, ℤ, get_or, if◌then◌else◌, ◌and◌, ◌or◌}
+use Rattle.std.specs.Prelude.{ℕ, ◌+◌, ◌-◌, ◌*◌, ◌≤◌, ◌≡◌, true, false, leb, eqb, ℤ, get_or, if◌then◌else◌}
+use Rattle.rules.specs.Words.{◌and◌, ◌or◌}
 use Rattle.rules.specs.declared.Vehicle.{Vehicle}
 use Rattle.rules.specs.declared.Role.{Role}
 use Rattle.rules.specs.declared.GearFacts.{GearFacts}

@@ -1,5 +1,6 @@
 // One moving second of a trip, explained.
-ghost use Rattle.rules.specs.Words.{◌≡◌, none, ℕ, ◌+◌, ◌-◌, ◌*◌, ◌≤◌, ◌<◌, pos, nat_abs, ◌-ℤ◌, length};
+ghost use Rattle.std.specs.Prelude.{◌≡◌, ℕ, ◌+◌, ◌-◌, ◌*◌, ◌≤◌, ◌<◌, pos, nat_abs, ◌-ℤ◌, length};
+ghost use Rattle.rules.specs.Words.{none};
 ghost use Rattle.rules.specs.declared.Vehicle.{Vehicle};
 ghost use Rattle.rules.specs.Units.{start};
 ghost use Rattle.rules.specs.Gears.{required};

@@ -1,5 +1,6 @@
 // What is said of each gear at a second.
-ghost use Rattle.rules.specs.Words.{◌≡◌, ℕ, ◌-◌, ◌*◌, ◌≤◌, ◌<◌, ℤ, nat_abs, eqb, ◌and◌, ◌or◌, at};
+ghost use Rattle.std.specs.Prelude.{◌≡◌, ℕ, ◌-◌, ◌*◌, ◌≤◌, ◌<◌, ℤ, nat_abs, eqb};
+ghost use Rattle.rules.specs.Words.{◌and◌, ◌or◌, at};
 ghost use Rattle.rules.specs.declared.Vehicle.{Vehicle};
 ghost use Rattle.rules.specs.Units.{low};
 ghost use Rattle.rules.specs.Gears.{is_first, engine, minimum, allowed, is_over_minimum, required};

@@ -1,5 +1,6 @@
 // A second's trip gone through as the working goes through it, and what each stage left at the second.
-ghost use Rattle.rules.specs.Words.{◌≡◌, List, ℕ, suc, ◌≤◌, ◌<◌, length, if◌then◌else◌, at, pass};
+ghost use Rattle.std.specs.Prelude.{◌≡◌, List, ℕ, suc, ◌≤◌, ◌<◌, length, if◌then◌else◌};
+ghost use Rattle.rules.specs.Words.{at, pass};
 ghost use Rattle.rules.specs.declared.Vehicle.{Vehicle};
 ghost use Rattle.rules.specs.Corrections.{ceiling, here, peak, rising, slowing, firsts};
 ghost use Rattle.rules.specs.Why.{B_looks};

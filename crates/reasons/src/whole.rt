@@ -1,5 +1,5 @@
 // A second of a trace explained, or the refusal that leaves nothing to be said.
-ghost use Rattle.rules.specs.Words.{◌≡◌, ◌-◌, ◌<◌, length};
+ghost use Rattle.std.specs.Prelude.{◌≡◌, ◌-◌, ◌<◌, length};
 ghost use Rattle.rules.specs.Units.{start, stop};
 ghost use Rattle.rules.specs.Refusals.{said};
 ghost use Rattle.rules.specs.Edit.{hold_span};

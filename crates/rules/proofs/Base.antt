@@ -14,12 +14,16 @@ unfoldable pub use lib.Ieee.{fits, is_nan, odd, of_bits, of_fields, up}
 pub use lib.Ieee.Bits.{nan_bits_above, of_bits-fits, of_bits-to_bits}
 pub use lib.Ieee.Exact.{HasValue, odd_sign}
 pub use lib.Ieee.Nearest.{div_same}
-pub use lib.IntN.{*ℤ_comm, *ℤ-zero, +ℤ_assoc, +ℤ_comm, +ℤ_idl, +ℤ_idr, +ℤ_invr, +ℤ-neg_ℤ_cancel, +ℤ_one, -ℤ-+ℤ_cancel, -ℤ_one, ◌*ℤ◌, ◌+ℤ◌, ◌-ℤ◌, nat_abs, negsuc}
-pub use lib.IntN.{neg_ℤ, neg_ℤ-+ℤ, neg_ℤ-neg_ℤ, neg_ℤ-pred_ℤ, neg_ℤ-suc_ℤ, pos, pred_ℤ, pred_ℤ-*ℤ, pred_ℤ-+ℤ, sub_ℕ, suc_ℤ, suc_ℤ-*ℤ, suc_ℤ-+ℤ, zero-*ℤ, ℤ, ℤ_ind}
-pub use lib.ListN.{get_or-append as list_get_or-append, get_or-eq_default as list_get_or-eq_default, drop, drop_of_length-le, get_or, get_or-replicate, length, length-append, length-drop, length-map}
+pub use lib.IntN.{*ℤ_comm, *ℤ-zero, +ℤ_assoc, +ℤ_comm, +ℤ_idl, +ℤ_idr, +ℤ_invr, +ℤ-neg_ℤ_cancel, +ℤ_one, -ℤ-+ℤ_cancel, -ℤ_one, ◌*ℤ◌, ◌+ℤ◌, ◌-ℤ◌}
+pub use lib.IntN.{nat_abs, negsuc}
+pub use lib.IntN.{neg_ℤ, neg_ℤ-+ℤ, neg_ℤ-neg_ℤ, neg_ℤ-pred_ℤ, neg_ℤ-suc_ℤ, pos, pred_ℤ, pred_ℤ-*ℤ, pred_ℤ-+ℤ, sub_ℕ, suc_ℤ, suc_ℤ-*ℤ, suc_ℤ-+ℤ}
+pub use lib.IntN.{zero-*ℤ, ℤ, ℤ_ind}
+pub use lib.ListN.{get_or-append as list_get_or-append, get_or-eq_default as list_get_or-eq_default, drop, drop_of_length-le, get_or}
+pub use lib.ListN.{get_or-replicate, length, length-append, length-drop, length-map}
 pub use lib.ListN.{length-replicate, length-set, length-take, replicate, set, take, take-append-drop}
 pub use lib.Pow.{pow-add, pow_mono, pow_pos, shr_le}
-pub use lib.Seq.{append_snoc, drop-append-le, drop-append_seam, drop-cons, drop-drop, drop-length, drop-set-lt, ext_get_or, get_or-append-add, get_or-append_seam}
+pub use lib.Seq.{append_snoc, drop-append-le, drop-append_seam, drop-cons, drop-drop, drop-length, drop-set-lt, ext_get_or, get_or-append-add}
+pub use lib.Seq.{get_or-append_seam}
 pub use lib.Seq.{get_or-drop, get_or-set_other, get_or-set_same, get_or-take, length-sets, length-take-le, set_at, set-get_or, set_out, sets, sets-eq, take_all}
 pub use lib.Seq.{take-append-le, take-append_seam, take-length, take-suc}
 pub use lib.Signed.{le_z, lt_z, mag, non_neg}

@@ -306,7 +306,8 @@ rows =
 sums_done_on_paper : sums rows ≡ papers rows
 unfolding sums papers rows row choice vehicle_with five_gears van_with van gap_van refused_by car_of car_Z Z halves inside free_trip steady up trace two_trips
     job_Z ◌and◌ ◌or◌ within every first highest pass table patch ratio_of ratio_good point_good bounds first_failed bad_field low longest moving rise start
-    run stop engine minimum_of minimum is_under_nmax is_over_minimum allowed fits required between on_segment reaches segment power_speed power enough more suits
+    run stop engine minimum_of minimum is_under_nmax is_over_minimum allowed fits required between on_segment reaches segment power_speed power enough more
+    suits
     beats strongest choose floor closing ceiling here first_choice free is_peak peak too_high rising too_low slowing firsts after_A after_B gears trip_speeds
     trip_holds first_at gear_at clutch byte card_at card refuse_at ◌orelse◌ when trace_fault room_fault vehicle_fault not_driven check_number checks bad
     fault_of seconds_fault span_fault work_fault left edit_fault hand_on demand early group_if group value checked bounded ◌then◌ seen row_read in_a_row many

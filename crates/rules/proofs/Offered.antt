@@ -10,9 +10,9 @@ pub use Rattle.rules.proofs.Base.{le_of_mul-le-mul_right, le_of_suc-le-suc, le_r
 pub use Rattle.rules.proofs.Base.{length-drop, length-map, length-replicate, length-set, length-sets, length-take-le, lit<, lit≤, lt-leb, lt-ltb}
 pub use Rattle.rules.proofs.Base.{lt_of_lt_of_le, lt_z, ltb, ltb-false, ltb-true, map, max, max-le, min, mod-eq_of_lt, mod-lt, mul-add}
 pub use Rattle.rules.proofs.Base.{mul_assoc, mul_comm, mul-div-mul_left, mul-le-mul, mul-le-mul_left, mul-le-mul_right, mul_left_comm, mul-one, nan}
-pub use Rattle.rules.proofs.Base.{nan_bits_above, nat_abs, ne_eqb, needs, negsuc, neg_ℤ, non_neg, none, not, not-false, not-suc-le-zero, not-true, now}
+pub use Rattle.rules.proofs.Base.{nan_bits_above, nat_abs, ne_eqb, negsuc, neg_ℤ, non_neg, none, not, not-false, not-suc-le-zero, not-true}
 pub use Rattle.rules.proofs.Base.{odd_sign, of_bits-fits, of_bits-to_bits, of_z, one-add, one-mul, pos, Post-is, post_of, pow-add, pow_mono, pow_pos, refl}
-pub use Rattle.rules.proofs.Base.{replicate, res_t, set, set_at, set-get_or, set_out, sets, sets-eq, sfits_lit, shr_le, some, sub_self, sub-zero, subst}
+pub use Rattle.rules.proofs.Base.{replicate, res_t, rules, set, set_at, set-get_or, set_out, sets, sets-eq, sfits_lit, shr_le, some, sub_self, sub-zero, subst}
 pub use Rattle.rules.proofs.Base.{sub_ℕ, suc, suc-add, sym, take, take_all, take-append-drop, take-append-le, take-append_seam, take-length, take-suc}
 pub use Rattle.rules.proofs.Base.{to_bits, to_z, to_z-of_z, to_z_pos, true, w32, w64, zero, zero-add, zero-mul, ℕ, ℤ, ⊎_elim}
 unfoldable pub use Rattle.rules.proofs.Base.{is_nan, odd, of_bits, of_fields, count_trailing_zeros, up}

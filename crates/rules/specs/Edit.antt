@@ -1,5 +1,6 @@
 -- One edit of the screen: document 01, "One hold, the quick way", and document 02, requests Seven, Eight and Nine.
-use Rattle.rules.specs.Words.{ℕ, suc, ◌-◌, min, Bool, not, Option, List, [], ◌∷◌, length, set, ltb, eqb, if◌then◌else◌, ◌and◌, ◌or◌, at, patch}
+use Rattle.std.specs.Prelude.{ℕ, suc, ◌-◌, min, Bool, not, List, [], ◌∷◌, length, set, ltb, eqb, if◌then◌else◌}
+use Rattle.rules.specs.Words.{Option, ◌and◌, ◌or◌, at, patch}
 use Rattle.rules.specs.declared.Vehicle.{Vehicle}
 use Rattle.rules.specs.declared.Summary.{Summary}
 use Rattle.rules.specs.declared.Edit.{Edit}

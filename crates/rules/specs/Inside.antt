@@ -1,5 +1,6 @@
 -- Words of contracts and laws inside: no sentence of the papers and no theorem on one needs them.
-use Rattle.rules.specs.Words.{ℕ, suc, ◌+◌, ◌-◌, ◌≤◌, ◌<◌, ◌≡◌, false, Option, List, nat_abs, at, first}
+use Rattle.std.specs.Prelude.{ℕ, suc, ◌+◌, ◌-◌, ◌≤◌, ◌<◌, ◌≡◌, false, List, nat_abs}
+use Rattle.rules.specs.Words.{Option, at, first}
 use Rattle.rules.specs.declared.Vehicle.{Vehicle}
 use Rattle.rules.specs.Units.{ratio_of, low}
 use Rattle.rules.specs.Refusals.{Fault, refuse_at, over-ng, over-rev, no-gear, bad}

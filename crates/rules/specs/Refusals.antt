@@ -1,5 +1,6 @@
 -- Document 01, "Numbers of refusal": number and place of each, and those of the whole working.
-use Rattle.rules.specs.Words.{ℕ, suc, ◌+◌, ◌-◌, Bool, not, Option, none, some, List, [], ◌∷◌, ◌++◌, length, ltb, eqb, if◌then◌else◌, ◌and◌, ◌or◌, within}
+use Rattle.std.specs.Prelude.{ℕ, suc, ◌+◌, ◌-◌, Bool, not, List, [], ◌∷◌, ◌++◌, length, ltb, eqb, if◌then◌else◌}
+use Rattle.rules.specs.Words.{Option, none, some, ◌and◌, ◌or◌, within}
 use Rattle.rules.specs.Words.{at, first}
 use Rattle.rules.specs.declared.Vehicle.{Vehicle}
 use Rattle.rules.specs.declared.Refusal.{Refusal}

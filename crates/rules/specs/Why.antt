@@ -1,6 +1,8 @@
 -- Why this gear: what is said of one second of a trace, over the definitions that the card itself is made of.
-use Rattle.rules.specs.Words.{ℕ, zero, suc, ◌+◌, ◌-◌, ◌*◌, Bool, true, false, not, Option, List, [], ◌∷◌, length, drop, ltb, eqb, ℤ, pos, le_z}
-use Rattle.rules.specs.Words.{if◌then◌else◌, ◌and◌, within, at}
+use Rattle.std.specs.Prelude.{ℕ, zero, suc, ◌+◌, ◌-◌, ◌*◌, Bool, false, not, List, [], ◌∷◌, length, drop, ltb, eqb, ℤ, pos}
+use Rattle.rules.specs.Words.{Option, le_z}
+use Rattle.std.specs.Prelude.{if◌then◌else◌}
+use Rattle.rules.specs.Words.{◌and◌, within, at}
 use Rattle.rules.specs.declared.Vehicle.{Vehicle}
 use Rattle.rules.specs.declared.Role.{Role}
 use Rattle.rules.specs.declared.Role.TheVariants.{First, Closing, AfterLow, Inner}

@@ -2,10 +2,11 @@
 use crate::lines::{Draft, Line, at_most, begun, wide};
 use crate::says::{say, say_answer, say_bytes, say_number, say_summary, say_value, say_values};
 use rules::Vehicle;
+use std::io::Result;
 use summaries::Summarized;
 
 // What a line asks for: its first letter and its first two numbers.
-#[derive(Drop)]
+#[derive(Clone, Copy)]
 struct Asked {
     verb: u8,
     one: u16,
@@ -34,7 +35,14 @@ fn edited(
 }
 
 // The trace worked, then edited, and all that is left of it.
-fn screen(asked: Asked, car: Vehicle, speeds: &mut [u16], holds: &mut [u8], card: &mut [u8]) {
+fn screen(
+    to: &impl Print,
+    asked: Asked,
+    car: Vehicle,
+    speeds: &mut [u16],
+    holds: &mut [u8],
+    card: &mut [u8],
+) -> Result<()> {
     let answer = cards::work(car, speeds, holds, card);
     let counted = summaries::summary_of(speeds, card);
     let summary = counted.summary;
@@ -48,30 +56,43 @@ fn screen(asked: Asked, car: Vehicle, speeds: &mut [u16], holds: &mut [u8], card
     );
     let told = now.answer;
     let counts = now.summary;
-    say_answer(told);
-    say_values(speeds);
-    say_bytes(holds);
-    say_bytes(card);
-    say_summary(counts);
+    say_answer(to, told)?;
+    say_values(to, speeds)?;
+    say_bytes(to, holds)?;
+    say_bytes(to, card)?;
+    say_summary(to, counts)
 }
 
 // The job written into a room, and that room.
-fn save<'a>(version: u16, car: Vehicle, speeds: &'a [u16], holds: &'a [u8], room: &mut [u8]) {
+fn save<'a>(
+    to: &impl Print,
+    version: u16,
+    car: Vehicle,
+    speeds: &'a [u16],
+    holds: &'a [u8],
+    room: &mut [u8],
+) -> Result<()> {
     let written = writing::write(version, car, speeds, holds, room);
     let told = written.answer;
-    say_answer(told);
-    say_bytes(room);
+    say_answer(to, told)?;
+    say_bytes(to, room)
 }
 
 // In a room of so many bytes.
-fn save_in<'a>(asked: Asked, car: Vehicle, speeds: &'a [u16], holds: &'a [u8]) {
+fn save_in<'a>(
+    to: &impl Print,
+    asked: Asked,
+    car: Vehicle,
+    speeds: &'a [u16],
+    holds: &'a [u8],
+) -> Result<()> {
     let mut room = [7u8; 256];
     let m = at_most(wide(asked.two), 256);
-    save(asked.one, car, speeds, holds, &mut room[..m]);
+    save(to, asked.one, car, speeds, holds, &mut room[..m])
 }
 
 // The job read, and what is asked of it then.
-fn of_job(asked: Asked, job: &[u8]) {
+fn of_job(to: &impl Print, asked: Asked, job: &[u8]) -> Result<()> {
     let mut speeds = [7u16; 24];
     let mut holds = [7u8; 24];
     let read = reading::read(job, &mut speeds, &mut holds);
@@ -81,81 +102,82 @@ fn of_job(asked: Asked, job: &[u8]) {
     match verb {
         b'j' => {
             let told = read.answer;
-            say_answer(told);
-            say_values(&speeds);
-            say_bytes(&holds);
+            say_answer(to, told)?;
+            say_values(to, &speeds)?;
+            say_bytes(to, &holds)
         }
-        b's' => save_in(asked, car, &speeds[..n], &holds[..n]),
+        b's' => save_in(to, asked, car, &speeds[..n], &holds[..n]),
         _ => {
             let mut card = [99u8; 24];
             screen(
+                to,
                 asked,
                 car,
                 &mut speeds[..n],
                 &mut holds[..n],
                 &mut card[..n],
-            );
+            )
         }
     }
 }
 
 // F1 may be negative: its sign.
-fn say_sign(f1: i32) {
+fn say_sign(to: &impl Print, f1: i32) -> Result<()> {
     if f1 < 0 {
-        say(b" -");
+        say(to, b" -")
     } else if 0 < f1 {
-        say(b" +");
+        say(to, b" +")
     } else {
-        say(b" 0");
+        say(to, b" 0")
     }
 }
 
-fn of_export(bytes: &[u8]) {
+fn of_export(to: &impl Print, bytes: &[u8]) -> Result<()> {
     let read = exports::read_export(bytes);
     let told = read.answer;
-    say_answer(told);
-    say(b",");
-    say_value(read.f0);
-    say_sign(read.f1);
-    say_value(read.f2);
-    say_value(read.tm);
+    say_answer(to, told)?;
+    say(to, b",")?;
+    say_value(to, read.f0)?;
+    say_sign(to, read.f1)?;
+    say_value(to, read.f2)?;
+    say_value(to, read.tm)
 }
 
-fn fill(asked: Asked, room: &mut [u16]) {
+fn fill(to: &impl Print, asked: Asked, room: &mut [u16]) -> Result<()> {
     let number = asked.one as u32;
     if asked.verb == b'f' {
         let told = cycles::fill(number, room);
-        say_answer(told);
-        say_number(cycles::part_of(room, number).len() as u64);
-        return;
+        say_answer(to, told)?;
+        return say_number(to, cycles::part_of(room, number).len() as u64);
     }
     let told = downscale::downscale(number, room);
-    say_answer(told);
+    say_answer(to, told)
 }
 
 // The speeds at the places that the line names.
-fn say_places(line: Line, room: [u16; 2048]) {
-    say(b",");
+fn say_places(to: &impl Print, line: Line, room: [u16; 2048]) -> Result<()> {
+    say(to, b",")?;
     let last = at_most(line.last, 127);
     let mut i = 3;
     while i <= last {
         let at = wide(line.numbers[i]);
         if at < 2048 {
-            say_value(room[at]);
+            say_value(to, room[at])?;
         }
         i += 1;
     }
+    Ok(())
 }
 
 // In a room's first places.
-fn of_cycle(asked: Asked, line: Line) {
+fn of_cycle(to: &impl Print, asked: Asked, line: Line) -> Result<()> {
     let mut room = [9999u16; 2048];
     let n = at_most(wide(asked.two), 2048);
-    fill(asked, &mut room[..n]);
-    say_places(line, room);
+    fill(to, asked, &mut room[..n])?;
+    say_places(to, line, room)
 }
 
-pub fn run_line(line: Line, job: Draft) {
+pub fn run_line(to: &impl Print, line: Line, job: Draft) -> Result<()> {
     let bytes = job.bytes;
     let part = begun(&bytes, job.end);
     let verb = line.verb;
@@ -165,9 +187,9 @@ pub fn run_line(line: Line, job: Draft) {
         two: line.numbers[2],
     };
     match verb {
-        b'j' | b's' | b'w' | b'h' | b'r' | b'm' => of_job(asked, part),
-        b'e' => of_export(part),
-        b'f' | b'd' => of_cycle(asked, line),
-        _ => {}
+        b'j' | b's' | b'w' | b'h' | b'r' | b'm' => of_job(to, asked, part),
+        b'e' => of_export(to, part),
+        b'f' | b'd' => of_cycle(to, asked, line),
+        _ => Ok(()),
     }
 }

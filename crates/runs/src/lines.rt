@@ -2,14 +2,14 @@
 ghost use Rattle.std.specs.Prelude.{◌≤◌};
 
 // The numbers stand from 1 to `last`.
-#[derive(Drop)]
+#[derive(Clone, Copy)]
 pub struct Line {
     pub verb: u8,
     pub numbers: [u16; 128],
     pub last: usize,
 }
 
-#[derive(Drop)]
+#[derive(Clone, Copy)]
 pub struct Draft {
     pub bytes: [u8; 256],
     pub car: usize,

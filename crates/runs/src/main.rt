@@ -9,6 +9,12 @@
 //   export                            the job's bytes read as an export
 //   fill PART N PLACES                the built-in cycle into a room of N 9999s: the part's length, and the speeds at these places
 //   downscale FACTOR N PLACES         the scaled cycle
+#![tactic(auto)]
+
+ghost use Rattle.std.specs.Prelude.{◌≤◌, length, IfOk};
+
+use std::io::{Read, Result};
+
 mod cases;
 mod lines;
 mod says;
@@ -18,8 +24,8 @@ use lines::{Draft, begun, parse};
 use says::say;
 
 // The job after this line, and what was answered.
-fn after(text: &[u8], job: Draft) -> Draft {
-    say(text);
+fn after(to: &impl Print, text: &[u8], job: Draft) -> Result<Draft> {
+    say(to, text)?;
     let line = parse(text);
     let verb = line.verb;
     let next = match verb {
@@ -27,13 +33,13 @@ fn after(text: &[u8], job: Draft) -> Draft {
         b't' | b'b' => job.with_rest(line),
         _ => job,
     };
-    run_line(line, next);
-    say(b"\n");
-    next
+    run_line(to, line, next)?;
+    say(to, b"\n")?;
+    Ok(next)
 }
 
 // Line by line.
-fn run_all(text: &[u8]) {
+fn run_all(to: &impl Print, text: &[u8]) -> Result<()> {
     let mut job = Draft {
         bytes: [0u8; 256],
         car: 0,
@@ -45,14 +51,30 @@ fn run_all(text: &[u8]) {
         let end = i;
         i += 1;
         if text[end] == b'\n' {
-            job = after(&text[start..end], job);
+            job = after(to, &text[start..end], job)?;
             start = i;
         }
     }
+    Ok(())
 }
 
-fn main() {
+// Reads until the memory is full or the input ends, and answers how many bytes came.
+fn read_full(input: &mut impl Read, text: &mut [u8]) -> Result<usize>
+    ensures { IfOk result (λ n. n ≤ length text.new) }
+{
+    let mut done = 0;
+    while done < text.len() {
+        let n = input.read(&mut text[done..])?;
+        if n == 0 {
+            break;
+        }
+        done += n;
+    }
+    Ok(done)
+}
+
+fn main(rt: HostRuntime) -> Result<()> {
     let mut text = [0u8; 8192];
-    let n = io::read_full(0, &mut text);
-    run_all(begun(&text, n));
+    let n = read_full(&mut rt.stdin(), &mut text)?;
+    run_all(&rt, begun(&text, n))
 }

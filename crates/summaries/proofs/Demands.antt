@@ -1,5 +1,5 @@
 -- Request Nine, over the contract of `summary_of` as the check reads it. Of the edits it stands in rules/proofs/Demands.
-use Rattle.rules.proofs.Offered.{ℕ, ◌≡◌, sym, ◌∙◌, none, List, now, Lasts, at_exit, Lfts, Dens, ended_of, res_t, said, summary, summary_fault, counted_summary}
+use Rattle.rules.proofs.Offered.{ℕ, ◌≡◌, sym, ◌∙◌, none, List, Lasts, at_exit, Lfts, Dens, ended_of, res_t, said, summary, summary_fault, counted_summary}
 use Rattle.rules.proofs.Offered.{left_none}
 use Rattle.summaries.specs.declared.Summarized.{Summarized}
 use Rattle.summaries.proofs.whole.summary_of.Kinds as summary-of-kinds
@@ -12,7 +12,7 @@ pub record CountedOf (vs bs : List ℕ) (z : Summarized) : Type 0 where
 
 pub summary-says : (κs : Lfts 1) (a : Dens κs summary-of-kinds.ps) → summary-of-reads.Asked κs a
     → (z : (res_t summary-of-kinds.r κs).Denot) (ws : Lasts (ended_of 1 summary-of-kinds.ps summary-of-kinds.r) κs a)
-    → summary-of-reads.Learnt κs a z (at_exit (ended_of 1 summary-of-kinds.ps summary-of-kinds.r) κs a ws) → CountedOf (now a.0) (now a.1.0) z
+    → summary-of-reads.Learnt κs a z (at_exit (ended_of 1 summary-of-kinds.ps summary-of-kinds.r) κs a ws) → CountedOf (a.0.now) (a.1.0.now) z
 summary-says κs a asked z ws p = record { answer = p.0; summary_told = p.1 }
 
 -- every speeds and card get an answer

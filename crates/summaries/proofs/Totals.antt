@@ -1,5 +1,5 @@
 -- A whole card counted: what counting it asks, and that the counts are its summary.
-use Rattle.rules.proofs.Offered.{ℕ, ◌-◌, ◌≤◌, arith, ◌≡◌, sym, ap, ◌∙◌, Option, none, List, [], length, moving, longest, Fault, said, ◌orelse◌, trace_fault}
+use Rattle.rules.proofs.Offered.{ℕ, ◌-◌, ◌≤◌, arith, ◌≡◌, sym, ap, ◌∙◌, Option, none, List, [], length, moving, longest, Fault, said, trace_fault}
 use Rattle.rules.proofs.Offered.{room_fault, summary, summary_fault, counted_summary, updated, standing_past, trace_in, rooms_in, left_none, orelse_none}
 use Rattle.rules.proofs.Offered.{counts, updated_right}
 use Rattle.rules.specs.declared.Summary.{Summary}

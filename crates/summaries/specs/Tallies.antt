@@ -1,5 +1,6 @@
 -- What the code counts by the way: in each gear that a byte can show, 0 to 15, and at place 16 the standing seconds.
-use Rattle.rules.specs.Words.{ℕ, ◌≤◌, ◌<◌, ◌≡◌, Bool, false, List, eqb, length, if◌then◌else◌, at, table}
+use Rattle.std.specs.Prelude.{ℕ, ◌≤◌, ◌<◌, ◌≡◌, Bool, false, List, eqb, length, if◌then◌else◌}
+use Rattle.rules.specs.Words.{at, table}
 use Rattle.rules.specs.declared.Summary.{Summary}
 use Rattle.rules.specs.Units.{moving}
 use Rattle.rules.specs.Summary.{tally, changes}

@@ -1,4 +1,6 @@
 // The summary of a card, request Nine: its seconds counted, once over the whole card or over a stretch of it, and brought up to date.
+#![tactic(auto)]
+
 mod settle;
 mod stretch;
 mod whole;
@@ -9,14 +11,14 @@ pub use stretch::{count, none_counted};
 pub use whole::summary_of;
 
 // An answer, and the summary that goes with it.
-#[derive(Drop)]
+#[derive(Clone, Copy)]
 pub struct Summarized {
     pub answer: Answer,
     pub summary: Summary,
 }
 
 // What has been counted so far: moving seconds in each gear that a byte can show, 0 to 15, at place 16 standing seconds; and gear changes.
-#[derive(Drop)]
+#[derive(Clone, Copy)]
 pub struct Tally {
     pub counts: [u16; 17],
     pub changes: u16,

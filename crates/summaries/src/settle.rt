@@ -1,5 +1,6 @@
 // A summary brought up to date.
-ghost use Rattle.rules.specs.Words.{◌≡◌, ◌+◌, at, table};
+ghost use Rattle.std.specs.Prelude.{◌≡◌, ◌+◌};
+ghost use Rattle.rules.specs.Words.{at, table};
 ghost use Rattle.rules.specs.Summary.{settled, updated};
 ghost use Rattle.summaries.specs.Tallies.{in_ten};
 

@@ -1,5 +1,6 @@
 // Seconds counted: each at its place, and the gear changes between them. Nothing is searched for, so that a card of many short trips takes no longer.
-ghost use Rattle.rules.specs.Words.{◌≡◌, not, [], ◌-◌, ◌≤◌, eqb, if◌then◌else◌, ◌and◌, table};
+ghost use Rattle.std.specs.Prelude.{◌≡◌, not, [], ◌-◌, ◌≤◌, eqb, if◌then◌else◌};
+ghost use Rattle.rules.specs.Words.{◌and◌, table};
 ghost use Rattle.rules.specs.Units.{moving};
 ghost use Rattle.rules.specs.Summary.{tally, changes};
 ghost use Rattle.rules.specs.Corrections.{shown};

@@ -1,5 +1,5 @@
 // The summary of a whole card.
-ghost use Rattle.rules.specs.Words.{◌≡◌, []};
+ghost use Rattle.std.specs.Prelude.{◌≡◌, []};
 ghost use Rattle.rules.specs.Refusals.{said};
 ghost use Rattle.rules.specs.Summary.{summary, summary_fault, counted_summary};
 

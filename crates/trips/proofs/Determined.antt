@@ -1,5 +1,5 @@
 -- Each public function's contract allows one outcome. `Reads` is the contract's own reading, which the check makes of the clauses.
-use Rattle.rules.proofs.Offered.{ℕ, refl, sym, ap, ◌∙◌, List, [], now}
+use Rattle.rules.proofs.Offered.{ℕ, refl, sym, ap, ◌∙◌, List, []}
 use Rattle.gears.proofs.Parts.{built_has}
 use Rattle.rules.specs.Determined.{Determined}
 use Rattle.trips.proofs.Closing.{run_once}
@@ -26,21 +26,21 @@ turning κs a asked z z' ws ws' p q = (p ∙ sym q, refl)
 
 -- the bytes of a trip's gears
 pub bytes : Determined bytes-kinds.ps bytes-kinds.r bytes-reads.Asked bytes-reads.Learnt
-bytes κs a asked z z' ws ws' p q = let H = built_has a.0 (now a.1.0) in (refl, ap (λ (x : List ℕ). (tt, (tt, (tt, (x, tt))))) (p _ H ∙ sym (q _ H)))
+bytes κs a asked z z' ws ws' p q = let H = built_has a.0 (a.1.0.now) in (refl, ap (λ (x : List ℕ). (tt, (tt, (tt, (x, tt))))) (p _ H ∙ sym (q _ H)))
 
 -- pass A
 pub pass_a : Determined pass-a-kinds.ps pass-a-kinds.r pass-a-reads.Asked pass-a-reads.Learnt
 pass_a κs a asked z z' ws ws' p q =
-    let H = built_has a.0 (now a.1.0) in (refl, ap (λ (x : List ℕ). (tt, (tt, (tt, (tt, (x, tt)))))) (p _ H ∙ sym (q _ H)))
+    let H = built_has a.0 (a.1.0.now) in (refl, ap (λ (x : List ℕ). (tt, (tt, (tt, (tt, (x, tt)))))) (p _ H ∙ sym (q _ H)))
 
 -- pass B
 pub pass_b : Determined pass-b-kinds.ps pass-b-kinds.r pass-b-reads.Asked pass-b-reads.Learnt
 pass_b κs a asked z z' ws ws' p q =
-    let H = built_has a.0 (now a.1.0) in (refl, ap (λ (x : List ℕ). (tt, (tt, (tt, (tt, (x, tt)))))) (p _ H ∙ sym (q _ H)))
+    let H = built_has a.0 (a.1.0.now) in (refl, ap (λ (x : List ℕ). (tt, (tt, (tt, (tt, (x, tt)))))) (p _ H ∙ sym (q _ H)))
 
 -- where the closing run begins
 pub closing_from : Determined closing-from-kinds.ps closing-from-kinds.r closing-from-reads.Asked closing-from-reads.Learnt
-closing_from κs a asked z z' ws ws' p q = (run_once (now a.0) z z' p q, refl)
+closing_from κs a asked z z' ws ws' p q = (run_once (a.0.now) z z' p q, refl)
 
 -- pass C, which does not look at the speeds: those that are asked for will do, and some vehicle of these numbers
 pub pass_c : Determined pass-c-kinds.ps pass-c-kinds.r pass-c-reads.Asked pass-c-reads.Learnt

@@ -1,8 +1,10 @@
 -- A pass as a loop meets it: one turn further, places that it leaves alone, places that it writes without having looked at them.
 -- And no gear of a trip is above ng + 1.
 use Rattle.rules.proofs.Offered.{ℕ, zero, suc, ◌+◌, ◌-◌, ◌≤◌, ◌<◌, zero-add, le_refl, not-suc-le-zero, add-one, arith, ◌≡◌, refl, sym, ap, ◌∙◌, Option, none}
-use Rattle.rules.proofs.Offered.{some, option_get_or, List, eqb, length, set, replicate, length-replicate, get_or-set_same, get_or-set_other, set-get_or, ext_get_or}
-use Rattle.rules.proofs.Offered.{ltb-true, at, first, pass, table, low, rise, is_under_nmax, floor, ceiling, role_of, here, first_choice, is_peak, peak, too_high}
+use Rattle.rules.proofs.Offered.{some, option_get_or, List, eqb, length, set, replicate, length-replicate, get_or-set_same, get_or-set_other}
+use Rattle.rules.proofs.Offered.{set-get_or, ext_get_or}
+use Rattle.rules.proofs.Offered.{ltb-true, at, first, pass, table, low, rise, is_under_nmax, floor, ceiling, role_of, here, first_choice, is_peak}
+use Rattle.rules.proofs.Offered.{peak, too_high}
 use Rattle.rules.proofs.Offered.{rising, too_low, slowing, firsts, after_A, after_B, gears, InBounds, by_eq, by_order, if_ind, and_right, length-pass, pass-at}
 use Rattle.rules.proofs.Offered.{pass_later, pass-holds, length-table, at_table, Found, first_found, length-firsts, length_A, length_B, first_is, choose_to}
 use Rattle.rules.specs.declared.Vehicle.{Vehicle}

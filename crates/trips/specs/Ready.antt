@@ -1,5 +1,6 @@
 -- What the functions of one trip ask of their arguments.
-use Rattle.rules.specs.Words.{ℕ, suc, ◌-◌, ◌≤◌, ◌<◌, ◌≡◌, true, List, nat_abs, length, at}
+use Rattle.std.specs.Prelude.{ℕ, suc, ◌-◌, ◌≤◌, ◌<◌, ◌≡◌, true, List, nat_abs, length}
+use Rattle.rules.specs.Words.{at}
 use Rattle.rules.specs.Units.{fastest, steepest, moving, rise}
 use Rattle.gears.specs.declared.Numbers.{Numbers}
 use Rattle.gears.specs.Second.{Gear}

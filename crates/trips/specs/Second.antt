@@ -1,5 +1,6 @@
 -- What each pass makes of one second, from its own gear and those around it.
-use Rattle.rules.specs.Words.{ℕ, suc, ◌+◌, ◌-◌, max, Bool, List, leb, ltb, eqb, if◌then◌else◌, ◌and◌, at}
+use Rattle.std.specs.Prelude.{ℕ, suc, ◌+◌, ◌-◌, max, Bool, List, leb, ltb, eqb, if◌then◌else◌}
+use Rattle.rules.specs.Words.{◌and◌, at}
 use Rattle.rules.specs.declared.Vehicle.{Vehicle}
 use Rattle.rules.specs.Corrections.{floor, free}
 use Rattle.trips.specs.Trip.{one_above}

@@ -1,5 +1,6 @@
 -- What the functions of one trip promise, in the words of their contracts.
-use Rattle.rules.specs.Words.{ℕ, suc, ◌+◌, ◌-◌, ◌<◌, max, min, ◌≡◌, Bool, true, false, List, leb, eqb, length, drop, if◌then◌else◌, ◌and◌, ◌or◌, at, pass}
+use Rattle.std.specs.Prelude.{ℕ, suc, ◌+◌, ◌-◌, ◌<◌, max, min, ◌≡◌, Bool, true, false, List, leb, eqb, length, drop, if◌then◌else◌}
+use Rattle.rules.specs.Words.{◌and◌, ◌or◌, at, pass}
 use Rattle.rules.specs.Words.{table}
 use Rattle.rules.specs.declared.Vehicle.{Vehicle}
 use Rattle.rules.specs.Units.{moving, rise}

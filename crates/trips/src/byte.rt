@@ -1,5 +1,6 @@
 // The card's bytes of one trip.
-ghost use Rattle.rules.specs.Words.{◌≡◌, ◌+◌, ◌-◌, ◌*◌, ◌<◌, length, at, table};
+ghost use Rattle.std.specs.Prelude.{◌≡◌, ◌+◌, ◌-◌, ◌*◌, ◌<◌, length};
+ghost use Rattle.rules.specs.Words.{at, table};
 ghost use Rattle.rules.specs.Corrections.{byte};
 ghost use Rattle.rules.specs.declared.Vehicle.{Vehicle};
 ghost use Rattle.gears.specs.Parts.{Has};

@@ -1,4 +1,6 @@
 // The work on one trip, from its own speeds with the one that follows, its holds, and its part of the card, in place.
+#![tactic(auto)]
+
 mod byte;
 mod peak;
 mod rising;

@@ -1,5 +1,6 @@
 // Pass A: one-second peaks.
-ghost use Rattle.rules.specs.Words.{◌≡◌, ◌+◌, ◌≤◌, ◌<◌, eqb, length, ◌and◌, ◌or◌, at, pass};
+ghost use Rattle.std.specs.Prelude.{◌≡◌, ◌+◌, ◌≤◌, ◌<◌, eqb, length};
+ghost use Rattle.rules.specs.Words.{◌and◌, ◌or◌, at, pass};
 ghost use Rattle.rules.specs.Corrections.{peak};
 ghost use Rattle.rules.specs.declared.Vehicle.{Vehicle};
 ghost use Rattle.gears.specs.Parts.{Has};

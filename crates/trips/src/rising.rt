@@ -1,5 +1,6 @@
 // Pass B: rising speed.
-ghost use Rattle.rules.specs.Words.{◌≡◌, ◌≤◌, ◌<◌, length, pass};
+ghost use Rattle.std.specs.Prelude.{◌≡◌, ◌≤◌, ◌<◌, length};
+ghost use Rattle.rules.specs.Words.{pass};
 ghost use Rattle.rules.specs.Corrections.{ceiling, rising};
 ghost use Rattle.rules.specs.declared.Vehicle.{Vehicle};
 ghost use Rattle.gears.specs.Parts.{Has};

@@ -1,5 +1,6 @@
 // Pass C: the closing run.
-ghost use Rattle.rules.specs.Words.{◌≡◌, List, ℕ, suc, ◌≤◌, length, pass};
+ghost use Rattle.std.specs.Prelude.{◌≡◌, List, ℕ, suc, ◌≤◌, length};
+ghost use Rattle.rules.specs.Words.{pass};
 ghost use Rattle.rules.specs.declared.Vehicle.{Vehicle};
 ghost use Rattle.rules.specs.Corrections.{slowing};
 ghost use Rattle.gears.specs.Parts.{Counts};

@@ -1,5 +1,6 @@
 // The work on one trip: first choices, the three passes, the bytes.
-ghost use Rattle.rules.specs.Words.{◌≡◌, Bool, false, List, ℕ, ◌+◌, ◌-◌, ◌≤◌, ◌<◌, leb, ℤ, length, at, pass};
+ghost use Rattle.std.specs.Prelude.{◌≡◌, Bool, false, List, ℕ, ◌+◌, ◌-◌, ◌≤◌, ◌<◌, leb, ℤ, length};
+ghost use Rattle.rules.specs.Words.{at, pass};
 ghost use Rattle.rules.specs.Units.{rise};
 ghost use Rattle.rules.specs.Corrections.{role_of};
 ghost use Rattle.rules.specs.declared.Vehicle.{Vehicle};

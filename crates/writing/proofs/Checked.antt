@@ -1,5 +1,5 @@
 -- 14, and checks 1 to 9 of a job that is to be written: each way out of them. There is no card, and the holds stand for one.
-use Rattle.rules.proofs.Offered.{ℕ, arith, ◌≡◌, refl, sym, ap, ◌∙◌, true, false, not, Option, none, List, length, set, set_out, if◌then◌else◌, ◌and◌, ◌or◌}
+use Rattle.rules.proofs.Offered.{ℕ, arith, ◌≡◌, refl, sym, ap, ◌∙◌, true, false, not, Option, none, List, length, set, set_out}
 use Rattle.rules.proofs.Offered.{within, newest, bounds, first_failed, bad_field, Fault, said, refuse_at, ◌orelse◌, when, trace_fault, room_fault}
 use Rattle.rules.proofs.Offered.{vehicle_fault, seconds_fault, checks_fault, orelse_none, none_orelse, orelse_assoc, refuse_none, none_when, no_profile}
 use Rattle.rules.proofs.Offered.{no_margins, same_bounds}

@@ -1,5 +1,5 @@
 -- The contract of `write` as the check reads it: it asks nothing, and what it says of the room past what it writes.
-use Rattle.rules.proofs.Offered.{ℕ, ◌≤◌, ◌≡◌, ap, ◌∙◌, List, now, at, job_bytes, write_fault, write_room}
+use Rattle.rules.proofs.Offered.{ℕ, ◌≤◌, ◌≡◌, ap, ◌∙◌, List, at, job_bytes, write_fault, write_room}
 use Rattle.rules.proofs.Offered.{left_beyond}
 use Rattle.rules.specs.Determined.{AsksNothing, Promises}
 use Rattle.rules.specs.declared.Vehicle.{Vehicle}
@@ -14,7 +14,7 @@ write_asks_nothing κs a = tt
 
 -- what its contract says
 pub write-says : Promises write-kinds.ps write-kinds.r write-reads.Asked write-reads.Learnt
-    (λ κs a z ws. WriteAs a.0 a.1.0 (now a.1.1.0) (now a.1.1.1.0) (now a.1.1.1.1.0) z ws.1.1.1.1.0)
+    (λ κs a z ws. WriteAs a.0 a.1.0 (a.1.1.0.now) (a.1.1.1.0.now) (a.1.1.1.1.0.now) z ws.1.1.1.1.0)
 write-says κs a asked z ws p = p
 
 -- request One: "room beyond is untouched": past as many places as bytes were written, none in a refusal

@@ -1,5 +1,6 @@
 -- What the writer promises, and what its own functions do: bytes put into the lent room one after another.
-use Rattle.rules.specs.Words.{ℕ, ◌≤◌, ◌<◌, ◌≡◌, not, Option, List, [], ◌++◌, length, leb, ltb, eqb, if◌then◌else◌, within, at, table}
+use Rattle.std.specs.Prelude.{ℕ, ◌≤◌, ◌<◌, ◌≡◌, not, List, [], ◌++◌, length, leb, ltb, eqb, if◌then◌else◌}
+use Rattle.rules.specs.Words.{Option, within, at, table}
 use Rattle.rules.specs.declared.Vehicle.{Vehicle}
 use Rattle.rules.specs.Units.{newest, bounds, first_failed}
 use Rattle.rules.specs.Refusals.{Fault, said, refuse_at, ◌orelse◌, when, trace_fault, room_fault, left}

@@ -1,4 +1,6 @@
 // The job writer of document 02: what the reader reads back as the same job, and nothing written where a check refuses.
+#![tactic(auto)]
+
 mod numbers;
 mod put_groups;
 mod sizes;
@@ -8,14 +10,14 @@ use rules::Answer;
 pub use writer::write;
 
 // How many holds a trace has, and the bytes of their seconds and gears.
-#[derive(Drop)]
+#[derive(Clone, Copy)]
 struct HoldSizes {
     count: u16,
     bytes: usize,
 }
 
 // What the writer answers: how many bytes it wrote, 0 where it refuses.
-#[derive(Drop)]
+#[derive(Clone, Copy)]
 pub struct Written {
     pub answer: Answer,
     pub length: usize,

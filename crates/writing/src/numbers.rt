@@ -1,5 +1,5 @@
 // The eight numbers between the gears and the curve, as a job has them.
-ghost use Rattle.rules.specs.Words.{◌≡◌, ◌≤◌, pos, nat_abs, ◌+ℤ◌};
+ghost use Rattle.std.specs.Prelude.{◌≡◌, ◌≤◌, pos, nat_abs, ◌+ℤ◌};
 ghost use Rattle.rules.specs.Job.{parts_of};
 
 use rules::Vehicle;

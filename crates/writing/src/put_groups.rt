@@ -1,5 +1,5 @@
 // Bytes put into the lent room, which has space for them. Each function answers the place after what it put.
-ghost use Rattle.rules.specs.Words.{◌≡◌, [], ◌∷◌, ◌++◌, ◌+◌, ◌≤◌, ◌<◌, length};
+ghost use Rattle.std.specs.Prelude.{◌≡◌, [], ◌∷◌, ◌++◌, ◌+◌, ◌≤◌, ◌<◌, length};
 ghost use Rattle.rules.specs.Groups.{form};
 ghost use Rattle.rules.specs.Job.{points_of, gather, vehicle};
 ghost use Rattle.rules.specs.Inside.{InBounds};

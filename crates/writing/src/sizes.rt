@@ -1,5 +1,5 @@
 // How long a job is: measured before the first byte is put.
-ghost use Rattle.rules.specs.Words.{◌≡◌, ◌+◌, ◌≤◌, length, drop};
+ghost use Rattle.std.specs.Prelude.{◌≡◌, ◌+◌, ◌≤◌, length, drop};
 ghost use Rattle.rules.specs.Groups.{form};
 ghost use Rattle.rules.specs.Job.{gather, vehicle};
 ghost use Rattle.rules.specs.Inside.{InBounds};

@@ -1,5 +1,6 @@
 // The job writer of document 02, requests One, Six and Thirteen. Its length is measured first, so a room that is too short is refused with nothing written.
-ghost use Rattle.rules.specs.Words.{◌≡◌, List, none, ℕ, ◌+◌, ◌*◌, ◌≤◌, length};
+ghost use Rattle.std.specs.Prelude.{◌≡◌, List, ℕ, ◌+◌, ◌*◌, ◌≤◌, length};
+ghost use Rattle.rules.specs.Words.{none};
 ghost use Rattle.rules.specs.Refusals.{said};
 ghost use Rattle.rules.specs.Groups.{form};
 ghost use Rattle.rules.specs.Job.{gather, vehicle};

@@ -1,15 +1,15 @@
 -- `capi::gearcard_release` meets its contract. `says_told` hands on what `release` promises.
-use Rattle.rules.proofs.Offered.{◌∙◌, needs}
+use Rattle.rules.proofs.Offered.{◌∙◌, rules}
 use Rattle.capi.specs.Verdicts.{says_told}
 use Rattle.capi.proofs.gearcard_release.Statement.{statement}
 use Rattle.capi.proofs.gearcard_release.Tie as tie
 
 returns : tie.Need-returns
 returns c =
-    let at-release : tie.After-release = search in
-    let r = at-release.release.ensures in
-    (c.Counted-of.ensures.0 ∙ says_told _ _ r.0, (c.Counted-of.ensures.1 ∙ r.1.0, (search needs, search needs)))
+    let at_release : tie.After-release-counted = search in
+    let r = at_release.release-counted.ensures in
+    (c.counted_of.ensures.0 ∙ says_told _ _ r.0, (c.counted_of.ensures.1 ∙ r.1.0, (search rules, search rules)))
 
 pub gearcard_release_spec : {M : Type 1} → statement M
-gearcard_release_spec = let answers = tie.spec (λ c κs. search needs) (λ c κs. search needs) (λ c. search needs) (λ c. search needs) returns in
+gearcard_release_spec = let answers = tie.spec (λ c κs. search rules) (λ c κs. search rules) (λ c. search rules) (λ c. search rules) returns in
     tie.close answers

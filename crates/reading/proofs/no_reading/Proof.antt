@@ -4,5 +4,5 @@ use Rattle.reading.proofs.no_reading.Statement.{statement}
 use Rattle.reading.proofs.no_reading.Tie as tie
 
 pub no_reading_spec : {M : Type 1} → statement M
-no_reading_spec = let answers = tie.spec (λ c κs. search rules) (λ c κs. search rules) (λ c. rw (c.before.answer.ensures, c.blank.ensures)) in
+no_reading_spec = let answers = tie.spec (λ c κs. search rules) (λ c κs. search rules) (λ c. rw (c.answer.ensures, c.blank.ensures)) in
     tie.close answers

@@ -1,12 +1,12 @@
 -- What the rows of the table are about: car Z and its kin, their traces and jobs, and what is said of them.
-use Rattle.rules.proofs.Base.{ℕ, Bool, Option, some, List, [], ◌∷◌, ◌++◌, ℤ, pos, ◌-◌, replicate, take, length, get_or, Vehicle, Role, Summary, Closing}
+use Rattle.rules.proofs.Base.{ℕ, List, [], ◌∷◌, ◌++◌, ℤ, pos, ◌-◌, replicate, take, length, get_or, Vehicle, Role, Summary, Closing}
 use Rattle.rules.proofs.Base.{AfterLow, Inner, Answer}
 use Rattle.rules.specs.Words.{table}
 use Rattle.rules.specs.Gears.{minimum, choose}
-use Rattle.rules.specs.Corrections.{gears, first_at}
+use Rattle.rules.specs.Corrections.{first_at}
 use Rattle.rules.specs.Refusals.{told}
-use Rattle.rules.specs.Job.{version, profile, vehicle, job_read, job_of}
-use Rattle.rules.specs.Summary.{changes, summary}
+use Rattle.rules.specs.Job.{profile, job_read, job_of}
+use Rattle.rules.specs.Summary.{summary}
 use Rattle.rules.specs.declared.GearFacts.{GearFacts}
 use Rattle.rules.specs.Why.{no_facts, why}
 use Rattle.rules.proofs.Cases.Rows.{Value, numbers, refused_by}

@@ -5,7 +5,7 @@ use Rattle.rules.proofs.Base.{some, List, [], ◌∷◌, eqb, length, set, lengt
 use Rattle.rules.proofs.Base.{ne_eqb, eq-eqb, not-false, Vehicle, Edit, Hold, Release, Mend}
 use Rattle.rules.specs.Words.{if◌then◌else◌, ◌and◌, ◌or◌, at, first}
 use Rattle.rules.specs.Units.{moving, start, stop}
-use Rattle.rules.specs.Corrections.{gear_at, card_at, card}
+use Rattle.rules.specs.Corrections.{gear_at, card_at}
 use Rattle.rules.specs.Refusals.{Fault, refuse_at, ◌orelse◌, not_driven, Check, speed, step, ends, over-ng, at_rest, over-rev, no-gear, check_number}
 use Rattle.rules.specs.Refusals.{checks, all_checks, bad, fault_of, span_fault, work_card}
 use Rattle.rules.specs.Edit.{Screen, second, asked_speeds, asked_holds, around, hold_span, span, fails, asked_fault, edit_fault, asked_screen, edited}

@@ -158,8 +158,8 @@ unfolding total
 total-one x zero lo a b = absurd (omega arith)
 total-one x (suc k) lo a b =
     by_eq a
-    (λ e. rw (← e, eq-eqb lo lo refl)
-    (ap (λ (n : ℕ). 1 + n) (total_ext (λ i. one (eqb lo i)) (λ i. 0) k (suc lo) (λ i c d. rw (ne_eqb lo i (omega arith))) ∙ total_none k (suc lo))))
+    (λ e. rw (eq-eqb x lo (sym e))
+    (ap (λ (n : ℕ). 1 + n) (total_ext (λ i. one (eqb x i)) (λ i. 0) k (suc lo) (λ i c d. rw (ne_eqb x i (omega arith))) ∙ total_none k (suc lo))))
     (λ l. rw (ne_eqb x lo (omega arith), total-one x k (suc lo) l (omega arith)))
 
 same_place : (x g : ℕ) → 1 ≤ x → one (eqb x (suc g)) ≡ one (eqb (x - 1) g)

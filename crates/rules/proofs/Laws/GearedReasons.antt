@@ -4,7 +4,7 @@ use Rattle.rules.proofs.Base.{Bool, eqb, ℤ, length, take, drop, replicate, eqb
 use Rattle.rules.specs.declared.Reasons.{Reasons}
 use Rattle.rules.specs.Words.{◌and◌, within, at}
 use Rattle.rules.specs.Units.{low, moving, rise, start, stop}
-use Rattle.rules.specs.Gears.{enough, required}
+use Rattle.rules.specs.Gears.{enough}
 use Rattle.rules.specs.Corrections.{floor, closing, ceiling, after_A, after_B, trip_speeds, trip_holds, first_at, gear_at}
 use Rattle.rules.specs.Refusals.{Fault, room_fault, vehicle_fault, span_fault, left}
 use Rattle.rules.specs.Edit.{Extent, around, hold_span}

@@ -127,7 +127,7 @@ module _ {d : ℕ} {car van : Vehicle} (G : Geared d car van) (C : InBounds car)
   bad-up : (c : Check) (lo i : ℕ) → not_driven car (at hs i) ≡ false → bad c van vs (ups d hs) lo i ≡ bad c car vs hs lo i
   unfolding bad ◌and◌
   bad-up c lo i h =
-      elim c [
+      elim c as (λ k. bad k van vs (ups d hs) lo i ≡ bad k car vs hs lo i) [
         | speed ↦ refl
         | step ↦ refl
         | ends ↦ refl

@@ -2,7 +2,8 @@
 use Rattle.rules.proofs.Base.{ℕ, zero, suc, ◌+◌, ◌*◌, ◌-◌, ◌≤◌, ◌<◌, not-suc-le-zero, suc-mul, add-suc, le_trans, lt_irrefl, lt_of_lt_of_le}
 use Rattle.rules.proofs.Base.{le_of_mul-le-mul_right, mul-le-mul_right, arith, ◌≡◌, refl, sym, ap, ◌∙◌, subst, true, false, leb, leb-suc_suc, ℤ, pos}
 use Rattle.rules.proofs.Base.{negsuc, neg_ℤ, suc_ℤ, pred_ℤ, ℤ_ind, ◌+ℤ◌, ◌*ℤ◌, ◌-ℤ◌, +ℤ_one, -ℤ_one, +ℤ_assoc, +ℤ_comm, +ℤ_idl, +ℤ_idr, +ℤ_invr, *ℤ_comm}
-use Rattle.rules.proofs.Base.{suc_ℤ-*ℤ, pred_ℤ-*ℤ, suc_ℤ-+ℤ, pred_ℤ-+ℤ, zero-*ℤ, neg_ℤ-+ℤ, neg_ℤ-suc_ℤ, neg_ℤ-pred_ℤ, neg_ℤ-neg_ℤ, le_z, lt_z, leb-true, leb-false}
+use Rattle.rules.proofs.Base.{suc_ℤ-*ℤ, pred_ℤ-*ℤ, suc_ℤ-+ℤ, pred_ℤ-+ℤ, zero-*ℤ, neg_ℤ-+ℤ, neg_ℤ-suc_ℤ, neg_ℤ-pred_ℤ, neg_ℤ-neg_ℤ, le_z, lt_z}
+use Rattle.rules.proofs.Base.{leb-true, leb-false}
 use Rattle.rules.proofs.Base.{ltb-true, ltb-false, le-leb, le-ltb}
 use Rattle.rules.proofs.Laws.Words.{by_test}
 

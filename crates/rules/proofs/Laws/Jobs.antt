@@ -6,7 +6,7 @@ use Rattle.rules.specs.Units.{longest}
 use Rattle.rules.specs.Groups.{Read, got, refused}
 use Rattle.rules.specs.Forms.{checked, ◌then◌, seen, row, many, counted}
 use Rattle.rules.specs.Job.{version, profile, gearbox, numbers, point, curve, seconds, trace, padded, points_of, JobParts, vehicle_of, parts_of, vehicle}
-use Rattle.rules.specs.Job.{holds, Job, packed, fields, stages, job, job_read, job_of}
+use Rattle.rules.specs.Job.{Job, packed, fields, stages, job, job_read, job_of}
 use Rattle.rules.proofs.Laws.Words.{table_at, and_left}
 use Rattle.rules.proofs.Laws.Forms.{Says, told, Sound, seen_sound, sounds, whole_says}
 use Rattle.rules.proofs.Laws.Takes.{takes_bounded}

@@ -1,4 +1,4 @@
--- A curve without margins of its own: power is then compared as in document 01, by full_load power and M alone.
+-- A curve without margins of its own: power is then compared as in document 01, by full-load power and M alone.
 use Rattle.rules.proofs.Base.{ℕ, suc, ◌-◌, ◌<◌, arith, ◌≡◌, refl, sym, ap, ◌∙◌, true, ℤ, pos, neg_ℤ, ◌+ℤ◌, ◌-ℤ◌, ◌*ℤ◌, +ℤ_idr, *ℤ_comm, lt_z, Vehicle}
 use Rattle.rules.proofs.Base.{Role}
 use Rattle.rules.specs.Inside.{InBounds}
@@ -35,7 +35,7 @@ module _ (car : Vehicle) (B : InBounds car) (N : NoMargins car) where
   derated_none k h = rw (N k h) (ap (λ z. pos (at car.p k) *ℤ z) (+ℤ_idr (pos 100 -ℤ pos car.margin)))
 
   module _ (here : Role) (v g : ℕ) (f : fits car here v g ≡ true) where
-    -- available power is 100 - M times full_load power
+    -- available power is 100 - M times full-load power
     Q_none : (power car v g).Q ≡ (pos 100 -ℤ pos car.margin) *ℤ (full_load car v g).Q
     unfolding power on_segment between full_load
     Q_none =

@@ -190,7 +190,7 @@ small_i32 (negsuc n) h = record { sfits = omega arith }
 
 -- what a callee returned, read back: its `.ok`
 pub result : {z : ℤ} → mag z < 2 ^ 63 → rd z ≡ z
-result h = to_z-of_z (record { sfits = h })
+result {z} h = to_z-of_z {w = w64} {z = z} (record { sfits = h })
 
 -- a product of two unsigned numbers of known sizes fits
 pub product : {a b : ℕ} (m n : ℕ) → a ≤ m → b ≤ n → T (ltb (m * n) (2 ^ 64)) → Fits w64 (a * b)

@@ -131,7 +131,7 @@ module _ (car : Vehicle) {vs hs ws ks : List ℕ} {s : ℕ} (E : ButFor vs hs ws
       let y : i - 1 ≢ s = λ e. elim o [ inl c ↦ omega arith | inr c ↦ omega arith ] in
       let v = E.speed_at i x in
       let h = E.hold_at i x in
-      elim c [
+      elim c as (λ k. bad k car ws ks 0 i ≡ bad k car vs hs 0 i) [
         | speed ↦ rw v
         | step ↦ rw (v, E.speed_at (i - 1) y)
         | ends ↦ rw (v, E.speeds)
@@ -180,7 +180,7 @@ module _ (car : Vehicle) (vs hs : List ℕ) (s g : ℕ) (r : moving (at vs s) �
   unfolding bad ◌and◌ first_at
   bad_rest c i n =
       let h = get_or-set_other hs s i g 0 n in
-      elim c [
+      elim c as (λ k. bad k car vs (set hs s g) 0 i ≡ bad k car vs hs 0 i) [
         | speed ↦ refl
         | step ↦ refl
         | ends ↦ refl

@@ -1,7 +1,7 @@
 -- Laws of the searches `first` and `highest`.
 use Rattle.rules.proofs.Base.{ℕ, zero, suc, ◌+◌, ◌-◌, ◌≤◌, ◌<◌, suc-add, add-suc, zero-add, add-zero, le_of_suc-le-suc, arith, ◌≡◌, refl, ap, ◌∙◌, ◌≢◌}
 use Rattle.rules.proofs.Base.{◌⊎◌, inl, inr, Bool, true, false, Option, none, some}
-use Rattle.rules.specs.Words.{if◌then◌else◌, at, first, highest}
+use Rattle.rules.specs.Words.{if◌then◌else◌, first, highest}
 use Rattle.rules.proofs.Laws.Words.{by_test, by_eq}
 
 -- ---- a search

@@ -96,7 +96,7 @@ module _ (car : Vehicle) (vs hs ws ks : List ℕ) (a b : ℕ) (B : Between vs a 
   bad_same c i x y =
       let v = S.speed_at i x y in
       let h = S.hold_at i x y in
-      elim c [
+      elim c as (λ k. bad k car ws ks (a - 1) i ≡ bad k car vs hs (a - 1) i) [
         | speed ↦ rw v
         | step ↦ by_order (a - 1) i (λ z. rw (v, S.speed_at (i - 1) (omega arith) (omega arith))) (λ z. rw (le-ltb (a - 1) i z))
         | ends ↦ rw (v, S.speeds)
@@ -159,7 +159,7 @@ module _ (car : Vehicle) (vs hs us ls : List ℕ) (s : ℕ) where
       let e : i ≡ s = omega arith in
       let v = S.speed_at s (omega arith) (omega arith) in
       let h = S.hold_at s (omega arith) (omega arith) in
-      elim c [
+      elim c as (λ k. bad k car us ls s i ≡ bad k car vs hs s i) [
         | speed ↦ rw (e, v)
         | step ↦ rw (e, le-ltb s s (omega arith))
         | ends ↦ rw (e, v, S.speeds)

@@ -5,7 +5,7 @@ use Rattle.rules.specs.Inside.{InBounds, gear_fault}
 use Rattle.rules.specs.Words.{◌and◌, ◌or◌, at, first}
 use Rattle.rules.specs.Units.{low, moving, rise, start}
 use Rattle.rules.specs.Gears.{is_under_nmax, is_over_minimum, allowed, fits, choose, is_first}
-use Rattle.rules.specs.Corrections.{here, first_at, closing, role_of}
+use Rattle.rules.specs.Corrections.{first_at, closing, role_of}
 use Rattle.rules.specs.Refusals.{Fault, refuse_at, no-gear, bad, work_fault}
 use Rattle.rules.specs.Vocabulary.{Turns, Allowed, Wanting, PassesOthers, role_at}
 use Rattle.rules.proofs.Laws.Words.{clash, by_test, by_order, both, and_left, and_right, or_skip}

@@ -8,7 +8,7 @@ use Rattle.rules.specs.Units.{ratio_of, bad_field, longest, fastest}
 use Rattle.rules.specs.Refusals.{refuse_at, vehicle_fault, speed, over-ng, checks, bad, fault_of, seconds_fault}
 use Rattle.rules.specs.Groups.{got}
 use Rattle.rules.specs.Forms.{value, checked, bounded, ◌then◌, seen, RowTakes, row, many, counted}
-use Rattle.rules.specs.Job.{version, profile, gearbox, numbers, point, curve, seconds, trace, points_of, parts_of, vehicle, holds, Job, packed, fields}
+use Rattle.rules.specs.Job.{version, profile, gearbox, numbers, point, curve, seconds, trace, points_of, parts_of, vehicle, Job, packed, fields}
 use Rattle.rules.specs.Job.{stages, job, job_read}
 use Rattle.rules.specs.Write.{job_bytes, checks_fault, write_fault}
 use Rattle.rules.specs.Vocabulary.{Bytes, job_fault, job_from, cleared}

@@ -5,9 +5,7 @@ use Rattle.rules.specs.Units.{bad_field, low, moving}
 use Rattle.rules.specs.Gears.{is_under_nmax}
 use Rattle.rules.specs.Corrections.{peak, rising, slowing, gear_at, card_at, card}
 use Rattle.rules.specs.Refusals.{said, refuse_at, vehicle_fault, work_fault}
-use Rattle.rules.specs.Job.{vehicle}
 use Rattle.rules.specs.Vocabulary.{Wanting, PassesOthers, Turns, Allowed, cleared, without_crawler, up}
-use Rattle.rules.specs.Edit.{span}
 use Rattle.rules.proofs.Laws.Words.{pass_keeps}
 use Rattle.rules.proofs.Laws.Trips.{moving_in}
 use Rattle.rules.proofs.Laws.Vehicle.{in_bounds}

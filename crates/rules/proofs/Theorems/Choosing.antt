@@ -77,7 +77,7 @@ pub same_power : (car : Vehicle) (k : ℕ) → let x = 1000 * at car.n (suc k) i
     (on_segment car x k).Q *ℤ (on_segment car x (suc k)).w ≡ (on_segment car x (suc k)).Q *ℤ (on_segment car x k).w
 same_power = shared-point
 
--- Request Six: where no point of the curve has a margin of its own, power is compared as in document 01, by full_load power and M alone. The rules look at
+-- Request Six: where no point of the curve has a margin of its own, power is compared as in document 01, by full-load power and M alone. The rules look at
 -- power through these two tests and in no other way, so they choose as they chose
 
 module _ (car : Vehicle) (ok : bad_field car ≡ none) (none-own : NoMargins car) where

@@ -1,5 +1,6 @@
 -- Words of the theorems on vehicles that are driven alike: two whose places differ only where nothing looks, and a van and the car without its crawler.
-use Rattle.rules.specs.Words.{ℕ, ◌-◌, ◌<◌, ◌≡◌, ◌++◌, replicate, take, map, at}
+use Rattle.std.specs.Prelude.{ℕ, ◌-◌, ◌<◌, ◌≡◌, ◌++◌, replicate, take, map}
+use Rattle.rules.specs.Words.{at}
 use Rattle.rules.specs.declared.Vehicle.{Vehicle}
 use Rattle.rules.specs.declared.Edit.{Edit}
 use Rattle.rules.specs.declared.Edit.TheVariants.{Hold, Release, Mend}

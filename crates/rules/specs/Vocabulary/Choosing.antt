@@ -1,12 +1,13 @@
 -- Words of the theorems on trips, first choices, power, want of a gear and the two profiles.
-use Rattle.rules.specs.Words.{ℕ, suc, ◌+◌, ◌-◌, ◌*◌, ◌≤◌, ◌<◌, ◌≡◌, ◌≢◌, Bool, true, false, none, List, length, drop, eqb, ℤ, pos, ◌-ℤ◌, ◌*ℤ◌, le_z, at}
-use Rattle.rules.specs.Words.{if◌then◌else◌, highest}
+use Rattle.std.specs.Prelude.{ℕ, suc, ◌+◌, ◌-◌, ◌*◌, ◌≤◌, ◌<◌, ◌≡◌, ◌≢◌, Bool, true, false, List, length, drop, eqb, ℤ, pos, ◌-ℤ◌, ◌*ℤ◌}
+use Rattle.rules.specs.Words.{none, le_z, at}
+use Rattle.std.specs.Prelude.{if◌then◌else◌}
 use Rattle.rules.specs.declared.Vehicle.{Vehicle}
 use Rattle.rules.specs.declared.Role.{Role}
 use Rattle.rules.specs.Units.{ratio_of, low, moving, start}
 use Rattle.rules.specs.Gears.{engine, minimum, fits, power, enough, more, suits, required, Power, between, segment, power_speed}
 use Rattle.rules.specs.Refusals.{trace_fault, room_fault, vehicle_fault, seconds_fault}
-use Rattle.rules.specs.Corrections.{here, role_of, closing, first_at}
+use Rattle.rules.specs.Corrections.{role_of, closing, first_at}
 
 -- ---- the trace
 
@@ -54,13 +55,13 @@ pub record OnSegment (car : Vehicle) (x k : ℕ) : Type 0 where
   pub from : 1000 * at car.n k ≤ x
   pub to : x ≤ 1000 * at car.n (suc k)
 
--- ---- document 01 before request Six: full_load power, and M alone
+-- ---- document 01 before request Six: full-load power, and M alone
 
 -- no point of the curve has a margin of its own
 abbrev pub NoMargins : Vehicle → Type 0
 NoMargins car = (k : ℕ) → k < car.points → at car.m k ≡ 0
 
--- full_load power at a gear: between neighbouring points (n1,p1) and (n2,p2)
+-- full-load power at a gear: between neighbouring points (n1,p1) and (n2,p2)
 unfoldable pub full_load : Vehicle → ℕ → ℕ → Power
 full_load car v g =
     let x = power_speed car v g in

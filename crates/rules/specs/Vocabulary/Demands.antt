@@ -1,6 +1,6 @@
 -- The three demands, as what an outcome must be like: what is said, nothing or a refusal's number and place, and what is left in the lent lists.
-use Rattle.rules.specs.Words.{ℕ, ◌<◌, ◌≡◌, ◌≢◌, false, Option, none, some, List, length, at}
-use Rattle.std.specs.Prelude.{◌↔◌}
+use Rattle.rules.specs.Words.{Option, none, some, at}
+use Rattle.std.specs.Prelude.{◌↔◌, ℕ, ◌<◌, ◌≡◌, ◌≢◌, false, List, length}
 use Rattle.rules.specs.declared.Vehicle.{Vehicle}
 use Rattle.rules.specs.declared.Edit.{Edit}
 use Rattle.rules.specs.declared.Edit.TheVariants.{Hold}

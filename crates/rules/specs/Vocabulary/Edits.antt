@@ -1,5 +1,6 @@
 -- Words of the theorems on finished cards, edits of the screen and the summary.
-use Rattle.rules.specs.Words.{ℕ, suc, ◌+◌, ◌-◌, ◌*◌, ◌≤◌, ◌<◌, zero, ◌≡◌, ◌≢◌, ◌⊎◌, Bool, true, false, none, List, length, eqb, at}
+use Rattle.std.specs.Prelude.{ℕ, suc, ◌+◌, ◌-◌, ◌*◌, ◌≤◌, ◌<◌, zero, ◌≡◌, ◌≢◌, ◌⊎◌, Bool, true, false, List, length, eqb}
+use Rattle.rules.specs.Words.{none, at}
 use Rattle.rules.specs.declared.Vehicle.{Vehicle}
 use Rattle.rules.specs.declared.Summary.{Summary}
 use Rattle.rules.specs.Units.{most_gears, low, moving, start}

@@ -1,6 +1,7 @@
 -- Document 01, "What the contracts are held to": the four impostors, each as the program that it is: what it says and what it leaves in every lent list, for
 -- every input. proofs/Impostors shows that the demands turn each away.
-use Rattle.rules.specs.Words.{ℕ, suc, ◌+◌, Option, option_get_or, some, List, length, eqb, if◌then◌else◌, at, first, table}
+use Rattle.std.specs.Prelude.{ℕ, suc, ◌+◌, List, length, eqb, if◌then◌else◌}
+use Rattle.rules.specs.Words.{Option, option_get_or, some, at, first, table}
 use Rattle.rules.specs.declared.Vehicle.{Vehicle}
 use Rattle.rules.specs.declared.Edit.{Edit}
 use Rattle.rules.specs.Units.{moving, start}

@@ -1,5 +1,6 @@
 -- Words of the theorems on the job file.
-use Rattle.rules.specs.Words.{ℕ, ◌+◌, ◌*◌, ◌<◌, ◌≡◌, Option, List, ◌++◌, length, at}
+use Rattle.std.specs.Prelude.{ℕ, ◌+◌, ◌*◌, ◌<◌, ◌≡◌, List, ◌++◌, length}
+use Rattle.rules.specs.Words.{Option, at}
 use Rattle.rules.specs.declared.Vehicle.{Vehicle}
 use Rattle.rules.specs.Units.{most_gears, most_points}
 use Rattle.rules.specs.Refusals.{Fault, ◌orelse◌, trace_fault, room_fault, vehicle_fault, seconds_fault}

@@ -1,17 +1,17 @@
 -- `checks::calm::look` meets its contract: what is kept is the highest speed, and the largest step, of the seconds so far.
-use Rattle.rules.proofs.Offered.{◌+◌, ◌-◌, ◌≤◌, ◌<◌, max, arith, ◌≡◌, needs, at}
+use Rattle.rules.proofs.Offered.{◌+◌, ◌-◌, ◌≤◌, ◌<◌, arith, ◌≡◌, rules, at}
 use Rattle.checks.specs.Calm.{Seen, gap_at}
 use Rattle.checks.proofs.Calmness.{most_none, most_more}
 use Rattle.checks.proofs.calm.look.Statement.{statement}
 use Rattle.checks.proofs.calm.look.Tie as tie
 
-abbrev invariant-loop : tie.invariant-loop
+abbrev invariant-loop : tie.invariant-loop-i
 invariant-loop speeds span lo most₀ step₀ i₀ most step i = (span.lo < i) × (i ≤ span.hi) × Seen speeds span.lo i most step
 
-abbrev decreases-loop : tie.decreases-loop
+abbrev decreases-loop : tie.decreases-loop-i
 decreases-loop speeds span lo most₀ step₀ i₀ most step i = span.hi - i
 
-returns : tie.Need-returns invariant-loop decreases-loop
+returns : tie.Need-returns-then-span-lo invariant-loop decreases-loop
 returns c =
     let start : tie.Start invariant-loop decreases-loop = search in
     let a = start.args in
@@ -21,7 +21,7 @@ returns c =
       steps = most_none (gap_at a.speeds.now) (lo + 1) a.span.hi (omega arith);
     }
 
-loop-holds : tie.Need-loop-init invariant-loop decreases-loop
+loop-holds : tie.Need-loop-i-init invariant-loop decreases-loop
 loop-holds c =
     let start : tie.Start invariant-loop decreases-loop = search in
     let a = start.args in
@@ -35,26 +35,26 @@ loop-holds c =
       },
     )
 
-loop-again : tie.Need-loop-preserved invariant-loop decreases-loop
+loop-again : tie.Need-loop-i-preserved invariant-loop decreases-loop
 loop-again c =
-    let at-larger : tie.After-larger invariant-loop decreases-loop = search in
-    let to-loop : tie.At-loop invariant-loop decreases-loop = search in
+    let at_larger : tie.After-larger-most invariant-loop decreases-loop = search in
+    let to_loop : tie.At-loop-i invariant-loop decreases-loop = search in
     let start : tie.Start invariant-loop decreases-loop = search in
     let a = start.args in
-    let l = to-loop.loop in (
+    let l = to_loop.loop-i in (
       omega arith,
       omega arith,
       record {
-        speeds = most_more (at a.speeds.now) a.span.lo l.i (omega arith) l.inv.2.speeds at-larger.larger.ensures;
+        speeds = most_more (at a.speeds.now) a.span.lo l.i (omega arith) l.invariant.2.speeds at_larger.larger-most.ensures;
         steps =
-            most_more (gap_at a.speeds.now) (a.span.lo + 1) l.i (omega arith) l.inv.2.steps
-            (omega (arith, c.larger2.ensures, c.before.gap.ensures));
+            most_more (gap_at a.speeds.now) (a.span.lo + 1) l.i (omega arith) l.invariant.2.steps
+            (omega (arith, c.larger-step.ensures, c.gap.ensures));
       },
     )
 
-returns-2 : tie.Need-returns-2 invariant-loop decreases-loop
+returns-2 : tie.Need-returns invariant-loop decreases-loop
 returns-2 c =
-    let here = c.before.before.loop in
+    let here = c.loop-i in
     let start : tie.Start invariant-loop decreases-loop = search in
     let e : start.args.span.hi ≡ here.i = omega (arith, here.invariant.1) in
     rw e here.invariant.2
@@ -62,8 +62,8 @@ returns-2 c =
 pub look_spec : {M : Type 1} → statement M
 look_spec =
     let answers = tie.spec invariant-loop decreases-loop returns
-    (λ c. search needs) (λ c. search needs) (λ c. search needs) loop-holds (λ c. search needs) (λ c. search needs)
-    (λ c κs. search needs) (λ c. search needs) (λ c. search needs) (λ c. search needs) (λ c. search needs)
-    (λ c. search needs) (λ c κs. search needs) (λ c κs. search needs) (λ c. search needs) (λ c. search needs) loop-again
+    (λ c. search rules) (λ c. search rules) (λ c. search rules) loop-holds (λ c. search rules) (λ c. search rules)
+    (λ c κs. search rules) (λ c. search rules) (λ c. search rules) (λ c. search rules) (λ c. search rules)
+    (λ c. search rules) (λ c κs. search rules) (λ c κs. search rules) (λ c. search rules) (λ c. search rules) loop-again
     returns-2 in
     tie.close answers

@@ -5,15 +5,15 @@ use Rattle.checks.proofs.Tests.{past}
 use Rattle.checks.proofs.seconds.answer_of.Statement.{statement}
 use Rattle.checks.proofs.seconds.answer_of.Tie as tie
 
-returns-7 : tie.Need-returns-7
+returns-7 : tie.Need-returns-in_default
 unfolding said kept
 returns-7 c =
-    let n = c.match.rest in
-    let over-6 : 6 < c.before.args.best = past (past (past c.before.requires n.0.0.0.0.0.1) n.0.0.0.0.1) n.0.0.0.1 in
-    rw (le-ltb c.before.args.best 10 (past (past (past over-6 n.0.0.1) n.0.1) n.1))
+    let n = c.in_default.in_default-own.rest in
+    let over_6 : 6 < c.args.best = past (past (past c.requires n.0.0.0.0.0.1) n.0.0.0.0.1) n.0.0.0.1 in
+    rw (le-ltb c.args.best 10 (past (past (past over_6 n.0.0.1) n.0.1) n.1))
 
 pub answer_of_spec : {M : Type 1} → statement M
 unfolding said kept
 answer_of_spec =
-    let answers = tie.spec (λ c. rw c.match.keys1) (λ c. rw c.match.keys2) (λ c. rw c.match.keys3) (λ c. rw c.match.keys4)
-    (λ c. rw c.match.keys5) (λ c. rw c.match.keys6) returns-7 in tie.close answers
+    let answers = tie.spec (λ c. rw c.in-4.is) (λ c. rw c.in-5.is) (λ c. rw c.in-6.is) (λ c. rw c.in-7.is)
+    (λ c. rw c.in-8.is) (λ c. rw c.in-9.is) returns-7 in tie.close answers

@@ -1,5 +1,5 @@
 -- `checks::want::hands_on` meets its contract: it compares the two products.
-use Rattle.rules.proofs.Offered.{arith, leb-true, needs, product}
+use Rattle.rules.proofs.Offered.{arith, leb-true, product}
 use Rattle.checks.proofs.want.hands_on.Statement.{statement}
 use Rattle.checks.proofs.want.hands_on.Tie as tie
 

@@ -6,4 +6,4 @@ use Rattle.edits.proofs.asking.gear_asked.Tie as tie
 
 pub gear_asked_spec : {M : Type 1} → statement M
 unfolding gear_asked over_all
-gear_asked_spec = let answers = tie.spec (λ c. rw (eq-eqb _ _ c.if1.true)) (λ c. rw (ne_eqb _ _ c.if1.false)) in tie.close answers
+gear_asked_spec = let answers = tie.spec (λ c. rw (eq-eqb _ _ c.if-gear-eq0.true)) (λ c. rw (ne_eqb _ _ c.if-gear-eq0.false)) in tie.close answers

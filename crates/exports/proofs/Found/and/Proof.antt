@@ -4,5 +4,5 @@ use Rattle.exports.proofs.Found.and.Statement.{statement}
 use Rattle.exports.proofs.Found.and.Tie as tie
 
 pub and_spec : {M : Type 1} → statement M
-and_spec = let answers = tie.spec (λ c. search rules) (λ c. search rules) (λ c. search rules) (λ c. rw c.before.met.given.1)
-    (λ c. rw c.before.before.met2.given.1) (λ c. search rules) in tie.close answers
+and_spec = let answers = tie.spec (λ c. search rules) (λ c. search rules) (λ c. search rules) (λ c. rw c.in-Coefficients.is)
+    (λ c. rw c.in-Mass.is) (λ c. search rules) in tie.close answers

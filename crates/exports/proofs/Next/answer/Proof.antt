@@ -4,4 +4,4 @@ use Rattle.exports.proofs.Next.answer.Statement.{statement}
 use Rattle.exports.proofs.Next.answer.Tie as tie
 
 pub answer_spec : {M : Type 1} → statement M
-answer_spec = let answers = tie.spec (λ c. search rules) (λ c. search rules) (λ c. search rules) (λ c. rw c.before.self.given.1) in tie.close answers
+answer_spec = let answers = tie.spec (λ c. search rules) (λ c. search rules) (λ c. search rules) (λ c. rw c.in-Fault.is) in tie.close answers

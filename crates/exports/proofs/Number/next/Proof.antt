@@ -4,5 +4,5 @@ use Rattle.exports.proofs.Number.next.Statement.{statement}
 use Rattle.exports.proofs.Number.next.Tie as tie
 
 pub next_spec : {M : Type 1} → statement M
-next_spec = let answers = tie.spec (λ c. search rules) (λ c. search rules) (λ c. rw c.before.self.given.1) (λ c. rw c.before.self2.given.1) in
+next_spec = let answers = tie.spec (λ c. search rules) (λ c. search rules) (λ c. rw c.in-Value.is) (λ c. rw c.in-Fault.is) in
     tie.close answers

@@ -1,5 +1,5 @@
 -- `gearcard::text::put_gear` meets its contract: three pieces in a row.
-use Rattle.rules.proofs.Offered.{arith, needs}
+use Rattle.rules.proofs.Offered.{arith, rules}
 use Rattle.reading.proofs.PutInTurn.{put_both}
 use Rattle.gearcard.proofs.TextInTurn.{gear_length}
 use Rattle.gearcard.proofs.text.put_gear.Statement.{statement}
@@ -7,13 +7,13 @@ use Rattle.gearcard.proofs.text.put_gear.Tie as tie
 
 returns : tie.Need-returns
 returns c =
-    let at-put-decimal : tie.After-put-decimal = search in
-    let at-put : tie.After-put = search in
-    put_both at-put.put.ensures (put_both at-put-decimal.put-decimal.ensures c.before.before.put-pedal.ensures)
+    let at_put_decimal : tie.After-put_decimal-clutch = search in
+    let at_put : tie.After-put-gear = search in
+    put_both at_put.put-gear.ensures (put_both at_put_decimal.put_decimal-clutch.ensures c.put_pedal.ensures)
 
 pub put_gear_spec : {M : Type 1} → statement M
 put_gear_spec =
-    let answers = tie.spec (λ c. search needs) (λ c κs. search needs) (λ c. search needs)
+    let answers = tie.spec (λ c κs. search rules) (λ c. search rules)
     (λ c κs. let s : tie.Start = search in omega (arith, gear_length s.args.byte))
-    (λ c κs. let s : tie.Start = search in omega (arith, gear_length s.args.byte)) (λ c. search needs) returns in
+    (λ c κs. let s : tie.Start = search in omega (arith, gear_length s.args.byte)) (λ c. search rules) returns in
     tie.close answers

@@ -4,23 +4,23 @@ use borrow.Author.Rules.{rules}
 use Rattle.gearcard.proofs.text.put_worked.Statement.{statement}
 use Rattle.gearcard.proofs.text.put_worked.Tie as tie
 
-returns : tie.Need-returns
+returns : tie.Need-returns-in-Done
 returns c =
-    let p : tie.After-enum-told = search in
-    let w : tie.After-work = search in
+    let p : tie.In-Done = search in
+    let w : tie.After-work-answer = search in
     let s : tie.Start = search in
-    rw (done_text s.args.vehicle s.args.speeds.now s.args.holds.now s.args.card.now s.pre.1.0
-    w.work.ensures.0 p.enum_told.given.1 w.work.ensures.1)
-    c.before.before.put-card.ensures
+    rw (done_text s.args.vehicle s.args.speeds.now s.args.holds.now s.args.card.now s.requires.1.0
+    w.work-answer.ensures.0 p.in-Done.is w.work-answer.ensures.1)
+    c.put_card.ensures
 
-returns-2 : tie.Need-returns-2
+returns-2 : tie.Need-returns-in-Refused
 returns-2 c =
-    let p : tie.After-answer = search in
-    let w : tie.After-work = search in
+    let p : tie.In-Refused = search in
+    let w : tie.After-work-answer = search in
     let s : tie.Start = search in
-    rw (stop_text s.args.vehicle s.args.speeds.now s.args.holds.now s.args.card.now s.pre.1.0
-    w.work.ensures.0 p.answer.given.1)
-    c.before.before.put-refusal.ensures
+    rw (stop_text s.args.vehicle s.args.speeds.now s.args.holds.now s.args.card.now s.requires.1.0
+    w.work-answer.ensures.0 p.in-Refused.is)
+    c.put_refusal.ensures
 
 pub put_worked_spec : {M : Type 1} → statement M
 put_worked_spec =

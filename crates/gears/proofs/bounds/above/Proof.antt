@@ -5,4 +5,4 @@ use Rattle.gears.proofs.bounds.above.Tie as tie
 
 pub above_spec : {M : Type 1} → statement M
 unfolding ◌and◌
-above_spec = let answers = tie.spec (λ c. rw (le-ltb _ _ c.if1.true)) (λ c. rw (lt-ltb _ _ c.if1.false)) in tie.close answers
+above_spec = let answers = tie.spec (λ c. rw (le-ltb _ _ c.if-x-lo.true)) (λ c. rw (lt-ltb _ _ c.if-x-lo.false)) in tie.close answers

@@ -5,4 +5,4 @@ use Rattle.gears.proofs.bounds.f1_good.Tie as tie
 
 pub f1_good_spec : {M : Type 1} → statement M
 f1_good_spec =
-    let answers = tie.spec (λ c. size_within c.before.ranges.f1 c.if1.true) (λ c. size_under c.before.ranges.f1 c.if1.false) in tie.close answers
+    let answers = tie.spec (λ c. size_within c.ranges.f1 c.if-f1-geminus5000.true) (λ c. size_under c.ranges.f1 c.if-f1-geminus5000.false) in tie.close answers

@@ -5,4 +5,4 @@ use Rattle.gears.proofs.bounds.placed.Tie as tie
 
 pub placed_spec : {M : Type 1} → statement M
 unfolding ◌or◌
-placed_spec = let answers = tie.spec (λ c. rw (le-leb _ _ c.if1.true)) (λ c. rw (lt-leb _ _ c.if1.false)) in tie.close answers
+placed_spec = let answers = tie.spec (λ c. rw (le-leb _ _ c.if-first-version.true)) (λ c. rw (lt-leb _ _ c.if-first-version.false)) in tie.close answers

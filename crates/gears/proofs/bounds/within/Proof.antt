@@ -5,4 +5,4 @@ use Rattle.gears.proofs.bounds.within.Tie as tie
 
 pub within_spec : {M : Type 1} → statement M
 unfolding within ◌and◌
-within_spec = let answers = tie.spec (λ c. rw (lt-leb _ _ c.if1.true)) (λ c. rw (le-leb _ _ c.if1.false)) in tie.close answers
+within_spec = let answers = tie.spec (λ c. rw (lt-leb _ _ c.if-x-lo.true)) (λ c. rw (le-leb _ _ c.if-x-lo.false)) in tie.close answers

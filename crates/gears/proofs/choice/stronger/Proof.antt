@@ -7,5 +7,5 @@ use Rattle.gears.proofs.choice.stronger.Tie as tie
 pub stronger_spec : {M : Type 1} → statement M
 unfolding the_stronger
 stronger_spec =
-    let answers = tie.spec (λ c κs. search rules) (λ c. rw (← c.before.more.ensures, c.if1.true)) (λ c. rw (← c.before.more.ensures, c.if1.false)) in
+    let answers = tie.spec (λ c κs. search rules) (λ c. rw (← c.more.ensures, c.if-more.true)) (λ c. rw (← c.more.ensures, c.if-more.false)) in
     tie.close answers

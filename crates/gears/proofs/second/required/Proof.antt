@@ -1,5 +1,5 @@
 -- `gears::second::required` meets its contract: each product and sum is an expression whose size antt computes.
-use Rattle.rules.proofs.Offered.{arith, pos, to_z-of_z, ◌∙◌, needs, E, lit, var, is, ◌⊕◌, ◌⊗◌, read, from_i32_fits, small_i32}
+use Rattle.rules.proofs.Offered.{arith, pos, to_z-of_z, ◌∙◌, rules, E, lit, var, is, ◌⊕◌, ◌⊗◌, read, from_i32_fits, small_i32}
 use Rattle.rules.proofs.Laws.Range.{fits}
 use Rattle.gears.proofs.Parts.{required_of}
 use Rattle.gears.proofs.second.required.Statement.{statement}
@@ -41,11 +41,11 @@ power s = v s ⊗ outer s
 
 pub required_spec : {M : Type 1} → statement M
 required_spec =
-    let answers = tie.spec (λ c. search needs) (λ c. search needs) (λ c. fits (lit (pos 9000000) ⊗ f0 c.before) tt)
-    (λ c. fits (lit (pos 2575000) ⊗ d c.before) tt) (λ c. search needs)
+    let answers = tie.spec (λ c. search rules) (λ c. search rules) (λ c. fits (lit (pos 9000000) ⊗ f0 c.before) tt)
+    (λ c. fits (lit (pos 2575000) ⊗ d c.before) tt) (λ c. search rules)
     (λ c. fits (mass c.before.before) tt) (λ c. fits (lit (pos 9000000) ⊗ f0 c.before.before ⊕ mass c.before.before) tt)
-    (λ c. let s : tie.Start = search in from_i32_fits (small_i32 s.args.k.f1 (omega (arith, s.pre.f1_in))))
-    (λ c. let s : tie.Start = search in fits (lit (pos 9000) ⊗ f1 s) tt) (λ c. search needs) (λ c. let s : tie.Start = search in fits (square s) tt)
+    (λ c. let s : tie.Start = search in from_i32_fits (small_i32 s.args.k.f1 (omega (arith, s.requires.f1_in))))
+    (λ c. let s : tie.Start = search in fits (lit (pos 9000) ⊗ f1 s) tt) (λ c. search rules) (λ c. let s : tie.Start = search in fits (square s) tt)
     (λ c. let s : tie.Start = search in fits (v s ⊗ square s) tt) (λ c. let s : tie.Start = search in fits (inner s) tt)
     (λ c. let s : tie.Start = search in fits (v s ⊗ inner s) tt) (λ c. let s : tie.Start = search in fits (outer s) tt)
     (λ c. let s : tie.Start = search in fits (power s) tt) (λ c. let s : tie.Start = search in λ car C. read (power s) tt ∙ required_of C s.args.v

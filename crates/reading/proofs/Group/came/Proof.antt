@@ -4,5 +4,5 @@ use Rattle.reading.proofs.Group.came.Statement.{statement}
 use Rattle.reading.proofs.Group.came.Tie as tie
 
 pub came_spec : {M : Type 1} → statement M
-came_spec = let answers = tie.spec (λ c. search rules) (λ c. search rules) (λ c. rw c.before.self.given.1) (λ c. rw c.before.self2.given.1) in
+came_spec = let answers = tie.spec (λ c. search rules) (λ c. search rules) (λ c. rw c.in-Value.is) (λ c. rw c.in-Fault.is) in
     tie.close answers

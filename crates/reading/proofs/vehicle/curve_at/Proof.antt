@@ -1,34 +1,34 @@
 -- `reading::vehicle::curve_at` meets its contract: one law for each `return`.
-use Rattle.rules.proofs.Offered.{arith, needs}
+use Rattle.rules.proofs.Offered.{arith, rules}
 use Rattle.reading.proofs.GroupAnswers.{bounded_in}
 use Rattle.reading.proofs.StageAnswers.{curve_stops, curve_on}
 use Rattle.reading.proofs.vehicle.curve_at.Statement.{statement}
 use Rattle.reading.proofs.vehicle.curve_at.Tie as tie
 
-returns : tie.Need-returns
+returns : tie.Need-returns-in_default
 returns c =
-    let c₁ = c.before.before.before in
-    let g = c.before.enum_told.given.1 in
-    rw (c.came.ensures, g) (curve_stops _ _ _ (rw g at c₁.bounded.ensures))
+    let c₁ = c in
+    let g = c.in_default.is in
+    rw (c.came.ensures, g) (curve_stops _ _ _ (rw g at c₁.bounded-count.ensures))
 
-fill-points-requires : tie.Need-fill-points-requires
-fill-points-requires c κs =
-    let c₁ : tie.After-count = search in
-    let c₂ = c₁.before.before in
-    let b = bounded_in _ 2 64 3 11 _ (rw c₁.count.given.1 at c₂.bounded.ensures) in omega arith
+fill_points-requires : tie.Need-fill_points-end-requires
+fill_points-requires c κs =
+    let c₁ : tie.In-Value = search in
+    let c₂ = c₁ in
+    let b = bounded_in _ 2 64 3 11 _ (rw c₁.in-Value.is at c₂.bounded-count.ensures) in omega arith
 
-returns-2 : tie.Need-returns-2
+returns-2 : tie.Need-returns
 returns-2 c =
-    let at_count : tie.After-count = search in
-    let c₁ = c.before.before.before in
+    let at_count : tie.In-Value = search in
+    let c₁ = c in
     let c₂ = at_count in
-    let c₃ = c₂.before.before in
-    let last = c₁.fill-points.new.1.1.1.1 in
-    curve_on _ _ _ (rw c₂.count.given.1 at c₃.bounded.ensures) c₁.fill-points.result
-    (last.0, (last.1.0, last.1.1.0)) c₁.fill-points.ensures
+    let c₃ = c₂ in
+    let last = c₁.fill_points-end.new in
+    curve_on _ _ _ (rw c₂.in-Value.is at c₃.bounded-count.ensures) c₁.fill_points-end.result
+    (last.ns, (last.ps, last.ms)) c₁.fill_points-end.ensures
 
 pub curve_at_spec : {M : Type 1} → statement M
 curve_at_spec =
-    let answers = tie.spec (λ c κs. search needs) (λ c. search needs) (λ c. search needs) (λ c κs. search needs) returns
-    (λ c. search needs) (λ c. search needs) (λ c. search needs) (λ c. search needs) fill-points-requires returns-2 in
+    let answers = tie.spec (λ c κs. search rules) (λ c. search rules) (λ c. search rules) (λ c κs. search rules) returns
+    (λ c. search rules) (λ c. search rules) (λ c. search rules) (λ c. search rules) fill_points-requires returns-2 in
     tie.close answers

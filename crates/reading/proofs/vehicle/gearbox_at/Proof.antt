@@ -1,32 +1,32 @@
 -- `reading::vehicle::gearbox_at` meets its contract: one law for each `return`.
-use Rattle.rules.proofs.Offered.{◌+◌, arith, needs}
+use Rattle.rules.proofs.Offered.{◌+◌, arith, rules}
 use Rattle.reading.proofs.GroupAnswers.{bounded_in}
 use Rattle.reading.proofs.StageAnswers.{gearbox_stops, gearbox_on}
 use Rattle.reading.proofs.vehicle.gearbox_at.Statement.{statement}
 use Rattle.reading.proofs.vehicle.gearbox_at.Tie as tie
 
-returns : tie.Need-returns
+returns : tie.Need-returns-in_default
 returns c =
-    let c₁ = c.before.before.before in
-    let g = c.before.enum_told.given.1 in
-    rw (c.came.ensures, g) (gearbox_stops _ _ _ (rw g at c₁.bounded.ensures))
+    let c₁ = c in
+    let g = c.in_default.is in
+    rw (c.came.ensures, g) (gearbox_stops _ _ _ (rw g at c₁.bounded-count.ensures))
 
-fill-requires : tie.Need-fill-values-requires
+fill-requires : tie.Need-fill_values-end-requires
 fill-requires c κs =
-    let c₁ = c.before.before in
-    let c₂ = c₁.before.before in
-    let s = c₂.before.before in
-    let b = bounded_in _ (2 + s.args.profile) 10 3 1 _ (rw c₁.count.given.1 at c₂.bounded.ensures) in omega arith
+    let c₁ = c in
+    let c₂ = c₁ in
+    let s = c₂ in
+    let b = bounded_in _ (2 + s.args.profile) 10 3 1 _ (rw c₁.in-Value.is at c₂.bounded-count.ensures) in omega arith
 
-returns-2 : tie.Need-returns-2
+returns-2 : tie.Need-returns
 returns-2 c =
-    let c₁ : tie.After-count = search in
-    let c₂ = c₁.before.before in
-    gearbox_on _ _ _ (rw c₁.count.given.1 at c₂.bounded.ensures) c.before.fill-values.result
-    c.before.fill-values.new.1.1.1.0 c.before.fill-values.ensures
+    let c₁ : tie.In-Value = search in
+    let c₂ = c₁ in
+    gearbox_on _ _ _ (rw c₁.in-Value.is at c₂.bounded-count.ensures) c.fill_values-end.result
+    c.fill_values-end.new.values c.fill_values-end.ensures
 
 pub gearbox_at_spec : {M : Type 1} → statement M
 gearbox_at_spec =
-    let answers = tie.spec (λ c. search needs) (λ c κs. search needs) (λ c. search needs) (λ c. search needs) (λ c κs. search needs)
-    returns (λ c. search needs) (λ c. search needs) fill-requires returns-2 in
+    let answers = tie.spec (λ c. search rules) (λ c κs. search rules) (λ c. search rules) (λ c. search rules) (λ c κs. search rules)
+    returns (λ c. search rules) (λ c. search rules) fill-requires returns-2 in
     tie.close answers

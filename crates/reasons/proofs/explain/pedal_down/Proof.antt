@@ -5,4 +5,4 @@ use Rattle.reasons.proofs.explain.pedal_down.Tie as tie
 
 pub pedal_down_spec : {M : Type 1} → statement M
 unfolding pedal_down within ◌and◌
-pedal_down_spec = let answers = tie.spec (λ c. rw (lt-leb 1 _ c.if1.true)) (λ c. rw (le-leb 1 _ c.if1.false)) in tie.close answers
+pedal_down_spec = let answers = tie.spec (λ c. rw (lt-leb 1 _ c.if-reason-lt1.true)) (λ c. rw (le-leb 1 _ c.if-reason-lt1.false)) in tie.close answers

@@ -5,4 +5,4 @@ use Rattle.reasons.proofs.facts.both.Tie as tie
 
 pub both_spec : {M : Type 1} → statement M
 unfolding ◌and◌
-both_spec = let answers = tie.spec (λ c. rw c.if1.true) (λ c. rw c.if1.false) in tie.close answers
+both_spec = let answers = tie.spec (λ c. rw c.if-a.true) (λ c. rw c.if-a.false) in tie.close answers

@@ -5,4 +5,4 @@ use Rattle.reasons.proofs.facts.minimum_role.Tie as tie
 
 pub minimum_role_spec : {M : Type 1} → statement M
 unfolding minimum_role
-minimum_role_spec = let answers = tie.spec (λ c. rw c.if1.true) (λ c. rw c.if1.false) in tie.close answers
+minimum_role_spec = let answers = tie.spec (λ c. rw c.if-closes.true) (λ c. rw c.if-closes.false) in tie.close answers

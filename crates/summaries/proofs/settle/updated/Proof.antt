@@ -7,6 +7,6 @@ use Rattle.summaries.proofs.settle.updated.Tie as tie
 pub updated_spec : {M : Type 1} → statement M
 updated_spec =
     let answers = tie.spec (λ c κs. search rules) (λ c. search rules) (λ c. search rules) (λ c κs. search rules) (λ c κs. search rules)
-    (λ c. let at-settled-gears : tie.After-settled-gears = search in
-    updated_is _ _ _ c.before.settled.ensures at-settled-gears.settled-gears.ensures c.settled2.ensures) in
+    (λ c. let at_settled_gears : tie.After-settled_gears-gears = search in
+    updated_is _ _ _ c.settled.ensures at_settled_gears.settled_gears-gears.ensures c.settled-2.ensures) in
     tie.close answers

@@ -4,4 +4,4 @@ use Rattle.summaries.proofs.stretch.shift.Statement.{statement}
 use Rattle.summaries.proofs.stretch.shift.Tie as tie
 
 pub shift_spec : {M : Type 1} → statement M
-shift_spec = let answers = tie.spec (λ c. rw (eq-eqb _ _ c.if1.true)) (λ c. rw (ne_eqb _ _ c.if1.false)) in tie.close answers
+shift_spec = let answers = tie.spec (λ c. rw (eq-eqb _ _ c.if-a-b.true)) (λ c. rw (ne_eqb _ _ c.if-a-b.false)) in tie.close answers

@@ -6,38 +6,38 @@ use Rattle.trips.proofs.Along.{Along, along_short, along_start, along_more, alon
 use Rattle.trips.proofs.rising.pass_b.Statement.{statement}
 use Rattle.trips.proofs.rising.pass_b.Tie as tie
 
-abbrev invariant-loop : tie.invariant-loop
+abbrev invariant-loop : tie.invariant-loop-j
 invariant-loop k ratio us hs gs₀ j₀ last₀ gs j last = Along rising k ratio us hs gs₀ gs j last
 
-abbrev decreases-loop : tie.decreases-loop
+abbrev decreases-loop : tie.decreases-loop-j
 decreases-loop k ratio us hs gs₀ j₀ last₀ gs j last = length gs - j
 
-risen-requires : tie.Need-risen-requires invariant-loop decreases-loop
+risen-requires : tie.Need-risen-last-requires invariant-loop decreases-loop
 risen-requires c κs =
-    let l : tie.At-loop invariant-loop decreases-loop = search in
+    let l : tie.At-loop-j invariant-loop decreases-loop = search in
     let s : tie.Start invariant-loop decreases-loop = search in
-    let along = l.loop.inv in
-    let inside : TripSecond s.args.us.now s.args.hs.now l.loop.j = record
-    { speeds = s.pre.1.speeds; inside = omega (arith, c, along.size, s.pre.1.gears) } in
-    (s.pre.0, inside, along.later, along.later.from, omega (arith, c))
+    let along = l.loop-j.invariant in
+    let inside : TripSecond s.args.us.now s.args.hs.now l.loop-j.j = record
+    { speeds = s.requires.1.speeds; inside = omega (arith, c, along.size, s.requires.1.gears) } in
+    (s.requires.0, inside, along.later, along.later.from, omega (arith, c))
 
-loop-again : tie.Need-loop-preserved invariant-loop decreases-loop
+loop-again : tie.Need-loop-j-preserved invariant-loop decreases-loop
 loop-again c =
-    let at-loop : tie.At-loop invariant-loop decreases-loop = search in
-    let l = at-loop.loop in
-    along_more l.inv (omega (arith, c)) (λ car H. rw (rising_is car _ _ l.j l.gs) (c.risen.ensures car H)) (omega (arith, c))
+    let at_loop : tie.At-loop-j invariant-loop decreases-loop = search in
+    let l = at_loop.loop-j in
+    along_more l.invariant (omega (arith, c)) (λ car H. rw (rising_is car _ _ l.j l.gs) (c.risen-last.ensures car H)) (omega (arith, c))
 
-returns-2 : tie.Need-returns-2 invariant-loop decreases-loop
-returns-2 c = let s : tie.Start invariant-loop decreases-loop = search in along_end c.before.loop.invariant (omega arith) s.pre.1.gears
+returns-2 : tie.Need-returns invariant-loop decreases-loop
+returns-2 c = let s : tie.Start invariant-loop decreases-loop = search in along_end c.loop-j.invariant (omega arith) s.requires.1.gears
 
-returns : tie.Need-returns invariant-loop decreases-loop
+returns : tie.Need-returns-then-gs-lt2 invariant-loop decreases-loop
 returns c =
     let s : tie.Start invariant-loop decreases-loop = search in
-    λ car H. along_short rising-first s.args.us.now s.args.hs.now s.args.gs.now (omega arith) s.pre.1.gears car
+    λ car H. along_short rising-first s.args.us.now s.args.hs.now s.args.gs.now (omega arith) s.requires.1.gears car
 
 pub pass_b_spec : {M : Type 1} → statement M
 pass_b_spec =
     let answers = tie.spec invariant-loop decreases-loop returns
     (λ c. omega arith) (λ c. along_start rising-first (omega arith)) (λ c. omega arith) risen-requires (λ c. omega arith) (λ c. omega arith)
-    (λ c. simp length-set (omega arith)) loop-again (λ c. c.before.loop.invariant.size) returns-2 in
+    (λ c. simp length-set (omega arith)) loop-again (λ c. c.loop-j.invariant.size) returns-2 in
     tie.close answers

@@ -13,7 +13,7 @@ sum z h = small_i32 (z +ℤ pos 5000) (omega (arith, (shifted z h).1))
 at_least : (n : ℕ) (z : ℤ) → pos n ≡ z → T (non_neg z)
 at_least n z e = rw (← e) tt
 
-cast-result : tie.Need-overflow-cast-result
+cast-result : tie.Need-overflow_cast-result
 cast-result c = rw (to_z-of_z (small c.args.f1 c.requires), to_z-of_z (sum c.args.f1 c.requires))
     (at_least _ _ (shifted c.args.f1 c.requires).0, omega (arith, (shifted c.args.f1 c.requires).1))
 

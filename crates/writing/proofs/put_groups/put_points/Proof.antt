@@ -1,93 +1,93 @@
 -- `writing::put_groups::put_points` meets its contract. The loop's invariant: the bytes of the points that are left, put from here, make all.
-use Rattle.rules.proofs.Offered.{suc, ◌+◌, ◌-◌, ◌≤◌, arith, add-one, ◌++◌, needs, form, at, points_of}
+use Rattle.rules.proofs.Offered.{suc, ◌-◌, ◌≤◌, arith, add-one, ◌++◌, rules, form, at, points_of}
 use Rattle.writing.specs.Writing.{margin, points_bytes}
 use Rattle.reading.proofs.PutInTurn.{LeftToPut, fewer_left, has_space, none_left, said_as}
 use Rattle.writing.proofs.BytesLeft.{points_left, points_more, points_none, points_begin}
 use Rattle.writing.proofs.put_groups.put_points.Statement.{statement}
 use Rattle.writing.proofs.put_groups.put_points.Tie as tie
 
-abbrev invariant-loop : tie.invariant-loop
+abbrev invariant-loop : tie.invariant-loop-i
 invariant-loop room₀ at version count ns ps ms next₀ i₀ room next i =
     (i ≤ count) × LeftToPut room₀ at (points_bytes version (points_of count ns ps ms)) room next (points_left version ns ps ms count i)
 
-abbrev decreases-loop : tie.decreases-loop
+abbrev decreases-loop : tie.decreases-loop-i
 decreases-loop room₀ at version count ns ps ms next₀ i₀ room next i = count - i
 
-loop-holds : tie.Need-loop-init invariant-loop decreases-loop
+loop-holds : tie.Need-loop-i-init invariant-loop decreases-loop
 loop-holds c =
     let s : tie.Start invariant-loop decreases-loop = search in (
       omega arith,
       points_begin s.args.version s.args.room.now s.args.at s.args.ns.now s.args.ps.now s.args.ms.now s.args.count
-          s.pre.3,
+          s.requires.3,
     )
 
-put-group-requires : tie.Need-put-group-requires invariant-loop decreases-loop
-put-group-requires c κs =
+put_group-requires : tie.Need-put_group-then-requires invariant-loop decreases-loop
+put_group-requires c κs =
     let start : tie.Start invariant-loop decreases-loop = search in
-    let c₀ = c.before.before.before in
+    let c₀ = c in
     let s = start in
-    let l = said_as (points_more s.args.version s.args.ns.now s.args.ps.now s.args.ms.now s.args.count c₀.loop.i (omega arith))
-    c₀.loop.invariant.1 in
+    let l = said_as (points_more s.args.version s.args.ns.now s.args.ps.now s.args.ms.now s.args.count c₀.loop-i.i (omega arith))
+    c₀.loop-i.invariant.1 in
     omega (
       arith,
-      has_space (form (at s.args.ns.now c₀.loop.i))
-          (form (at s.args.ps.now c₀.loop.i) ++
-          ((margin s.args.version).write (at s.args.ms.now c₀.loop.i) ++ points_left s.args.version s.args.ns.now s.args.ps.now
-          s.args.ms.now s.args.count (suc c₀.loop.i))) l,
+      has_space (form (at s.args.ns.now c₀.loop-i.i))
+          (form (at s.args.ps.now c₀.loop-i.i) ++
+          ((margin s.args.version).write (at s.args.ms.now c₀.loop-i.i) ++ points_left s.args.version s.args.ns.now s.args.ps.now
+          s.args.ms.now s.args.count (suc c₀.loop-i.i))) l,
     )
 
-put-group-requires-2 : tie.Need-put-group-requires-2 invariant-loop decreases-loop
-put-group-requires-2 c κs =
-    let at-put-group : tie.After-put-group invariant-loop decreases-loop = search in
-    let c₀ : tie.At-loop invariant-loop decreases-loop = search in
+put_group-requires-2 : tie.Need-put_group-last-requires invariant-loop decreases-loop
+put_group-requires-2 c κs =
+    let at_put_group : tie.After-put_group-then invariant-loop decreases-loop = search in
+    let c₀ : tie.At-loop-i invariant-loop decreases-loop = search in
     let s : tie.Start invariant-loop decreases-loop = search in
-    let l = said_as (points_more s.args.version s.args.ns.now s.args.ps.now s.args.ms.now s.args.count c₀.loop.i (omega arith))
-    c₀.loop.inv.1 in
+    let l = said_as (points_more s.args.version s.args.ns.now s.args.ps.now s.args.ms.now s.args.count c₀.loop-i.i (omega arith))
+    c₀.loop-i.invariant.1 in
     omega (
       arith,
-      has_space (form (at s.args.ps.now c₀.loop.i))
-          ((margin s.args.version).write (at s.args.ms.now c₀.loop.i) ++ points_left s.args.version s.args.ns.now s.args.ps.now
-          s.args.ms.now s.args.count (suc c₀.loop.i)) (fewer_left l at-put-group.put-group.ensures),
+      has_space (form (at s.args.ps.now c₀.loop-i.i))
+          ((margin s.args.version).write (at s.args.ms.now c₀.loop-i.i) ++ points_left s.args.version s.args.ns.now s.args.ps.now
+          s.args.ms.now s.args.count (suc c₀.loop-i.i)) (fewer_left l at_put_group.put_group-then.ensures),
     )
 
-put-since-requires : tie.Need-put-since-requires invariant-loop decreases-loop
-put-since-requires c κs =
-    let at-put-group2 : tie.After-put-group2 invariant-loop decreases-loop = search in
-    let at-put-group : tie.After-put-group invariant-loop decreases-loop = search in
-    let c₀ : tie.At-loop invariant-loop decreases-loop = search in
+put_since-requires : tie.Need-put_since-next-requires invariant-loop decreases-loop
+put_since-requires c κs =
+    let at_put_group2 : tie.After-put_group-last invariant-loop decreases-loop = search in
+    let at_put_group : tie.After-put_group-then invariant-loop decreases-loop = search in
+    let c₀ : tie.At-loop-i invariant-loop decreases-loop = search in
     let s : tie.Start invariant-loop decreases-loop = search in
-    let l = said_as (points_more s.args.version s.args.ns.now s.args.ps.now s.args.ms.now s.args.count c₀.loop.i (omega arith))
-    c₀.loop.inv.1 in
+    let l = said_as (points_more s.args.version s.args.ns.now s.args.ps.now s.args.ms.now s.args.count c₀.loop-i.i (omega arith))
+    c₀.loop-i.invariant.1 in
     omega (
       arith,
-      has_space ((margin s.args.version).write (at s.args.ms.now c₀.loop.i))
-          (points_left s.args.version s.args.ns.now s.args.ps.now s.args.ms.now s.args.count (suc c₀.loop.i))
-          (fewer_left (fewer_left l at-put-group.put-group.ensures) at-put-group2.put-group2.ensures),
+      has_space ((margin s.args.version).write (at s.args.ms.now c₀.loop-i.i))
+          (points_left s.args.version s.args.ns.now s.args.ps.now s.args.ms.now s.args.count (suc c₀.loop-i.i))
+          (fewer_left (fewer_left l at_put_group.put_group-then.ensures) at_put_group2.put_group-last.ensures),
     )
 
-loop-again : tie.Need-loop-preserved invariant-loop decreases-loop
+loop-again : tie.Need-loop-i-preserved invariant-loop decreases-loop
 loop-again c =
-    let at-put-group2 : tie.After-put-group2 invariant-loop decreases-loop = search in
-    let at-put-group : tie.After-put-group invariant-loop decreases-loop = search in
-    let in-loop : tie.In-loop invariant-loop decreases-loop = search in
-    let c₀ : tie.At-loop invariant-loop decreases-loop = search in
+    let at_put_group2 : tie.After-put_group-last invariant-loop decreases-loop = search in
+    let at_put_group : tie.After-put_group-then invariant-loop decreases-loop = search in
+    let in_loop : tie.In-loop-i invariant-loop decreases-loop = search in
+    let c₀ : tie.At-loop-i invariant-loop decreases-loop = search in
     let s : tie.Start invariant-loop decreases-loop = search in
-    let l = said_as (points_more s.args.version s.args.ns.now s.args.ps.now s.args.ms.now s.args.count c₀.loop.i
-    (omega (arith, in-loop.loop-test))) c₀.loop.inv.1 in (
-      omega (arith, in-loop.loop-test),
-      rw add-one (fewer_left (fewer_left (fewer_left l at-put-group.put-group.ensures) at-put-group2.put-group2.ensures)
-          c.before.before.put-since.ensures),
+    let l = said_as (points_more s.args.version s.args.ns.now s.args.ps.now s.args.ms.now s.args.count c₀.loop-i.i
+    (omega (arith, in_loop.loop-i-test))) c₀.loop-i.invariant.1 in (
+      omega (arith, in_loop.loop-i-test),
+      rw add-one (fewer_left (fewer_left (fewer_left l at_put_group.put_group-then.ensures) at_put_group2.put_group-last.ensures)
+          c.put_since-next.ensures),
     )
 
 returns : tie.Need-returns invariant-loop decreases-loop
 returns c =
     let s : tie.Start invariant-loop decreases-loop = search in
-    none_left (said_as (points_none s.args.version s.args.ns.now s.args.ps.now s.args.ms.now s.args.count c.before.loop.i
-    (omega arith)) c.before.loop.invariant.1)
+    none_left (said_as (points_none s.args.version s.args.ns.now s.args.ps.now s.args.ms.now s.args.count c.loop-i.i
+    (omega arith)) c.loop-i.invariant.1)
 
 pub put_points_spec : {M : Type 1} → statement M
 put_points_spec =
-    let answers = tie.spec invariant-loop decreases-loop loop-holds (λ c. search needs) (λ c. search needs) put-group-requires (λ c. search needs)
-    (λ c. search needs) put-group-requires-2 (λ c. search needs) (λ c. search needs) put-since-requires
-    (λ c. search needs) (λ c. search needs) loop-again (λ c. search needs) returns in
+    let answers = tie.spec invariant-loop decreases-loop loop-holds (λ c. search rules) (λ c. search rules) put_group-requires (λ c. search rules)
+    (λ c. search rules) put_group-requires-2 (λ c. search rules) (λ c. search rules) put_since-requires
+    (λ c. search rules) (λ c. search rules) loop-again (λ c. search rules) returns in
     tie.close answers

@@ -1,5 +1,5 @@
 -- `writing::put_groups::put_short` meets its contract: at each `return` the form is known, and its bytes were put one after another.
-use Rattle.rules.proofs.Offered.{ℕ, ◌≤◌, ◌<◌, arith, ◌≡◌, ap, length, needs, form, form-one, form_two, form_size}
+use Rattle.rules.proofs.Offered.{ℕ, ◌≤◌, ◌<◌, arith, ◌≡◌, ap, length, rules, form, form-one, form_two, form_size}
 use Rattle.reading.proofs.PutInTurn.{put_both}
 use Rattle.writing.proofs.put_groups.put_short.Statement.{statement}
 use Rattle.writing.proofs.put_groups.put_short.Tie as tie
@@ -7,19 +7,19 @@ use Rattle.writing.proofs.put_groups.put_short.Tie as tie
 two : (v : ℕ) → 128 ≤ v → v < 16384 → length (form v) ≡ 2
 two v h k = ap length (form_two v h k)
 
-returns-2 : tie.Need-returns-2
+returns-2 : tie.Need-returns
 returns-2 c =
-    let at-put-byte2 : tie.After-put-byte2 = search in
+    let at_put_byte2 : tie.After-put_byte-second = search in
     let start : tie.Start = search in
-    rw (form_two start.args.v (omega arith) (omega arith)) (put_both at-put-byte2.put-byte2.ensures c.before.before.put-byte3.ensures)
+    rw (form_two start.args.v (omega arith) (omega arith)) (put_both at_put_byte2.put_byte-second.ensures c.put_byte-2.ensures)
 
 pub put_short_spec : {M : Type 1} → statement M
 put_short_spec =
-    let answers = tie.spec (λ c. search needs)
-    (λ c κs. omega (arith, (form_size c.before.before.before.args.v).0))
-    (λ c. search needs) (λ c. let start : tie.Start = search in rw (form-one start.args.v (omega arith)) c.before.before.put_byte.ensures)
-    (λ c. search needs) (λ c. search needs)
-    (λ c κs. omega (arith, (form_size c.before.before.before.args.v).0))
-    (λ c. search needs) (λ c κs. let start : tie.Start = search in omega (arith, two start.args.v (omega arith) (omega arith)))
-    (λ c. search needs) returns-2 in
+    let answers = tie.spec (λ c. search rules)
+    (λ c κs. omega (arith, (form_size c.args.v).0))
+    (λ c. search rules) (λ c. let start : tie.Start = search in rw (form-one start.args.v (omega arith)) c.put_byte.ensures)
+    (λ c. search rules) (λ c. search rules)
+    (λ c κs. omega (arith, (form_size c.args.v).0))
+    (λ c. search rules) (λ c κs. let start : tie.Start = search in omega (arith, two start.args.v (omega arith) (omega arith)))
+    (λ c. search rules) returns-2 in
     tie.close answers

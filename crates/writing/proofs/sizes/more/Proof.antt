@@ -5,6 +5,6 @@ use Rattle.writing.proofs.sizes.more.Tie as tie
 
 pub more_spec : {M : Type 1} → statement M
 more_spec =
-    let answers = tie.spec (λ c. rw (form-one c.before.args.v (omega arith))) (λ c. rw (form_two c.before.before.args.v (omega arith) (omega arith)))
-    (λ c. rw (form_three c.before.before.args.v (omega arith))) in
+    let answers = tie.spec (λ c. rw (form-one c.args.v (omega arith))) (λ c. rw (form_two c.args.v (omega arith) (omega arith)))
+    (λ c. rw (form_three c.args.v (omega arith))) in
     tie.close answers

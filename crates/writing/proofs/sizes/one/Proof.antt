@@ -6,5 +6,5 @@ use Rattle.writing.proofs.sizes.one.Tie as tie
 
 pub one_spec : {M : Type 1} → statement M
 unfolding held_one
-one_spec = let answers = tie.spec (λ c. rw (eq-eqb c.before.args.gear 0 c.if1.true)) (λ c. rw (ne_eqb c.before.args.gear 0 c.if1.false)) in
+one_spec = let answers = tie.spec (λ c. rw (eq-eqb c.args.gear 0 c.if-gear-eq0.true)) (λ c. rw (ne_eqb c.args.gear 0 c.if-gear-eq0.false)) in
     tie.close answers
