@@ -260,18 +260,18 @@ struct gearcard_coefficients gearcard_export(const uint8_t *bytes, size_t length
 /* Bytes of stack that a call takes below its arguments and its return address, on x86-64: the most that was measured over the benchmark's inputs and 6,000
    random cars and traces, of up to 16,384 seconds (./bench --stack).
 
-     gearcard_read        1,832
+     gearcard_read        2,008
      gearcard_write       1,232
-     gearcard_work        1,808
-     gearcard_summary_of     56
-     gearcard_hold        2,336
-     gearcard_release     2,336
-     gearcard_mend        2,336
-     gearcard_why        18,832
-     gearcard_cycle          32
+     gearcard_work        1,680
+     gearcard_summary_of     88
+     gearcard_hold        2,128
+     gearcard_release     2,128
+     gearcard_mend        2,128
+     gearcard_why        19,696
+     gearcard_cycle           0
      gearcard_cycle_part      0
-     gearcard_downscale      64
-     gearcard_export        352 */
+     gearcard_downscale       0
+     gearcard_export        272 */
 
 #ifdef __cplusplus
 }

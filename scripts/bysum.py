@@ -18,7 +18,7 @@ PROVED = re.compile(r"^logic=proved", re.M)
 THEOREM = re.compile(r"^(?:pub )?([\w-]+) : sums (\S+) ≡ papers \2\nunfolding (.*(?:\n +.*)*)\n\1 = refl\n", re.M)
 
 
-def write(crate: Path, where: Path, changed: dict[str, str], right: str) -> None:
+def write(crate: Path, where: Path, changed: dict[str, str], right: bool) -> None:
     """The crate cut down, with another theorem: that it is true, or false, that all rows are right."""
     cut.write(crate, ROOTS, where, changed)
     file = where / TABLE
@@ -26,11 +26,11 @@ def write(crate: Path, where: Path, changed: dict[str, str], right: str) -> None
     found = THEOREM.findall(text)
     if not found:
         raise ValueError(f"{crate.name} has no table of sums")
-    rows = "Rattle·rules·proofs.proofs" if crate.name == "rules" else "Rattle·rules.proofs"
-    text = re.sub(r"^use ", f"use {rows}.Cases.Rows.{{all-right, right, same, written}}\nuse ", THEOREM.sub("", text), count=1, flags=re.M)
+    taken = "use Rattle.rules.proofs.Cases.Rows.{all_right, right, same, written}\nuse mathlib.Core.Bool.{true as each_row_right, false as some_row_wrong}\n"
+    text = re.sub(r"^use ", f"{taken}use ", THEOREM.sub("", text), count=1, flags=re.M)
     tables = " ∷ ".join([*(table for _, table, _ in found), "[]"])
-    opened = " ".join(dict.fromkeys(" ".join([*(names for _, _, names in found), "all-right right same written"]).split()))
-    file.write_text(f"{text}\nrows-are : all-right ({tables}) ≡ mathlib.Core.Bool.{right}\nunfolding {opened}\nrows-are = refl\n")
+    opened = " ".join(dict.fromkeys(" ".join([*(names for _, _, names in found), "all_right right same written"]).split()))
+    file.write_text(f"{text}\nrows_are : all_right ({tables}) ≡ {'each_row_right' if right else 'some_row_wrong'}\nunfolding {opened}\nrows_are = refl\n")
 
 
 def has_table(crate: Path) -> bool:
@@ -38,7 +38,7 @@ def has_table(crate: Path) -> bool:
 
 
 def verdict(run: judge.Run) -> judge.Verdict:
-    """On an edit, checked with `false`; on the crate as it is, checked with `true`."""
+    """On an edit, checked with False; on the crate as it is, checked with True."""
     if run.status == 0 and PROVED.search(run.log):
         return judge.Verdict(True, f"a row of {TABLE} is not the paper's")
     first = next(iter(judge.errors(run)), None)

@@ -9,15 +9,22 @@ from pathlib import Path
 
 import edits
 
-USE = re.compile(r"^(?:pub )?(?:unfoldable )?use Rattle·(\w+)·proofs\.proofs\.([^\s{]+)", re.M)
+USE = re.compile(r"^(?:pub )?(?:unfoldable )?use Rattle\.(\w+)\.proofs\.([^\s{]+)", re.M)
 CHILD = re.compile(r"^(?:pub )?mod (\w+)$", re.M)
+TAKEN = re.compile(r"^((?:pub )?use \S*::)(?:(\w+)|\{([^{}]*)\});\n", re.M)
+
+
+def _types(taken: re.Match[str]) -> str:
+    """What is taken from a module, without its functions: a type or a constant has a capital."""
+    names = [name for name in re.findall(r"\w+", taken[2] or taken[3]) if re.search("[A-Z]", name)]
+    return f"{taken[1]}{{{', '.join(names)}}};\n" if len(names) > 1 else f"{taken[1]}{names[0]};\n" if names else ""
 
 
 def bare(text: str) -> str:
     """A source without its functions, and without what it takes from other modules but types and constants."""
     text = edits.FUNCTION.sub("", text)
     text = re.sub(r"^impl \w+ \{\n(?:\s*(?://.*)?\n)*\}\n", "", text, flags=re.M)
-    return re.sub(r"^(?:pub )?use \S*::[a-z_0-9]+;\n", "", text, flags=re.M)
+    return TAKEN.sub(_types, text)
 
 
 def _named(proofs: Path, crate: str, module: str) -> list[str]:

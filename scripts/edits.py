@@ -113,11 +113,13 @@ def function_of(edit: Edit, crate: Path) -> str | None:
 # ---------------------------------------------------------------- what it is an edit of
 
 # A clause that says nothing: both sides are one.
-EMPTY = re.compile(r"(?:(?:pub )?\w[\w′-]* : )?(.+) ≡ \1")
+EMPTY = re.compile(r"(?:(?:pub )?\w[\w'-]* : )?(.+) ≡ \1")
+# A clause that asks something of the caller, with or without a name.
+ASKS = re.compile(r"\brequires (?:\w+ )?\{")
 
 
 def _of_contract(pair: Pair) -> bool:
-    return bool(EMPTY.fullmatch(pair.new.strip())) or "requires {" in pair.new or pair.old.startswith("ghost ")
+    return bool(EMPTY.fullmatch(pair.new.strip())) or bool(ASKS.search(pair.new)) or pair.old.startswith("ghost ")
 
 
 def kind(edit: Edit, crate: Path) -> str:

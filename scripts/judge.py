@@ -16,15 +16,22 @@ from pathlib import Path
 REFUSED = re.compile(r"^logic=not-proved", re.M)
 
 # Said of whatever rests on a declaration that was refused.
-KNOCK_ON = re.compile(r"was not admitted\b")
+KNOCK_ON = re.compile(r"was not admitted\b|declarations? that depends? on .* was not checked|declarations? that depends? on .* were not checked")
 
-# An answer inlined into its function's theorem says `F-spec` where it stands at another need's place; κs is what the answers to a call's needs bind.
+# An answer inlined into its function's theorem says `F_spec` where it stands at another need's place; κs is what the answers to a call's needs bind; `Lts` has
+# what is known at a place of the code.
 # Of a name in a term that it shows antt says that it "is not in scope here, so what is shown does not paste back": that is advice.
 UNFIT = re.compile(
     r"has no (field )?`|can be named from here|is not in scope(?! here)|is in a cycle of calls|λ has \d+ binders|has \d+ arguments|`rw`: no occurrence"
-    r"|`[^` ]*-spec`: .*expected type `([^` ]*\.)?[Tt]ie\.Need-|on the face `κs = |expected type `([^` ]*\.)?[Tt]ie\.(Need|After)-"
+    r"|`[^` ]*_spec`: .*expected type `([^` ]*\.)?[Tt]ie\.Need-|on the face `κs = |expected type `([^` ]*\.)?[Tt]ie\.((Need|After)-|Start\b)"
 )
-GAVE_UP = re.compile(r"step limit|broke off|no proof of `([^` ]*\.)?[Tt]ie\.After-|`search` does not close")
+GAVE_UP = re.compile(r"step limit|broke off|no proof of `([^` ]*\.)?[Tt]ie\.After-|`search` did not prove")
+
+# What the numbers are at which a goal fails, which `omega` tells: of a declaration that has its goal as its type, that is a fact whatever else does not fit.
+COUNTERED = re.compile(r"All of that holds, and the (goal|part) fails, at ")
+
+# A goal without an answer that the check itself finds false, by values that it has tried.
+FALSE = re.compile(r"^note: \S+: it is not proved that .*\(`([^`]+)`\); the facts known there allow values at which this goal is false", re.M)
 
 # Where the demands on contracts stand: that each allows one outcome, that none asks anything of its caller, and what it says.
 DEMANDS = ("proofs/Determined.antt", "proofs/Demands.antt", "proofs/Contracts.antt")
@@ -84,13 +91,13 @@ def errors(run: Run) -> list[Error]:
 def _error(line: str, folder: str) -> Error | None:
     if match := re.match(r"(/.+?)((?::\d+:\d+)?): (error(?:\[[\w-]+\])?: .*)", line):
         return Error(match[1].removeprefix(folder + "/") + match[2], match[3])
-    if match := re.match(r"fn (\w+)::(\S+): (no proof: .*`search` does not close .*)", line):
-        return Error(_proof(match[2].replace("::", "/")), match[3])
+    if match := re.match(r"fn (\w+)::(\S+): (no proof: .*`search` did not prove .*)", line):
+        return Error(f"proofs/{match[2].replace('::', '/')}/Proof.antt", match[3])
     return None
 
 
-def _proof(function: str) -> str:
-    return f"proofs/{function}/Proof.antt"
+def _of_proof(error: Error, function: str) -> bool:
+    return error.file in [f"proofs/{function}/{name}.antt" for name in ("Proof", "Answers", "Invariants")]
 
 
 def no_fact(error: Error) -> str | None:
@@ -116,15 +123,32 @@ def unheard(run: Run) -> str | None:
     return next((f"{no_fact(error)}: {error.short(600)}" for error in errors(run) if not error.place.startswith("proofs/")), None)
 
 
+def proved(run: Run) -> Verdict:
+    """Of the crate as it is."""
+    lines = run.log.strip().splitlines() or [""]
+    return Verdict(run.status == 0 and lines[-1].startswith("logic=proved "), next((error.short(300) for error in errors(run)), lines[-1][:300]))
+
+
+def false_goals(run: Run, function: str) -> list[str]:
+    """The goals of a function, which has no answer to them, that the check finds false."""
+    left = re.search(rf"^fn \w+::{re.escape(function.replace('/', '::'))}: no proof: .*`search` did not prove (.*)", run.log, re.M)
+    return [goal for goal in FALSE.findall(run.log) if left and f"`{goal}`" in left[1]]
+
+
 def refused(run: Run, function: str | None) -> Verdict:
-    """On an edit of code, of that function's body where one is named: the first error of what was edited must be a fact. What a callee asks for does not count:
-    its answer is of the argument that stood there."""
+    """On an edit of code, of that function's body where one is named: the first error of what was edited must be a fact, or one of them one with the numbers at
+    which its goal fails; or a goal that needed no answer is false. What a callee asks for does not count: its answer is of the argument that stood there."""
     if why := unheard(run):
         return Verdict(False, why)
-    found = [error for error in errors(run) if function is None or error.file == _proof(function)]
-    found = [error for error in found if not error.declaration.endswith("-requires")]
+    if function and (goals := false_goals(run, function)):
+        return Verdict(True, f"refused: {function}: `{goals[0]}`: the facts known there allow values at which this goal is false")
+    found = [error for error in errors(run) if function is None or _of_proof(error, function)]
+    found = [error for error in found if not re.search(r"-requires(-\d+)?$", error.declaration)]
     if not found:
         return Verdict(False, "refused, and no error of what was edited is found")
+    countered = [error for error in found if COUNTERED.search(error.message) and not error.declaration.endswith("_spec")]
+    if no_fact(found[0]) and countered:
+        found = countered
     why = no_fact(found[0])
     return Verdict(why is None, f"{why or 'refused'}: {found[0].short(160 if why is None else 600)}")
 
@@ -144,7 +168,7 @@ def demand(run: Run, crate: Path, function: str | None, others: set[str]) -> Ver
 
 def functions_read(text: str, name: str) -> set[str]:
     """The functions whose contracts the type of a declaration reads."""
-    named = re.findall(r"^use Rattle·\w+·proofs\.proofs\.(\S+)\.(?:Kinds|Reads) as (\S+)$", text, re.M)
+    named = re.findall(r"^use Rattle\.\w+\.proofs\.(\S+)\.(?:Kinds|Reads) as (\S+)$", text, re.M)
     aliases = {alias: path.replace(".", "/") for path, alias in named}
     declared = re.search(rf"^(?:pub )?{re.escape(name)} :.*?^(?={re.escape(name)}\b)", text, re.M | re.S)
     return {path for alias, path in aliases.items() if declared and f"{alias}." in declared[0]}

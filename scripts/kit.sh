@@ -50,28 +50,26 @@ remember() {
   [ "$2" -eq 0 ] || { mkdir -p "${file%/*}" && printf '%d\n' "$2" >"$file"; } 2>/dev/null || true
 }
 
-# progress CRATE LOG [EXPECTED]: how far rt is with CRATE and the crates below it, by what it has printed, and of a first run how long it will take. A crate
-# is being proved when all below it are.
+# progress CRATE LOG [EXPECTED]: how far rt is with CRATE and the crates below it, by what it has printed, and of a first run how long it will take. rt proves
+# one crate after the other, the lowest first, and names each as it begins; what it finds built it passes over.
 progress() {
   awk -v crate="$1" -v seconds="$SECONDS" -v expected="${3-}" '
-    function visit(name,   below, n, k, waits) {
+    function visit(name,   below, n, k) {
       if (name in seen) return
       seen[name]
-      all++
       n = split(uses[name], below, " ")
-      for (k = 1; k <= n; k++) if (below[k] in uses) {
-        visit(below[k])
-        if (!(below[k] in proved)) waits = 1
-      }
-      if (name in proved) done++
-      else if (!waits) now = now (now == "" ? "proving " : ", ") name
+      for (k = 1; k <= n; k++) if (below[k] in uses) visit(below[k])
+      order[++all] = name
     }
-    /^#/ { next }
-    FILENAME == ARGV[1] { name = $1; sub(/:$/, "", name); $1 = ""; uses[name] = $0; next }
-    /^rt: [^ ]+ proved/ { proved[$2] }
+    FILENAME == ARGV[1] { sub(/#.*/, ""); if (split($0, half, ":") == 2) { split(half[1], head, " "); uses[head[1]] = half[2] } next }
+    /^rt: chose --jobs [0-9]+ for / { begun = $NF }
+    /^crate [^ ]+: modules / { read = substr($2, 1, length($2) - 1) }
+    /^logic=proved / { proved[read] }
     END {
       visit(crate)
-      printf "%s: %d of %d proved, ", now == "" ? "building " crate : now, done, all
+      if (begun in seen) for (k = 1; order[k] != begun; k++) proved[order[k]]
+      for (k = 1; k <= all; k++) if (order[k] in proved) done++; else if (now == "") now = order[k]
+      printf "%s: %d of %d proved, ", now == "" ? "building " crate : "proving " now, done, all
       if (seconds >= 60) printf "%d min ", seconds / 60
       printf "%d s", seconds % 60
       if (expected != "") printf " of about %s", expected
@@ -94,13 +92,32 @@ show_progress() {
   printf '\r\033[K' >&2
 }
 
-# prove CRATE [WORD..]: rt check CRATE, then rt's words, which find it proved; rt check proves crates beside each other, its other words do not. What rt
-# prints is shown only where it fails. In a subshell, so that the trap is its own.
+# below CRATE: the crates below it, each on a line.
+below() {
+  awk -v crate="$1" '
+    { sub(/#.*/, ""); if (split($0, half, ":") == 2) { split(half[1], head, " "); uses[head[1]] = half[2] } }
+    END {
+      todo[1] = crate; n = 1
+      for (i = 1; i <= n; i++) {
+        count = split(uses[todo[i]], each, " ")
+        for (k = 1; k <= count; k++) if (each[k] in uses && !(each[k] in seen)) { seen[each[k]]; todo[++n] = each[k]; print each[k] }
+      }
+    }' "$top/crates.txt"
+}
+
+# ready CRATE: the libraries below it stand there, built since any crate changed: as rt ci leaves them.
+ready() {
+  local name
+  for name in $(below "$1"); do current "$top/crates/$name/out/rlib/$name.rlib" || return 1; done
+}
+
+# prove CRATE COMMAND..: the command, in the crate's folder, which proves and builds it. What it prints is shown only where it fails. In a subshell, so that the
+# trap is its own.
 prove() (
   crate=$1 will_take=() begun=$SECONDS
   shift
-  # A first run: rt has proved nothing here yet.
-  [ -d "$top/target/stamp" ] || will_take=("$(expected "$crate")")
+  # A first run: nothing of it is proved here yet.
+  [ -d "$top/crates/$crate/out" ] || will_take=("$(expected "$crate")")
   log=$(mktemp) || exit 2
   take_back() {
     exec {line}>&-
@@ -110,7 +127,7 @@ prove() (
   # An interrupt by itself would not wait until the line is gone.
   trap 'take_back; rm -f "$log"; trap - EXIT INT; kill -s INT "$BASHPID"' INT
   if [ -t 2 ]; then exec {line}> >(show_progress "$crate" "$log" "${will_take[@]}"); else exec {line}>/dev/null; fi
-  if ! (cd "$top" && rt check "$crate" && { [ $# -eq 0 ] || rt "$@"; }) </dev/null >"$log" 2>&1 {line}>&-; then
+  if ! (cd "$top/crates/$crate" && "$@") </dev/null >"$log" 2>&1 {line}>&-; then
     take_back
     printf '%s: %s is not proved and built; rt says:\n' "${0##*/}" "$crate" >&2
     cat "$log" >&2
@@ -138,14 +155,19 @@ end_turn() {
   exec {turn}<&-
 }
 
-# proved FILE CRATE [WORD..]: proves CRATE, and gives rt the words, where FILE is missing or older than the crates.
+# current FILE: FILE is there, and nothing that a proof reads is newer: no file of a crate, nor a folder of them, but for what rt makes in out/.
+current() {
+  [ -e "$1" ] && [ ! "$top/crates.txt" -nt "$1" ] && [ -z "$(find "$top/crates" -mindepth 2 -name out -prune -o -newer "$1" -print -quit)" ]
+}
+
+# proved FILE CRATE COMMAND..: the command proves CRATE and makes FILE, where that is missing or older than the crates.
 proved() {
   local file=$1 begun
   shift
-  if up_to_date "$file" "$top/crates" "$top/crates.txt"; then return 0; fi
+  if current "$file"; then return 0; fi
   take_turn
   # Another has made it meanwhile.
-  if up_to_date "$file" "$top/crates" "$top/crates.txt"; then
+  if current "$file"; then
     end_turn
     return 0
   fi
@@ -189,25 +211,16 @@ needs() (
   return 1
 )
 
-# find_kit: sets kit to the kit's folder, and tools to the folder of its tools for this machine. rt stands in the kit's bin/; only where it does not, as
-# where a script stands for it, is it asked, since that takes longer than all that ./gearcard does.
+# find_kit: sets kit to the kit's folder, and tools to the folder of its tools. rt stands in the kit's bin/; only where it does not, as where a script stands
+# for it, is it asked, since that takes longer than all that ./gearcard does.
+# shellcheck disable=SC2034
 kit='' tools=''
 find_kit() {
   [ -z "$tools" ] || return 0
   kit=$(command -v rt) || fail 'the Rattle kit is missing: there is no command rt'
   kit=$(readlink -f "$kit")
-  kit=${RATTLE_HOME:-${kit%/bin/rt}}
-  [ -d "$kit/on" ] || kit=$(dirname "$(dirname "$(rt doc)")")
-  tools=$kit/on/$(uname -m)/toolchain
+  kit=${kit%/bin/rt}
+  [ -d "$kit/toolchain" ] || kit=$(dirname "$(rt doc)")
+  tools=$kit/toolchain
   [ -d "$tools" ] || fail "the Rattle kit is missing: there is no folder $tools"
-}
-
-# run_as_rt PROGRAM WORD..: a program that rt has built, as rt runs it: with the kit's C library, and on another processor than x86-64 under the emulator
-# that stands beside the kit's compiler.
-run_as_rt() {
-  local emulator
-  find_kit
-  emulator=$tools/bin/qemu-x86_64
-  [ -x "$emulator" ] || emulator=
-  exec ${emulator:+"$emulator"} "$tools/lib/ld-linux-x86-64.so.2" --library-path "$tools/lib" "$@"
 }

@@ -1,17 +1,19 @@
 """The module of a program with the library below it, as text, made the module of the C library: without main and what nothing reaches, and with the C function
-of each `#[no_mangle] pub extern "C" fn`.
+of each `#[unsafe(no_mangle)] pub extern "C" fn`.
 
-How a C function gets what it passes on is read from the function itself, which first copies each slice and struct that it is given by value to a place of its
-own, and last its result from such a place. A struct of at most 16 bytes with a float in it would be taken for one without: the project has none.
+A C function of x86-64 on Linux hands on what it gets: numbers, and a slice as its pointer and its length. A struct of more than 16 bytes comes on the stack
+(byval), and the function itself, which takes a pointer, copies it first to a place of its own, by which it is known here. It answers such a struct through a
+pointer that is its first argument, and one of two numbers in two registers. Another form of a struct is not known here: the project has none.
 """
 
 import re
-from dataclasses import dataclass, field
+from dataclasses import dataclass
 
-MARK = re.compile(r'^#\[no_mangle\]\s*\n\s*pub extern "C" fn (\w+)', re.M)
+MARK = re.compile(r'^#\[unsafe\(no_mangle\)\]\s*\n\s*pub extern "C" fn (\w+)', re.M)
 HEAD = re.compile(r'define internal (?P<returns>.+) (?P<inner>@"[^"]+")\((?P<given>.*)\) (?P<attributes>#\d+) \{$')
 PLACE = re.compile(r"  (%r\d+) = alloca \[(\d+) x i8\], align (\d+)$")
 COPY = re.compile(r"  call void @llvm\.memmove\.p0\.p0\.i64\(ptr (%\w+), ptr (%\w+), i64 (\d+), ")
+SMALL = 16
 
 
 class UnknownForm(Exception):
@@ -24,66 +26,19 @@ class Place:
     align: int
 
 
-def pieces(size: int) -> list[str]:
-    """The registers of a struct of at most 16 bytes."""
-    if size % 8 not in (0, 1, 2, 4):
-        raise UnknownForm(f"how a struct of {size} bytes is passed is not known here")
-    return ["i64"] * (size // 8) + ([f"i{8 * (size % 8)}"] if size % 8 else [])
-
-
-def placed(body: list[str]) -> tuple[dict[str, Place], Place | None]:
-    """What each argument that is passed by value is copied to, and the place of a result that is handed back through the first argument."""
+def placed(name: str, body: list[str]) -> tuple[dict[str, Place], bool]:
+    """What each argument that is a struct is copied to, and whether the first one is where the answer is put."""
     places: dict[str, Place] = {}
     copies: dict[str, Place] = {}
-    result = None
-    for line, after in zip(body, [*body[1:], ""]):
+    for line in body:
         if found := PLACE.match(line):
             places[found[1]] = Place(int(found[2]), int(found[3]))
-            copy = COPY.match(after)
-            if copy and copy[1] == found[1] and copy[2].startswith("%a") and copy[3] == found[2]:
-                copies[copy[2]] = places[found[1]]
-        copy = COPY.match(line)
-        if copy and copy[1] == "%a0" and "%a0" not in copies and copy[2] in places and places[copy[2]].size == int(copy[3]):
-            result = places[copy[2]]
-    return copies, result
-
-
-@dataclass
-class Outer:
-    """The C function while it is written."""
-
-    params: list[str] = field(default_factory=list)
-    lines: list[str] = field(default_factory=list)
-    regs: int = 0
-
-    def param(self, kind: str, how: str = " noundef") -> str:
-        self.params.append(f"{kind}{how} %a{len(self.params)}")
-        return f"%a{len(self.params) - 1}"
-
-    def reg(self, text: str) -> str:
-        self.lines.append(f"  %r{self.regs} = {text}")
-        self.regs += 1
-        return f"%r{self.regs - 1}"
-
-    def stored(self, place: Place, kinds: list[str], how: str = "") -> str:
-        """A place of its own for what comes in registers."""
-        values = [self.param(kind, how) for kind in kinds]
-        start = spot = self.reg(f"alloca [{place.size} x i8], align {place.align}")
-        for i, value in enumerate(values):
-            if i:
-                spot = self.reg(f"getelementptr i8, ptr {start}, i64 8")
-            self.lines.append(f"  store {kinds[i]} {value}, ptr {spot}, align {place.align}")
-        return start
-
-    def passed(self, kind: str, place: Place | None) -> str:
-        """An argument as the inner function takes it."""
-        if place is None:
-            return f"{kind} {self.param(kind)}"
-        if place == Place(16, 8):  # a slice; a struct of this size would be in the same registers
-            return f"ptr {self.stored(place, ['ptr', 'i64'], ' noundef')}"
-        if place.size <= 16:
-            return f"ptr {self.stored(place, pieces(place.size))}"
-        return f"ptr {self.param('ptr', f' noundef byval([{place.size} x i8]) align {place.align}')}"
+        if (copy := COPY.match(line)) and copy[1] in places and copy[2].startswith("%a") and places[copy[1]].size == int(copy[3]):
+            copies.setdefault(copy[2], places[copy[1]])
+    if small := [place for place in copies.values() if place.size <= SMALL]:
+        raise UnknownForm(f"{name}: how a struct of {small[0].size} bytes is passed is not known here")
+    answers = "%a0" not in copies and any((copy := COPY.match(line)) and copy[1] == "%a0" and int(copy[3]) > SMALL for line in body)
+    return copies, answers
 
 
 def c_function(name: str, text: list[str]) -> list[str]:
@@ -91,35 +46,20 @@ def c_function(name: str, text: list[str]) -> list[str]:
     head = HEAD.match(text[0])
     if not head:
         raise UnknownForm(f"{name}: its first line is not known here: {text[0]}")
-    kind = head["returns"].split()[-1]
-    copies, result = placed(text[1:])
-    if kind != "void":
-        result = None
-    outer = Outer()
-    returns, answer = head["returns"], ""
-    if result and result.size > 16:
-        returns, answer = "noundef ptr", outer.param("ptr")
-    elif result:
-        kinds = pieces(result.size)
-        returns = kinds[0] if len(kinds) == 1 else f"{{ {', '.join(kinds)} }}"
-        answer = outer.reg(f"alloca [{result.size if len(kinds) == 1 else 16} x i8], align {result.align}")
-    given = [(part.split()[0], part.split()[-1]) for part in head["given"].split(", ") if part][1 if result else 0:]
-    passed = ([f"ptr {answer}"] if result else []) + [outer.passed(how, copies.get(own)) for how, own in given]
-    _end(outer, f"call {kind} {head['inner']}({', '.join(passed)})", kind, returns, result, answer)
-    return [f"define {returns} @{name}({', '.join(outer.params)}) {head['attributes']} {{", "start:", *outer.lines, "}"]
-
-
-def _end(outer: Outer, call: str, kind: str, returns: str, result: Place | None, answer: str) -> None:
-    if kind != "void":
-        outer.lines.append(f"  ret {kind} {outer.reg(call)}")
-        return
-    outer.lines.append("  " + call)
-    if result is None:
-        outer.lines.append("  ret void")
-    elif result.size > 16:
-        outer.lines.append(f"  ret ptr {answer}")
-    else:
-        outer.lines.append(f"  ret {returns} {outer.reg(f'load {returns}, ptr {answer}, align {result.align}')}")
+    copies, answers = placed(name, text[1:])
+    given = [part for part in head["given"].split(", ") if part]
+    params = []
+    for part in given:
+        place = copies.get(part.split()[-1])
+        params.append(part if place is None else f"ptr noundef byval([{place.size} x i8]) align {place.align} {part.split()[-1]}")
+    passed = ", ".join(f"{part.split()[0]} {part.split()[-1]}" for part in given)
+    kind = re.sub(r"^(?:noundef |zeroext |signext )+", "", head["returns"])
+    if kind == "void" and not answers:
+        raise UnknownForm(f"{name}: what it answers is not known here")
+    call = f"call {kind} {head['inner']}({passed})"
+    lines = [f"  {call}", "  ret ptr %a0"] if answers else [f"  %answer = {call}", f"  ret {kind} %answer"]
+    returns = "noundef ptr" if answers else head["returns"]
+    return [f"define {returns} @{name}({', '.join(params)}) {head['attributes']} {{", "start:", *lines, "}"]
 
 
 def split(text: str) -> tuple[list[str], dict[str, list[str]]]:

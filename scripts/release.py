@@ -83,33 +83,18 @@ def for_javascript() -> None:
     tar(OUT / f"gearcard-{VERSION}-js.tgz", "package", files)
 
 
-def verdict_of(crate: str) -> str:
-    """The last line of a crate's proof."""
-    lines: list[str] = re.findall(r"^logic=.*", (TOP / f"target/log/{crate}.say").read_text(), re.M)
+def verdict_of(crate: str) -> list[str]:
+    """The last line of a crate's proof, and of each library with C functions which of them anything that it is made of rests on: none."""
+    said = (TOP / f"target/staticlib/lib{crate}.say").read_text()
+    lines: list[str] = re.findall(r"^logic=.*", said, re.M)
     if not lines or not lines[-1].startswith("logic=proved "):
         fail(f"{crate} is not proved")
-    return lines[-1]
-
-
-def crates_of(crate: str) -> list[str]:
-    """A crate and all that it is made of."""
-    uses = dict(re.findall(r"^(\w+): *(.*)$", (TOP / "crates.txt").read_text(), re.M))
-    found = [crate]
-    for each in found:
-        found += [below for below in uses[each].split() if below in uses and below not in found]
-    return sorted(found)
-
-
-def axioms(verdict: str) -> str:
-    """A proof that uses none does not speak of them."""
-    found = re.search(r" axioms=(\d+)", verdict)
-    return found[1] if found else "0"
+    return [f"{crate}: {lines[-1]}", *re.findall(r"^axioms \w+: .*", said, re.M)]
 
 
 def verdict(crate: str) -> None:
-    counts = ", ".join(f"{each} {axioms(verdict_of(each))}" for each in crates_of(crate))
     kit = subprocess.run(["rt", "version"], capture_output=True, text=True, check=True).stdout.strip()
-    lines = [f"gearcard {VERSION}", f"commit: {commit()[0]}", f"kit: {kit}", f"{crate}: {verdict_of(crate)}", f"axioms: {counts}"]
+    lines = [f"gearcard {VERSION}", f"commit: {commit()[0]}", f"kit: {kit}", *verdict_of(crate)]
     (OUT / "VERDICT.txt").write_text("".join(f"{line}\n" for line in lines))
 
 

@@ -83,12 +83,22 @@ def _built() -> Path:
 def _up_to_date(path: Path) -> bool:
     """As `./library` sees it."""
     scripts = ("library", "scripts/kit.sh", "scripts/retarget", "scripts/windows.c")
-    parts = [TOP / name for name in ("crates", "crates.txt", "VERSION", "include/exports.txt", *scripts)]
+    parts = [TOP / name for name in ("crates.txt", "VERSION", "include/exports.txt", *scripts)]
     try:
         made = path.stat().st_mtime_ns
-        return all(each.stat().st_mtime_ns <= made for each in parts) and all(each.stat().st_mtime_ns <= made for each in _below(parts[0]))
+        return all(each.stat().st_mtime_ns <= made for each in parts) and all(each.stat().st_mtime_ns <= made for each in _sources())
     except OSError:
         return False
+
+
+def _sources() -> Iterator[os.DirEntry[str]]:
+    """The files and folders of each crate, but for what rt makes in its `out`."""
+    for crate in os.scandir(TOP / "crates"):
+        for part in os.scandir(crate.path):
+            if part.name != "out":
+                yield part
+                if part.is_dir(follow_symlinks=False):
+                    yield from _below(part.path)
 
 
 def _below(folder: Path | str) -> Iterator[os.DirEntry[str]]:

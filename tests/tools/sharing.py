@@ -33,9 +33,10 @@ cat "$1"
 
 #: The kit's `rt` where nothing is to be proved: it takes its time, and the program is the one that the real one made.
 RT = """#!/bin/sh
-printf '%s\\n' "$*" >>"$COUNTED/rt"
+[ "$1" != doc ] || exec "$REAL" doc
+printf '%s %s\\n' "$*" "$(basename "$PWD")" >>"$COUNTED/rt"
 sleep 1
-[ "$1" != check ] || { mkdir -p target/bin && cp "$PROGRAM" target/bin/gearcard; }
+[ "$1" != run ] || { mkdir -p out && cp "$PROGRAM" out/gearcard; }
 """
 
 
@@ -50,7 +51,7 @@ class Checkout(unittest.TestCase):
         self.top.mkdir()
         for name in PARTS:
             if (TOP / name).is_dir():
-                shutil.copytree(TOP / name, self.top / name, ignore=shutil.ignore_patterns("__pycache__"))
+                shutil.copytree(TOP / name, self.top / name, ignore=shutil.ignore_patterns("__pycache__", "out"))
             else:
                 shutil.copy2(TOP / name, self.top / name)
         shutil.copytree(TOP / "target/lib", self.top / "target/lib", symlinks=True)
@@ -114,12 +115,11 @@ class Once(Checkout):
 
     def test_the_first_run(self) -> None:
         self.command("rt", RT)
-        real = Path(str(shutil.which("rt"))).resolve().parents[1]
-        self.environment |= {"PROGRAM": str(TOP / "target/bin/gearcard"), "RATTLE_HOME": os.environ.get("RATTLE_HOME", str(real))}
+        self.environment |= {"PROGRAM": str(TOP / "crates/gearcard/out/gearcard"), "REAL": str(shutil.which("rt"))}
         ended = self.at_once(4 * [[str(self.top / "gearcard")]], self.top / "examples/car-z.job")
         wanted = (TOP / "examples/car-z.txt").read_bytes()
         self.assertEqual([(each.returncode, each.stdout, each.stderr) for each in ended], 4 * [(0, wanted, b"")])
-        self.assertEqual(self.calls("rt"), ["check gearcard"])
+        self.assertEqual(self.calls("rt"), ["run gearcard"])
 
 
 class Anywhere(Checkout):

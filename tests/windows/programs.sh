@@ -61,9 +61,8 @@ other_ready() {
   if [ "$other" = aarch64 ]; then
     needs aarch64-linux-gnu-gcc gcc-aarch64-linux-gnu libc6-dev-arm64-cross && needs qemu-aarch64 qemu-user
   else
-    find_kit
-    emulator=("$tools/bin/qemu-x86_64")
-    needs x86_64-linux-gnu-gcc gcc-x86-64-linux-gnu libc6-dev-amd64-cross
+    emulator=(qemu-x86_64)
+    needs x86_64-linux-gnu-gcc gcc-x86-64-linux-gnu libc6-dev-amd64-cross && needs qemu-x86_64 qemu-user
   fi
 }
 
