@@ -262,7 +262,7 @@ class Kinds(unittest.TestCase):
         """By Debian's Python, with Debian's numpy."""
         python = "/usr/bin/python3"
         if subprocess.run([python, "-c", "import numpy"], capture_output=True).returncode != 0:
-            subprocess.run(["bash", "-c", ". scripts/kit.sh && needs \'numpy of the system\' python3 python3-numpy"], check=True)
+            subprocess.run(["bash", "-c", ". scripts/kit.sh && needs 'numpy of the system' python3 python3-numpy"], check=True)
         ran = subprocess.run([python, "-c", NUMPY], env={**os.environ, "PYTHONPATH": f"python{os.pathsep}."}, capture_output=True, text=True)
         self.assertEqual((ran.returncode, ran.stdout), (0, "lent\n"), ran.stderr)
 
