@@ -1,9 +1,7 @@
 -- What the C functions answer: the refusal's number and place, number 0 where there is none.
 use Rattle.std.specs.Prelude.{ℕ, ◌≡◌, List, length, pos}
-use Rattle.rules.specs.Words.{ap, Option, none, some}
-use Rattle.rules.specs.declared.Answer.{Answer}
-use Rattle.rules.specs.declared.Answer.TheVariants.{Done, Refused}
-use Rattle.rules.specs.Refusals.{Fault, said, told, left}
+use Rattle.rules.specs.Words.{Option, none, some}
+use Rattle.rules.specs.Refusals.{Fault, left}
 use Rattle.rules.specs.declared.Vehicle.{Vehicle}
 use Rattle.rules.specs.Job.{job_read, read_fault, job_of, filled}
 use Rattle.rules.specs.Write.{job_bytes, write_fault, write_room}
@@ -17,16 +15,6 @@ use Rattle.capi.specs.declared.ExportAnswer.{ExportAnswer}
 unfoldable pub as_verdict : Option Fault → Verdict
 as_verdict none = record { number = 0; place = 0 }
 as_verdict (some f) = record { number = f.no; place = f.spot }
-
--- an answer as a C caller is told it
-abbrev pub says : Answer → Verdict
-says a = record { number = (told a).no; place = (told a).spot }
-
--- both say the same
-pub says_told : (a : Answer) (f : Option Fault) → said a ≡ f → says a ≡ as_verdict f
-unfolding said as_verdict
-says_told Done f e = ap as_verdict e
-says_told (Refused r) f e = ap as_verdict e
 
 -- the answer r, and the rooms as they are left, are what is read
 pub record JobRead (job speeds holds : List ℕ) (r : JobAnswer) (speeds' holds' : List ℕ) : Type 0 where

@@ -3,7 +3,8 @@
 #![tactic(auto)]
 
 ghost use Rattle.std.specs.Prelude.{◌≡◌, length};
-ghost use Rattle.rules.specs.Refusals.{work_fault, work_card};
+ghost use Rattle.std.specs.Result.{result_unwrap_or};
+ghost use Rattle.rules.specs.Refusals.{said, work_fault, work_card};
 ghost use Rattle.rules.specs.declared.Edit.TheVariants.{Hold, Release, Mend};
 ghost use Rattle.rules.specs.Summary.{summary_fault, counted_summary};
 ghost use Rattle.rules.specs.Edit.{edit_fault, edited};
@@ -11,10 +12,12 @@ ghost use Rattle.rules.specs.Why.{why_fault, why};
 ghost use Rattle.edits.specs.Asks.{screen};
 ghost use Rattle.cycles.specs.Parts.{fill_fault, fill_room, stretch};
 ghost use Rattle.downscale.specs.Steps.{down_fault, down_room};
-ghost use Rattle.capi.specs.Verdicts.{says, as_verdict, JobRead, JobWritten, ExportRead};
+ghost use Rattle.capi.specs.Verdicts.{as_verdict, JobRead, JobWritten, ExportRead};
 
 use cycles::Stretch;
-use rules::{Answer, Reasons, Summary, Vehicle};
+use exports::Export;
+use reading::{Reading, blank};
+use rules::{Reasons, Refusal, Summary, Vehicle, told_number, told_place};
 
 // The refusal's number, 0 where there is none, and its place.
 #[repr(C)]
@@ -24,7 +27,8 @@ pub struct Verdict {
     pub place: usize,
 }
 
-// What the reader answers: where it refuses, the version is 0, the vehicle all zeros and the count 0.
+// What the reader answers: where it refuses, the version is 0, the vehicle all zeros and the count 0. C has no Result: in these records the verdict stands
+// beside what comes with it.
 #[repr(C)]
 #[derive(Clone, Copy)]
 pub struct JobAnswer {
@@ -34,7 +38,7 @@ pub struct JobAnswer {
     pub count: usize,
 }
 
-// What an edit answers: the summary as it is then, where it refuses the one it was given.
+// What counting a card or an edit answers: the summary as it is then; where it refuses, zeros of a card, and of an edit the summary that it was given.
 #[repr(C)]
 #[derive(Clone, Copy)]
 pub struct SummaryAnswer {
@@ -69,39 +73,51 @@ pub struct ExportAnswer {
     pub tm: u16,
 }
 
-fn verdict_of(answer: Answer) -> Verdict
-    ensures { result ≡ says answer }
-{
-    Verdict {
-        number: answer.number(),
-        place: answer.place(),
+// The refusal of an answer, whatever else it brings.
+impl<T: Copy> From<Result<T, Refusal>> for Verdict {
+    ghost from_gives = { λ answer v. v ≡ as_verdict (said answer) };
+
+    fn from(answer: Result<T, Refusal>) -> Verdict {
+        Verdict {
+            number: told_number(answer),
+            place: told_place(answer),
+        }
     }
 }
 
-fn counted_of(counted: summaries::Summarized) -> SummaryAnswer
-    ensures verdict { result.verdict ≡ says counted.answer }
-    ensures summary { result.summary ≡ counted.summary }
+// A summary as it is then; where there is none, what it was.
+fn counted_of(counted: Result<Summary, Refusal>, was: Summary) -> SummaryAnswer
+    ensures verdict { result.verdict ≡ as_verdict (said counted) }
+    ensures summary { result.summary ≡ result_unwrap_or counted was }
 {
-    let told = counted.answer;
-    let summary = counted.summary;
-    let verdict = verdict_of(told);
-    SummaryAnswer { verdict, summary }
+    SummaryAnswer {
+        verdict: Verdict::from(counted),
+        summary: counted.unwrap_or(was),
+    }
 }
 
 // Reads a job into the start of the lent rooms.
+#[tactic(auto, unfolding(reading::specs::Reader::reading))]
 #[unsafe(no_mangle)]
 pub extern "C" fn gearcard_read(job: &[u8], speeds: &mut [u16], holds: &mut [u8]) -> JobAnswer
     ensures { JobRead job.now speeds.old holds.old result speeds.new holds.new }
 {
-    let reading = reading::read(job, speeds, holds);
-    let answer = reading.answer;
-    let vehicle = reading.vehicle;
-    let verdict = verdict_of(answer);
+    let read = reading::read(job, speeds, holds);
+    // where it refuses there is no version, no vehicle and no trace
+    let Reading {
+        version,
+        vehicle,
+        count,
+    } = read.unwrap_or(Reading {
+        version: 0,
+        vehicle: blank(),
+        count: 0,
+    });
     JobAnswer {
-        verdict: verdict,
-        version: reading.version,
-        vehicle: vehicle,
-        count: reading.count,
+        verdict: Verdict::from(read),
+        version,
+        vehicle,
+        count,
     }
 }
 
@@ -117,11 +133,9 @@ pub extern "C" fn gearcard_write<'a>(
     ensures { JobWritten version vehicle speeds.now holds.now room.old result room.new }
 {
     let written = writing::write(version, vehicle, speeds, holds, room);
-    let said = written.answer;
-    let verdict = verdict_of(said);
     WriteAnswer {
-        verdict,
-        length: written.length,
+        verdict: Verdict::from(written),
+        length: written.unwrap_or(0),
     }
 }
 
@@ -136,8 +150,7 @@ pub extern "C" fn gearcard_work<'a>(
     ensures answer { result ≡ as_verdict (work_fault vehicle speeds.now holds.now card.old) }
     ensures card { card.new ≡ work_card vehicle speeds.now holds.now card.old }
 {
-    let answer = cards::work(vehicle, speeds, holds, card);
-    verdict_of(answer)
+    Verdict::from(cards::work(vehicle, speeds, holds, card))
 }
 
 // Counts the whole card.
@@ -146,8 +159,7 @@ pub extern "C" fn gearcard_summary_of<'a>(speeds: &'a [u16], card: &'a [u8]) -> 
     ensures answer { result.verdict ≡ as_verdict (summary_fault speeds.now card.now) }
     ensures summary { result.summary ≡ counted_summary speeds.now card.now }
 {
-    let counted = summaries::summary_of(speeds, card);
-    counted_of(counted)
+    counted_of(summaries::summary_of(speeds, card), Summary::default())
 }
 
 // Holds one second in a gear.
@@ -167,7 +179,7 @@ pub extern "C" fn gearcard_hold(
     ensures card { card.new ≡ (edited vehicle (Hold second gear) (screen speeds.now holds.old card.old summary)).card }
 {
     let counted = edits::hold(vehicle, speeds, holds, card, second, gear, summary);
-    counted_of(counted)
+    counted_of(counted, summary)
 }
 
 // Releases one second.
@@ -186,7 +198,7 @@ pub extern "C" fn gearcard_release(
     ensures card { card.new ≡ (edited vehicle (Release second) (screen speeds.now holds.old card.old summary)).card }
 {
     let counted = edits::release(vehicle, speeds, holds, card, second, summary);
-    counted_of(counted)
+    counted_of(counted, summary)
 }
 
 // Corrects one speed sample.
@@ -206,7 +218,7 @@ pub extern "C" fn gearcard_mend(
     ensures card { card.new ≡ (edited vehicle (Mend second speed) (screen speeds.old holds.now card.old summary)).card }
 {
     let counted = edits::mend(vehicle, speeds, holds, card, second, speed, summary);
-    counted_of(counted)
+    counted_of(counted, summary)
 }
 
 // Why the byte of a second is what it is.
@@ -221,12 +233,9 @@ pub extern "C" fn gearcard_why<'a>(
     ensures reasons { result.reasons ≡ why vehicle speeds.now holds.now second }
 {
     let told = reasons::why(vehicle, speeds, holds, second);
-    let heard = told.answer;
-    let found = told.reasons;
-    let verdict = verdict_of(heard);
     WhyAnswer {
-        verdict,
-        reasons: found,
+        verdict: Verdict::from(told.answer),
+        reasons: told.reasons,
     }
 }
 
@@ -236,8 +245,7 @@ pub extern "C" fn gearcard_cycle(part: u32, room: &mut [u16]) -> Verdict
     ensures answer { result ≡ as_verdict (fill_fault part (length room.old)) }
     ensures room { room.new ≡ fill_room part room.old }
 {
-    let answer = cycles::fill(part, room);
-    verdict_of(answer)
+    Verdict::from(cycles::fill(part, room))
 }
 
 // Where a part of the cycle stands in a room of that many places.
@@ -254,8 +262,7 @@ pub extern "C" fn gearcard_downscale(factor: u32, room: &mut [u16]) -> Verdict
     ensures answer { result ≡ as_verdict (down_fault factor (length room.old)) }
     ensures room { room.new ≡ down_room factor room.old }
 {
-    let answer = downscale::downscale(factor, room);
-    verdict_of(answer)
+    Verdict::from(downscale::downscale(factor, room))
 }
 
 // Reads the bench computer's export.
@@ -264,13 +271,17 @@ pub extern "C" fn gearcard_export(bytes: &[u8]) -> ExportAnswer
     ensures { ExportRead bytes.now result }
 {
     let export = exports::read_export(bytes);
-    let answer = export.answer;
-    let told = verdict_of(answer);
+    let Export { f0, f1, f2, tm } = export.unwrap_or(Export {
+        f0: 0,
+        f1: 0,
+        f2: 0,
+        tm: 0,
+    });
     ExportAnswer {
-        verdict: told,
-        f0: export.f0,
-        f1: export.f1,
-        f2: export.f2,
-        tm: export.tm,
+        verdict: Verdict::from(export),
+        f0,
+        f1,
+        f2,
+        tm,
     }
 }

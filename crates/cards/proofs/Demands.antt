@@ -7,7 +7,7 @@ use Rattle.rules.proofs.Outcomes.{work_meets_1, work_meets_2}
 use Rattle.rules.specs.Vocabulary.Demands.{Demand1, Demand2}
 use Rattle.rules.proofs.Theorems.Edits.{right_card_spares}
 use Rattle.rules.specs.declared.Vehicle.{Vehicle}
-use Rattle.rules.specs.declared.Answer.{Answer}
+use Rattle.rules.specs.Refusals.{Answer}
 use Rattle.rules.specs.declared.Summary.{Summary}
 use Rattle.cards.proofs.whole.work.Kinds as work-kinds
 use Rattle.cards.proofs.whole.work.Reads as work-reads

@@ -10,7 +10,4 @@ pub work : Determined work-kinds.ps work-kinds.r work-reads.Asked work-reads.Lea
 work κs a asked z z' ws ws' p q = (said_once z z' (p.0 ∙ sym q.0), ap (λ (x : List ℕ). (tt, (tt, (tt, (x, tt))))) (p.1 ∙ sym q.1))
 
 pub sweep : Determined sweep-kinds.ps sweep-kinds.r sweep-reads.Asked sweep-reads.Learnt
-sweep κs a asked z z' ws ws' p q =
-    let car = asked.0.car in
-    let L = asked.0.lent in
-    (refl, ap (λ (x : List ℕ). (tt, (tt, (tt, (tt, (tt, (tt, (x, (tt, tt))))))))) (p car L ∙ sym (q car L)))
+sweep κs a asked z z' ws ws' p q = (refl, ap (λ (x : List ℕ). (tt, (tt, (tt, (x, (tt, tt)))))) (p ∙ sym q))

@@ -6,9 +6,6 @@ use Rattle.rules.proofs.Offered.{bad, span_fault, IsTrip, patch_in, clash, by_te
 use Rattle.rules.proofs.Offered.{trip_of, stop_le, stop-after, stop_in, stop_standing, passed, driven, floor-low, low_from, fit_of}
 use Rattle.rules.proofs.Offered.{gear_in_range, byte_gear, InBounds}
 use Rattle.rules.specs.declared.Vehicle.{Vehicle}
-use Rattle.gears.specs.declared.Numbers.{Numbers}
-use Rattle.gears.specs.Parts.{Counts}
-use Rattle.gears.proofs.Parts.{ng_of}
 use Rattle.trips.specs.Trip.{AllGeared, trip_bytes}
 use Rattle.checks.proofs.Dry.{step_small, end_second}
 use Rattle.trips.proofs.Bytes.{gear_part, trip_is}
@@ -61,9 +58,9 @@ module _ {vs hs old : List ℕ} {a b : ℕ} (B : Between vs hs old a b) where
       )
 
   -- what the work on the trip asks
-  pub ready : {car : Vehicle} {k : Numbers} → Counts car k → Fitting car vs hs a b → ReadyTrip k (part vs a (b + 1)) (part hs a b) (part old a b)
+  pub ready : {car : Vehicle} → Fitting car vs hs a b → ReadyTrip car (part vs a (b + 1)) (part hs a b) (part old a b)
   unfolding bad
-  ready {car = car} K F =
+  ready {car = car} F =
       let x = B.trip.some_second in
       let l = B.after in
       let us : length (part vs a (suc b)) ≡ suc b - a = length_part vs a (suc b) l in
@@ -75,7 +72,7 @@ module _ {vs hs old : List ℕ} {a b : ℕ} (B : Between vs hs old a b) where
           speed = λ j h. rw (at_part vs a (suc b) j (omega arith)) (B.speed_to (a + j) (omega arith) (omega arith));
           step = λ j h. rw (rise-part j (omega arith)) (B.step_to (a + j) (omega arith) (omega arith));
         };
-        hold = λ j h. rw (at_part hs a b j (omega arith)) (rw (← ng_of K) (driven car _ (F (a + j) (omega arith) (omega arith)).hold_in_ng).0);
+        hold = λ j h. rw (at_part hs a b j (omega arith)) (driven car _ (F (a + j) (omega arith) (omega arith)).hold_in_ng).0;
         moves = λ j h. rw (at_part vs a (suc b) j (omega arith)) (B.trip.inside (a + j) (omega arith) (omega arith));
       })
 

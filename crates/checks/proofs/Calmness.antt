@@ -2,12 +2,9 @@
 use Rattle.rules.proofs.Offered.{ℕ, zero, suc, ◌+◌, ◌-◌, ◌≤◌, ◌<◌, max, add-zero, arith, ◌≡◌, refl, sym, true, false, List, none, eqb, length, eqb-true}
 use Rattle.rules.proofs.Offered.{eqb-false, at, fastest, moving, step, ends, checks, bad, seconds_fault, clash, by_test, by_eq}
 use Rattle.rules.specs.declared.Vehicle.{Vehicle}
-use Rattle.gears.specs.declared.Numbers.{Numbers}
-use Rattle.gears.specs.Parts.{Has}
-use Rattle.gears.proofs.Parts.{built, built_has}
-use Rattle.checks.specs.Checks.{fault_no, kept, hold_checks}
+use Rattle.checks.specs.Checks.{fault_no, kept, lower, hold_checks}
 use Rattle.checks.specs.Calm.{Each, AtMost, most_of, Stands, HoldsPass}
-use Rattle.checks.proofs.OnePass.{Kept, begin, no_lower, done, table_rises}
+use Rattle.checks.proofs.OnePass.{seconds_none, seconds_more}
 use Rattle.checks.proofs.Tests.{ends_standing, ends_between, free_good, onward}
 
 -- ---- each place, one further
@@ -47,42 +44,45 @@ module _ (f : ℕ → ℕ) (lo : ℕ) where
 
 -- ---- nothing is wrong
 
--- second i fails none of the checks 4 to 9, of every vehicle of these parts
-abbrev pub Good : Numbers → List ℕ → List ℕ → List ℕ → ℕ → ℕ → Type 0
-Good k ratio vs hs lo i = (car : Vehicle) → Has car k ratio → 10 ≡ fault_no car vs hs lo i checks
+-- a second that fails none of the checks of its hold passes, and so does each other one of its speed and its hold
+pub hold_passes : (car : Vehicle) (vs hs : List ℕ) (lo i : ℕ) → 10 ≡ fault_no car vs hs lo i hold_checks → HoldsPass car vs hs i
+unfolding fault_no hold_checks bad
+hold_passes car vs hs lo i e n us ks lo' j v g = rw (v, g) e
 
-module _ (k : Numbers) (ratio vs hs : List ℕ) (lo hi : ℕ) where
+-- second i fails none of the checks 4 to 9
+abbrev pub Good : Vehicle → List ℕ → List ℕ → ℕ → ℕ → Type 0
+Good car vs hs lo i = 10 ≡ fault_no car vs hs lo i checks
+
+module _ (car : Vehicle) (vs hs : List ℕ) (lo hi : ℕ) where
   module _ (inside : hi ≤ length vs) (rest : Stands vs lo hi) (i : ℕ) (since : lo ≤ i) (until : i < hi) where
     -- a moving second is not the span's first
     inner : moving (at vs i) ≡ true → lo < i
     inner m = by_eq since (λ e. clash (rw e m) rest.first) (λ l. l)
 
-    module _ (car : Vehicle) where
-      -- the trace's ends can be no others than the span's
-      ends_good : bad ends car vs hs lo i ≡ false
-      ends_good =
-          by_test (moving (at vs i))
-          (λ m.
-          let l : lo < i = inner m in
-          let last : (i + 1 ≡ length vs → ⊥) = λ z. let e : hi - 1 ≡ i = omega arith in clash m (rw e at rest.last) in
-          sym (ends_between car vs hs lo i m (λ z. omega arith) last))
-          (λ s. sym (ends_standing car vs hs lo i s))
+    -- the trace's ends can be no others than the span's
+    ends_good : bad ends car vs hs lo i ≡ false
+    ends_good =
+        by_test (moving (at vs i))
+        (λ m.
+        let l : lo < i = inner m in
+        let last : (i + 1 ≡ length vs → ⊥) = λ z. let e : hi - 1 ≡ i = omega arith in clash m (rw e at rest.last) in
+        sym (ends_between car vs hs lo i m (λ z. omega arith) last))
+        (λ s. sym (ends_standing car vs hs lo i s))
 
-      hold_good : Has car k ratio → HoldsPass k ratio vs hs i → 10 ≡ fault_no car vs hs lo i hold_checks
-      hold_good H p = by_test (eqb (at hs i) 0) (λ t. free_good car vs hs lo i (eqb-true _ _ t)) (λ t. p (eqb-false _ _ t) car H vs hs lo i refl refl)
+    hold_good : HoldsPass car vs hs i → 10 ≡ fault_no car vs hs lo i hold_checks
+    hold_good p = by_test (eqb (at hs i) 0) (λ t. free_good car vs hs lo i (eqb-true _ _ t)) (λ t. p (eqb-false _ _ t) vs hs lo i refl refl)
 
-    pub second_good : at vs i ≤ fastest → ((car : Vehicle) → bad step car vs hs lo i ≡ false) → HoldsPass k ratio vs hs i → Good k ratio vs hs lo i
-    second_good slow small held car H = onward car vs hs lo i slow (small car) (ends_good car) (hold_good car H held)
+    pub second_good : at vs i ≤ fastest → bad step car vs hs lo i ≡ false → HoldsPass car vs hs i → Good car vs hs lo i
+    second_good slow small held = onward car vs hs lo i slow small ends_good (hold_good held)
 
-  module _ (order : lo ≤ hi) (good : Each (Good k ratio vs hs lo) lo hi) where
+  module _ (order : lo ≤ hi) (good : Each (Good car vs hs lo) lo hi) where
     -- so no second so far is refused
-    so_far : (j : ℕ) → lo + j ≤ hi → Kept (λ car. Has car k ratio) checks vs hs lo hi (lo + j) 10 0
-    so_far zero h = rw add-zero (begin _ _ (omega arith))
+    so_far : (j : ℕ) → lo + j ≤ hi → none ≡ seconds_fault car vs hs lo (lo + j)
+    unfolding kept lower
+    so_far zero h = rw add-zero (seconds_none car vs hs lo)
     so_far (suc j) h =
         let e : lo + suc j ≡ lo + j + 1 = omega arith in
-        rw e (no_lower _ _ table_rises (so_far j (omega arith)) (built k ratio) (built_has k ratio) {no = 10}
-        (λ car H. good (lo + j) (omega arith) (omega arith) car H) (omega arith) refl refl (omega arith))
+        rw (e, ← seconds_more car vs hs lo (lo + j) (omega arith), ← so_far j (omega arith), ← good (lo + j) (omega arith) (omega arith))
 
-    pub nothing_wrong : (car : Vehicle) → Has car k ratio → none ≡ seconds_fault car vs hs lo hi
-    unfolding kept seconds_fault
-    nothing_wrong car H = done _ _ (so_far (hi - lo) (omega arith)) (omega arith) car H
+    pub nothing_wrong : none ≡ seconds_fault car vs hs lo hi
+    nothing_wrong = let e : lo + (hi - lo) ≡ hi = omega arith in rw e at (so_far (hi - lo) (omega arith))

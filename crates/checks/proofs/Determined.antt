@@ -1,7 +1,6 @@
 -- Each public function's contract allows one outcome. `Reads` is the contract's own reading, which the check makes of the clauses.
-use Rattle.rules.proofs.Offered.{ℕ, ◌≡◌, refl, sym, ◌∙◌, length, replicate, length-replicate, said_once}
-use Rattle.gears.proofs.Parts.{built_has}
-use Rattle.rules.specs.Determined.{Determined}
+use Rattle.rules.proofs.Offered.{ℕ, List, ◌≡◌, refl, sym, ◌∙◌, length, replicate, length-replicate, said_once}
+use Rattle.rules.specs.Determined.{Determined, DeterminedAs}
 use Rattle.checks.proofs.opening.check_lengths.Kinds as check-lengths-kinds
 use Rattle.checks.proofs.opening.check_lengths.Reads as check-lengths-reads
 use Rattle.checks.proofs.opening.check_opening.Kinds as check-opening-kinds
@@ -16,6 +15,12 @@ use Rattle.checks.proofs.row.check_span.Kinds as check-span-kinds
 use Rattle.checks.proofs.row.check_span.Reads as check-span-reads
 use Rattle.checks.proofs.want.check_gears.Kinds as check-gears-kinds
 use Rattle.checks.proofs.want.check_gears.Reads as check-gears-reads
+use Rattle.checks.proofs.trace.Trace.written.Kinds as written-kinds
+use Rattle.checks.proofs.trace.Trace.written.Reads as written-reads
+use Rattle.checks.proofs.trace.Trace.hold_at.Kinds as hold-at-kinds
+use Rattle.checks.proofs.trace.Trace.hold_at.Reads as hold-at-reads
+use Rattle.checks.proofs.trace.Trace.speed_at.Kinds as speed-at-kinds
+use Rattle.checks.proofs.trace.Trace.speed_at.Reads as speed-at-reads
 
 -- some list of a length
 of : (n : ℕ) → length {A = ℕ} (replicate n 0) ≡ n
@@ -29,9 +34,8 @@ check_lengths κs a asked z z' ws ws' p q =
 
 pub check_opening : Determined check-opening-kinds.ps check-opening-kinds.r check-opening-reads.Asked check-opening-reads.Learnt
 check_opening κs a asked z z' ws ws' p q =
-    let l = a.1.1.1.1.1.1 in
-    let e = p (replicate l.0 0) (replicate l.1.0 0) (replicate l.1.1.0 0) (of _) (of _) (of _) in
-    let f = q (replicate l.0 0) (replicate l.1.0 0) (replicate l.1.1.0 0) (of _) (of _) (of _) in
+    let e = p (replicate a.1.0 0) (replicate a.1.1.0 0) (replicate a.1.1.1.0 0) (of _) (of _) (of _) in
+    let f = q (replicate a.1.0 0) (replicate a.1.1.0 0) (replicate a.1.1.1.0 0) (of _) (of _) (of _) in
     (said_once z z' (e ∙ sym f), refl)
 
 pub trip_start : Determined trip-start-kinds.ps trip-start-kinds.r trip-start-reads.Asked trip-start-reads.Learnt
@@ -41,10 +45,25 @@ pub trip_stop : Determined trip-stop-kinds.ps trip-stop-kinds.r trip-stop-reads.
 trip_stop κs a asked z z' ws ws' p q = (p ∙ sym q, refl)
 
 pub check_seconds : Determined check-seconds-kinds.ps check-seconds-kinds.r check-seconds-reads.Asked check-seconds-reads.Learnt
-check_seconds κs a asked z z' ws ws' p q = let H = built_has a.0 (a.1.0.now) in (said_once z z' (p _ H ∙ sym (q _ H)), refl)
+check_seconds κs a asked z z' ws ws' p q = (said_once z z' (p ∙ sym q), refl)
 
 pub check_span : Determined check-span-kinds.ps check-span-kinds.r check-span-reads.Asked check-span-reads.Learnt
-check_span κs a asked z z' ws ws' p q = let car = asked.0.car in let L = asked.0.lent in (said_once z z' (p car L ∙ sym (q car L)), refl)
+check_span κs a asked z z' ws ws' p q = (said_once z z' (p ∙ sym q), refl)
 
 pub check_gears : Determined check-gears-kinds.ps check-gears-kinds.r check-gears-reads.Asked check-gears-reads.Learnt
-check_gears κs a asked z z' ws ws' p q = let car = asked.0.car in let L = asked.0.lent in (said_once z z' (p car L ∙ sym (q car L)), refl)
+check_gears κs a asked z z' ws ws' p q = (said_once z z' (p ∙ sym q), refl)
+
+-- what is asked for past a trace is nothing, whatever it is
+pub written : DeterminedAs written-kinds.ps written-kinds.r (List ℕ × List ℕ × ℕ) (λ κs z. (z.speeds.now, z.holds.now, z.asked.second))
+    written-reads.Asked written-reads.Learnt
+written κs a asked z z' ws ws' p q =
+    let e : z.speeds.now ≡ z'.speeds.now = p.0 ∙ sym q.0 in
+    let f : z.holds.now ≡ z'.holds.now = p.1.0 ∙ sym q.1.0 in
+    let g : z.asked.second ≡ z'.asked.second = p.1.1.0 ∙ sym q.1.1.0 in
+    (λ i. (e i, f i, g i), refl)
+
+pub hold_at : Determined hold-at-kinds.ps hold-at-kinds.r hold-at-reads.Asked hold-at-reads.Learnt
+hold_at κs a asked z z' ws ws' p q = (p ∙ sym q, refl)
+
+pub speed_at : Determined speed-at-kinds.ps speed-at-kinds.r speed-at-reads.Asked speed-at-reads.Learnt
+speed_at κs a asked z z' ws ws' p q = (p ∙ sym q, refl)

@@ -1,14 +1,15 @@
 -- The dry run of first choices: a span that it can go through, a trip part by part, and the trips of the span one after the other.
-use Rattle.rules.proofs.Offered.{ℕ, zero, suc, ◌+◌, ◌-◌, ◌≤◌, ◌<◌, add-one, arith, ◌≡◌, refl, ◌⊎◌, inl, inr, Bool, true, false, Option, none}
+use Rattle.rules.proofs.Offered.{ℕ, zero, suc, ◌+◌, ◌-◌, ◌≤◌, ◌<◌, add-one, arith, ◌≡◌, ◌⊎◌, inl, inr, Bool, true, false, Option, none}
 use Rattle.rules.proofs.Offered.{List, eqb, lit<, nat_abs, length, ltb-false, lt-ltb, eq-eqb, eqb-true, eqb-false, ◌and◌, ◌or◌, at, part, fastest}
 use Rattle.rules.proofs.Offered.{steepest, moving, rise, stop, first_at, step, no-gear, checks, bad, seconds_fault, clash, by_test}
 use Rattle.rules.proofs.Offered.{by_order, by_eq, both, and_no, or_left, or_right, at_part, length_part, natAbs_gap, Left, again, trip_of, start_le, stop_le}
 use Rattle.rules.proofs.Offered.{stop-after, stop_standing, listed, step_passed}
+use Rattle.std.specs.Prelude.{Ok, Err}
 use Rattle.rules.specs.declared.Vehicle.{Vehicle}
 use Rattle.trips.specs.Trip.{AllMoving}
 use Rattle.trips.proofs.Closing.{Closing, run_start}
 use Rattle.checks.specs.Calm.{Stands}
-use Rattle.checks.specs.Want.{Resting, Level, Ahead, Through, LowestAt}
+use Rattle.checks.specs.Want.{Resting, Level, Ahead, Through, LowestPlace}
 
 -- ---- a span that passes 4 to 9
 
@@ -48,11 +49,10 @@ module _ (car : Vehicle) (vs hs : List ℕ) (lo hi : ℕ) (e : seconds_fault car
           (λ t. R.ends (eqb-false _ _ t));
     }
 
-    pub level : {ks : List ℕ} → length ks ≡ length vs → Level vs ks lo hi
-    level n = record {
+    pub level : Level vs lo hi
+    level = record {
       rest = rests;
       inside = b;
-      rooms = n;
       speed_to = speed_passed;
       step_to = λ i x y. step_small car vs hs lo i x (omega arith) (step_passed car vs hs lo hi e (suc i) (omega arith) y);
     }
@@ -79,27 +79,23 @@ pub record Dry (car : Vehicle) (vs hs : List ℕ) (a i before : ℕ) : Type 0 wh
   pub last : (i ≡ a → ⊥) → before ≡ first_at car vs hs (i - 1)
   pub good : (lo j : ℕ) → a ≤ j → j < i → bad no-gear car vs hs lo j ≡ false
 
-pub dry_start : {car : Vehicle} {vs hs : List ℕ} {a before : ℕ} → Dry car vs hs a a before
-dry_start = record { last = λ z. absurd (z refl); good = λ lo j p q. absurd (omega arith) }
-
-module _ {car : Vehicle} {vs hs : List ℕ} {a i before : ℕ} (inv : Dry car vs hs a i before) {to r last : ℕ} (T : Through car vs hs i to r last) where
-  -- none of them is refused
-  good_so_far : (lo j : ℕ) → a ≤ j → j < r → bad no-gear car vs hs lo j ≡ false
+module _ {car : Vehicle} {vs hs : List ℕ} {a i before : ℕ} (inv : Dry car vs hs a i before) where
+  -- nor was a second up to r without one
+  good_so_far : (r : ℕ) → ((j : ℕ) → i ≤ j → j < r → eqb (first_at car vs hs j) 0 ≡ false) → (lo j : ℕ) → a ≤ j → j < r → bad no-gear car vs hs lo j ≡ false
   unfolding bad
-  good_so_far lo j p q = by_order j i (λ l. inv.good lo j p l) (λ l. and_no _ _ (T.until.fails j l q))
+  good_so_far r f lo j p q = by_order j i (λ l. inv.good lo j p l) (λ l. and_no _ _ (f j l q))
 
   -- the whole part has gears
-  pub dry_more : to ≤ r → Dry car vs hs a to last
-  dry_more h = record { last = λ z. T.last_is; good = λ lo j p q. good_so_far lo j p (omega arith) }
+  pub dry_more : {to last : ℕ} → Through car vs hs i to (Ok last) → Dry car vs hs a to last
+  dry_more {to} T = record { last = λ z. T.last_is; good = good_so_far to T.until }
 
   -- a second of it has none
-  pub dry_stops : {b : ℕ} → a ≤ i → to ≤ b → r < to → moving (at vs r) ≡ true → (lo : ℕ) → LowestAt (bad no-gear car vs hs lo) a b r
+  pub dry_stops : {b to r : ℕ} → Through car vs hs i to (Err r) → a ≤ i → to ≤ b → moving (at vs r) ≡ true → (lo : ℕ)
+      → LowestPlace (bad no-gear car vs hs lo) a b r
   unfolding bad
-  dry_stops p q h m lo = record { from = omega (arith, T.until.from); to = omega arith; fails = good_so_far lo; holds = λ l. both m (T.until.holds h) }
-
-pub dry_ends : {car : Vehicle} {vs hs : List ℕ} {a b i before : ℕ} → Dry car vs hs a i before → a ≤ b → i ≡ b → (lo : ℕ)
-    → LowestAt (bad no-gear car vs hs lo) a b b
-dry_ends inv h e lo = record { from = h; to = omega arith; fails = λ j x y. inv.good lo j x (omega arith); holds = λ l. absurd (omega arith) }
+  dry_stops {b} {to} {r} T p q m lo =
+      let L = T.until in
+      record { from = omega (arith, L.from); to = omega (arith, L.to); fails = good_so_far r L.fails lo; holds = both m L.holds }
 
 -- ---- the trips of a span
 
@@ -111,7 +107,7 @@ passes_over inv (suc j) a b f =
     (λ l. rw (← add-one j) (again (passes_over inv j (omega arith) (omega arith) (λ m x y. f m x (omega arith))) (omega arith)
     (f j (omega arith) (omega arith))))
 
-module _ {vs hs : List ℕ} {lo hi a : ℕ} (Y : Level vs hs lo hi) (x : lo < a) (y : a < hi) (s : moving (at vs (a - 1)) ≡ false) where
+module _ {vs : List ℕ} {lo hi a : ℕ} (Y : Level vs lo hi) (x : lo < a) (y : a < hi) (s : moving (at vs (a - 1)) ≡ false) where
   -- a trip ends by the span's last second, which stands
   pub stop_by : stop vs a < hi
   stop_by =

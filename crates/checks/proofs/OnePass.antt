@@ -1,19 +1,18 @@
--- The checks of a span in one pass from left to right, where the table has one search a number: what a pass has to keep, and that it is enough.
-use Rattle.rules.proofs.Offered.{ℕ, zero, suc, ◌+◌, ◌-◌, ◌≤◌, ◌<◌, suc-add, add-suc, add-zero, sub_self, add-one, arith, ◌≡◌, refl, sym, ◌∙◌, Bool, true, false}
-use Rattle.rules.proofs.Offered.{Option, none, some, List, [], ◌∷◌, ltb, ltb-true, ltb-false, lt-ltb, le-ltb, if◌then◌else◌, ◌and◌, first, Fault, refuse_at}
-use Rattle.rules.proofs.Offered.{◌orelse◌, when, Check, check_number, checks, bad, fault_of, by_test, if_ind, and_left, and_right}
+-- The checks of a span in one pass from left to right, where the table has one search a number: what one second more adds.
+use Rattle.rules.proofs.Offered.{ℕ, zero, suc, ◌+◌, ◌-◌, ◌≤◌, ◌<◌, suc-add, add-suc, add-zero, sub_self, add-one, arith, ◌≡◌, refl, sym, Bool, true, false}
+use Rattle.rules.proofs.Offered.{Option, none, some, List, [], ◌∷◌, ltb, ltb-true, lt-ltb, le-leb, lt-leb, if◌then◌else◌, ◌and◌, first, Fault, refuse_at}
+use Rattle.rules.proofs.Offered.{◌orelse◌, when, Check, check_number, checks, bad, fault_of, seconds_fault, by_test, if_ind, and_left, and_right}
+use Rattle.rules.proofs.Offered.{ltb-false, said}
+use Rattle.std.specs.Prelude.{Ok, Err}
+use Rattle.std.specs.Result.{is_err}
+use Rattle.rules.specs.Refusals.{Answer}
 use Rattle.rules.specs.declared.Vehicle.{Vehicle}
-use Rattle.checks.specs.Checks.{fault_no, kept}
+use Rattle.checks.specs.Checks.{fault_no, kept, lower, hold_checks}
 
--- ---- what a pass keeps
-
--- of a refusal and one of a later second the lower number, on equal numbers the earlier second
-unfoldable better : Option Fault → ℕ → ℕ → Option Fault
-better none n i = kept n i
-better (some f) n i = if ltb n f.no then kept n i else some f
+-- ---- numbers that rise
 
 -- the numbers of a list of checks rise from n on and stay below 10: only then is the first check that fails the lowest number
-unfoldable pub rises : ℕ → List Check → Bool
+unfoldable rises : ℕ → List Check → Bool
 rises n [] = ltb n 10
 rises n (c ∷ cs) = ltb n (check_number c) and rises (check_number c) cs
 
@@ -50,14 +49,14 @@ above-row n m none f h a = a
 above-row n m (some j) f h a = h
 
 -- one check, of number n, at the next second: below it in the list stand higher numbers alone, so where it fails it is the lowest
-row_better : (n m i : ℕ) (o : Option ℕ) (t : Bool) (f : Option Fault) → n < 10 → n < m → Above n f
-    → refuse_at n (or_last o (when t i)) orelse better f m i ≡ better (refuse_at n o orelse f) (if t then n else m) i
-unfolding Above refuse_at ◌orelse◌ or_last when better kept
-row_better n m i (some j) true f a b c = rw (le-ltb n n (omega arith))
-row_better n m i (some j) false f a b c = rw (le-ltb m n (omega arith))
-row_better n m i none true none a b c = rw (lt-ltb n 10 a)
-row_better n m i none true (some f) a b c = rw (lt-ltb n f.no c, lt-ltb n 10 a)
-row_better n m i none false f a b c = refl
+row_lower : (n m i : ℕ) (o : Option ℕ) (t : Bool) (f : Option Fault) → n < 10 → n < m → Above n f
+    → refuse_at n (or_last o (when t i)) orelse lower f (kept m i) ≡ lower (refuse_at n o orelse f) (kept (if t then n else m) i)
+unfolding Above refuse_at ◌orelse◌ or_last when lower kept
+row_lower n m i (some j) true f a b c = rw (lt-ltb n 10 a, le-leb n n (omega arith))
+row_lower n m i (some j) false f a b c = by_test (ltb m 10) (λ t. rw (t, le-leb n m (omega arith))) (λ t. rw t)
+row_lower n m i none true none a b c = rw (lt-ltb n 10 a)
+row_lower n m i none true (some f) a b c = rw (lt-ltb n 10 a, lt-leb f.no n c)
+row_lower n m i none false f a b c = refl
 
 -- so that a check's own number is never taken for none
 rises_below : (n : ℕ) (cs : List Check) → rises n cs ≡ true → n < 10
@@ -76,6 +75,14 @@ module _ (car : Vehicle) (vs hs : List ℕ) (lo i : ℕ) where
       let l : n < check_number c = ltb-true _ _ (and_left _ _ r) in
       if_ind (λ x. n < x) (bad c car vs hs lo i) (λ t. l) (λ t. omega (arith, no_above (check_number c) cs (and_right _ _ r)))
 
+  -- nor more than 10
+  no_most : (n : ℕ) (cs : List Check) → rises n cs ≡ true → fault_no car vs hs lo i cs ≤ 10
+  unfolding fault_no rises
+  no_most n [] r = omega arith
+  no_most n (c ∷ cs) r =
+      if_ind (λ x. x ≤ 10) (bad c car vs hs lo i) (λ t. omega (arith, rises_below (check_number c) cs (and_right _ _ r)))
+      (λ t. no_most (check_number c) cs (and_right _ _ r))
+
   fault-above : (n : ℕ) (cs : List Check) → rises n cs ≡ true → Above n (fault_of (λ c. bad c car vs hs lo) lo i cs)
   unfolding fault_of rises Above
   fault-above n [] r = ltb-true n 10 r
@@ -87,8 +94,8 @@ module _ (car : Vehicle) (vs hs : List ℕ) (lo i : ℕ) where
 
   -- the key: over checks whose numbers rise, second i adds its first check that fails, and only where that number is the lowest yet
   fault-more : (n : ℕ) (cs : List Check) → rises n cs ≡ true → lo ≤ i
-      → fault_of (λ c. bad c car vs hs lo) lo (suc i) cs ≡ better (fault_of (λ c. bad c car vs hs lo) lo i cs) (fault_no car vs hs lo i cs) i
-  unfolding fault_of fault_no rises better kept
+      → fault_of (λ c. bad c car vs hs lo) lo (suc i) cs ≡ lower (fault_of (λ c. bad c car vs hs lo) lo i cs) (kept (fault_no car vs hs lo i cs) i)
+  unfolding fault_of fault_no rises lower kept
   fault-more n [] r h = refl
   fault-more n (c ∷ cs) r h =
       let m = check_number c in
@@ -96,76 +103,46 @@ module _ (car : Vehicle) (vs hs : List ℕ) (lo i : ℕ) where
       let z : suc i - lo ≡ suc (i - lo) = omega arith in
       let y : lo + (i - lo) ≡ i = omega arith in
       rw (z, first_last (bad c car vs hs lo) (i - lo) lo, y, fault-more m cs up h)
-      (row_better m (fault_no car vs hs lo i cs) i (first (bad c car vs hs lo) lo (i - lo)) (bad c car vs hs lo i) (fault_of (λ c. bad c car vs hs lo) lo i cs)
+      (row_lower m (fault_no car vs hs lo i cs) i (first (bad c car vs hs lo) lo (i - lo)) (bad c car vs hs lo i) (fault_of (λ c. bad c car vs hs lo) lo i cs)
       (rises_below m cs up) (no_above m cs up) (fault-above m cs up))
 
 -- the numbers of the checks 4 to 9 rise
-pub table_rises : rises 3 checks ≡ true
+table_rises : rises 3 checks ≡ true
 unfolding checks rises check_number ◌and◌
 table_rises = refl
 
--- of no seconds nothing is refused
-none_yet : (car : Vehicle) (vs hs : List ℕ) (lo : ℕ) (cs : List Check) → fault_of (λ c. bad c car vs hs lo) lo lo cs ≡ none
-unfolding fault_of first refuse_at ◌orelse◌
-none_yet car vs hs lo [] = refl
-none_yet car vs hs lo (c ∷ cs) = rw sub_self (none_yet car vs hs lo cs)
+-- and those of the checks that look at a hold
+holds_rise : rises 6 hold_checks ≡ true
+unfolding hold_checks rises check_number ◌and◌
+holds_rise = refl
 
--- what the code does with the number of the next second: take it, or pass it over
-better_lower : (b j n i : ℕ) → n < b → better (kept b j) n i ≡ kept n i
-unfolding better kept
-better_lower b j n i h = by_test (ltb b 10) (λ t. rw (t, lt-ltb n b h)) (λ t. rw t)
+-- what no number below 10 stands for is none
+none_kept : (n i : ℕ) (r : Answer) → said r ≡ kept n i → is_err r ≡ false → n ≤ 10 → 10 ≡ n
+unfolding said kept
+none_kept n i (Ok x) e f h =
+    by_test (ltb n 10) (λ t. let z = rw t at e in cc) (λ t. let l : 10 ≤ n = ltb-false n 10 t in omega arith)
+none_kept n i (Err r) e f h = cc
 
-better_same : (b j n i : ℕ) → b ≤ n → better (kept b j) n i ≡ kept b j
-unfolding better kept
-better_same b j n i h =
-    by_test (ltb b 10)
-    (λ t. rw (t, le-ltb n b h))
-    (λ t. let l : 10 ≤ b = ltb-false b 10 t in rw (t, le-ltb n 10 (omega arith)))
+module _ (car : Vehicle) (vs hs : List ℕ) (lo i : ℕ) (r : Answer) where
+  -- a second that is not refused fails none
+  pub second_passes : said r ≡ kept (fault_no car vs hs lo i checks) i → is_err r ≡ false → 10 ≡ fault_no car vs hs lo i checks
+  second_passes e f = none_kept _ i r e f (no_most car vs hs lo i 3 checks table_rises)
 
--- ---- the pass, for every vehicle of a kind P: what the code looks at is the same in all of them
+  pub held_passes : said r ≡ kept (fault_no car vs hs lo i hold_checks) i → is_err r ≡ false → 10 ≡ fault_no car vs hs lo i hold_checks
+  held_passes e f = none_kept _ i r e f (no_most car vs hs lo i 6 hold_checks holds_rise)
 
--- the seconds from lo up to i are looked at: their refusal is of number `best` at `place`
-pub record Kept (P : Vehicle → Type 0) (cs : List Check) (vs hs : List ℕ) (lo hi i best place : ℕ) : Type 0 where
-  pub since : lo ≤ i
-  pub until : i ≤ hi
-  pub best_from : 4 ≤ best
-  pub same : (car : Vehicle) → P car → fault_of (λ c. bad c car vs hs lo) lo i cs ≡ kept best place
+module _ (car : Vehicle) (vs hs : List ℕ) (lo : ℕ) where
+  none_of : (cs : List Check) → none ≡ fault_of (λ c. bad c car vs hs lo) lo lo cs
+  unfolding fault_of first refuse_at ◌orelse◌
+  none_of [] = refl
+  none_of (c ∷ cs) = rw sub_self (none_of cs)
 
-module _ (P : Vehicle → Type 0) (cs : List Check) {vs hs : List ℕ} {lo hi : ℕ} where
   -- of no seconds nothing is refused
-  pub begin : lo ≤ hi → Kept P cs vs hs lo hi lo 10 0
-  unfolding kept
-  begin h = record { since = omega arith; until = h; best_from = omega arith; same = λ car H. none_yet car vs hs lo cs }
+  pub seconds_none : none ≡ seconds_fault car vs hs lo lo
+  unfolding seconds_fault
+  seconds_none = none_of checks
 
-  -- over checks whose numbers rise from 4 on
-  module _ (up : rises 3 cs ≡ true) {i best place : ℕ} (inv : Kept P cs vs hs lo hi i best place) where
-    -- second i's first check that fails, of which the code knows the number; some vehicle is of this kind
-    module _ (one : Vehicle) (is_one : P one) {no : ℕ} (is : (car : Vehicle) → P car → no ≡ fault_no car vs hs lo i cs) (h : i < hi) where
-      -- the refusal of one second more, from what is kept
-      next : (car : Vehicle) → P car → fault_of (λ c. bad c car vs hs lo) lo (suc i) cs ≡ better (kept best place) no i
-      next car H = fault-more car vs hs lo i 3 cs up inv.since ∙ rw (inv.same car H, ← is car H)
-
-      -- a lower number than any before is kept, with this second
-      pub lower : {b q : ℕ} → b ≡ no → q ≡ i → no < best → Kept P cs vs hs lo hi (i + 1) b q
-      lower e f l =
-          let from : 3 < no = rw (is one is_one) (no_above one vs hs lo i 3 cs up) in
-          record {
-            since = omega arith;
-            until = omega arith;
-            best_from = omega arith;
-            same = λ car H. rw (e, f, add-one) (next car H ∙ better_lower best place no i l);
-          }
-
-      -- any other is passed over: for one number the lowest second wins
-      pub no_lower : {b q : ℕ} → b ≡ best → q ≡ place → best ≤ no → Kept P cs vs hs lo hi (i + 1) b q
-      no_lower e f l = record {
-        since = omega arith;
-        until = omega arith;
-        best_from = omega arith;
-        same = λ car H. rw (e, f, add-one) (next car H ∙ better_same best place no i l);
-      }
-
-  -- past the last second, what is kept is the span's refusal
-  pub done : {i best place : ℕ} → Kept P cs vs hs lo hi i best place → hi ≤ i → (car : Vehicle) → P car
-      → kept best place ≡ fault_of (λ c. bad c car vs hs lo) lo hi cs
-  done {i} inv h car H = let e : i ≡ hi = omega (arith, inv.until) in rw e at (sym (inv.same car H))
+  -- of one second more the lower of what is refused so far and of what that second fails
+  pub seconds_more : (i : ℕ) → lo ≤ i → lower (seconds_fault car vs hs lo i) (kept (fault_no car vs hs lo i checks) i) ≡ seconds_fault car vs hs lo (i + 1)
+  unfolding seconds_fault
+  seconds_more i h = rw add-one (sym (fault-more car vs hs lo i 3 checks table_rises h))

@@ -2,9 +2,7 @@
 use Rattle.rules.proofs.Offered.{ℕ, ◌+◌, ◌-◌, ◌≤◌, ◌<◌, le_trans, arith, ◌≡◌, sym, ◌≢◌, false, none, List, eqb, length, eqb-true, eqb-false, at}
 use Rattle.rules.proofs.Offered.{fastest, steepest, step, bad, seconds_fault, by_test, by_order, by_eq}
 use Rattle.rules.specs.declared.Vehicle.{Vehicle}
-use Rattle.gears.specs.declared.Numbers.{Numbers}
-use Rattle.gears.specs.Parts.{Has}
-use Rattle.checks.specs.declared.Asked.{Asked}
+use Rattle.checks.specs.declared.trace.Asked.{Asked}
 use Rattle.checks.specs.Asked.{speeds_with, holds_with}
 use Rattle.checks.specs.Calm.{Each, AtMost, gap_at, Seen, Stands, HoldsPass, Quiet, OwnPasses}
 use Rattle.checks.proofs.Through.{length_speeds, speed_is, gear_is, speed_else, hold_else}
@@ -18,9 +16,8 @@ pieces P lo hi s before here after i a b =
     (λ l. after i (omega arith) b))
 
 -- so a part of a span is quiet where its holds pass
-pub quiet_part : {k : Numbers} {ratio vs hs : List ℕ} {lo hi most step : ℕ} → Seen vs lo hi most step → most ≤ fastest → step ≤ steepest → (a b : ℕ) → lo ≤ a
-    → b ≤ hi
-    → Each (HoldsPass k ratio vs hs) a b → Quiet k ratio vs hs a b
+pub quiet_part : {car : Vehicle} {vs hs : List ℕ} {lo hi most step : ℕ} → Seen vs lo hi most step → most ≤ fastest → step ≤ steepest → (a b : ℕ) → lo ≤ a
+    → b ≤ hi → Each (HoldsPass car vs hs) a b → Quiet car vs hs a b
 quiet_part {vs = vs} {lo = lo} {hi = hi} S m s a b from to held = record {
   speeds = λ i x y. le_trans (at_most (at vs) lo hi S.speeds i (omega arith) (omega arith)) m;
   steps = λ i x y. le_trans (at_most (gap_at vs) (lo + 1) hi S.steps i (omega arith) (omega arith)) s;
@@ -37,41 +34,39 @@ module _ (e : Asked) (vs : List ℕ) (lo hi : ℕ) where
 
   -- ---- nothing is wrong
 
-  module _ (k : Numbers) (ratio hs : List ℕ) (inside : hi ≤ length vs) (rest : Stands (speeds_with e vs) lo hi) where
+  module _ (car : Vehicle) (hs : List ℕ) (inside : hi ≤ length vs) (rest : Stands (speeds_with e vs) lo hi) where
     -- so of a piece that has not the second that is asked for, where the step into the piece is in order
-    piece_good : (a b : ℕ) → Quiet k ratio vs hs a b → lo ≤ a → b ≤ hi → ((i : ℕ) → a ≤ i → i < b → i ≢ e.second)
-        → (a < b → (car : Vehicle) → bad step car (speeds_with e vs) (holds_with e hs) lo a ≡ false)
-        → Each (Good k ratio (speeds_with e vs) (holds_with e hs) lo) a b
+    piece_good : (a b : ℕ) → Quiet car vs hs a b → lo ≤ a → b ≤ hi → ((i : ℕ) → a ≤ i → i < b → i ≢ e.second)
+        → (a < b → bad step car (speeds_with e vs) (holds_with e hs) lo a ≡ false)
+        → Each (Good car (speeds_with e vs) (holds_with e hs) lo) a b
     piece_good a b Q from to others entry i x y =
         let ws = speeds_with e vs in
         let ks = holds_with e hs in
         let here : at ws i ≡ at vs i = speed_else e vs i (others i x y) in
-        let held : HoldsPass k ratio ws ks i = rw (here, hold_else e hs i (others i x y)) (Q.holds i x y) in
-        let small : (car : Vehicle) → bad step car ws ks lo i ≡ false =
-        λ car.
+        let held : HoldsPass car ws ks i = rw (here, hold_else e hs i (others i x y)) (Q.holds i x y) in
+        let small : bad step car ws ks lo i ≡ false =
         by_eq {P = bad step car ws ks lo i ≡ false} {i = a} {j = i} x
-        (λ z. rw (sym z) (entry (omega arith) car))
+        (λ z. rw (sym z) (entry (omega arith)))
         (λ l.
         let before : at ws (i - 1) ≡ at vs (i - 1) = speed_else e vs (i - 1) (others (i - 1) (omega arith) (omega arith)) in
         sym (step_small car ws ks lo i (omega arith) (rw (here, before) (Q.steps i (omega arith) y)))) in
-        second_good k ratio ws ks lo hi (rw (length_speeds e vs) inside) rest i (omega arith) (omega arith) (rw here (Q.speeds i x y)) small held
+        second_good car ws ks lo hi (rw (length_speeds e vs) inside) rest i (omega arith) (omega arith) (rw here (Q.speeds i x y)) small held
 
     -- nothing of the span is asked for
-    pub calm_apart : hi ≤ e.second → Quiet k ratio vs hs lo hi → (car : Vehicle) → Has car k ratio
-        → none ≡ seconds_fault car (speeds_with e vs) (holds_with e hs) lo hi
+    pub calm_apart : hi ≤ e.second → Quiet car vs hs lo hi → none ≡ seconds_fault car (speeds_with e vs) (holds_with e hs) lo hi
     calm_apart h Q =
         let some = rest.some in
-        nothing_wrong k ratio (speeds_with e vs) (holds_with e hs) lo hi (omega arith)
-        (piece_good lo hi Q (omega arith) (omega arith) (λ i a b z. omega arith) (λ l car. sym (step_out car _ _ lo lo (omega arith))))
+        nothing_wrong car (speeds_with e vs) (holds_with e hs) lo hi (omega arith)
+        (piece_good lo hi Q (omega arith) (omega arith) (λ i a b z. omega arith) (λ l. sym (step_out car _ _ lo lo (omega arith))))
 
-    pub calm_with : lo ≤ e.second → e.second < hi → length hs ≡ length vs → Quiet k ratio vs hs lo e.second → Quiet k ratio vs hs (e.second + 1) hi
-        → OwnPasses k ratio (speeds_with e vs) e.gear lo hi e.second → (car : Vehicle) → Has car k ratio
-        → none ≡ seconds_fault car (speeds_with e vs) (holds_with e hs) lo hi
+    -- one second of it is
+    pub calm_with : lo ≤ e.second → e.second < hi → length hs ≡ length vs → Quiet car vs hs lo e.second → Quiet car vs hs (e.second + 1) hi
+        → OwnPasses car (speeds_with e vs) e.gear lo hi e.second → none ≡ seconds_fault car (speeds_with e vs) (holds_with e hs) lo hi
     calm_with since until rooms before after own =
         let ws = speeds_with e vs in
         let ks = holds_with e hs in
-        nothing_wrong k ratio ws ks lo hi (omega arith)
-        (pieces (Good k ratio ws ks lo) lo hi e.second
-        (piece_good lo e.second before (omega arith) (omega arith) (λ i a b z. omega arith) (λ l car. sym (step_out car _ _ lo lo (omega arith))))
-        (λ a b car H. own.here car H ks (gear_is e hs (omega arith)))
-        (piece_good (e.second + 1) hi after (omega arith) (omega arith) (λ i a b z. omega arith) (λ l car. own.next l car ks)))
+        nothing_wrong car ws ks lo hi (omega arith)
+        (pieces (Good car ws ks lo) lo hi e.second
+        (piece_good lo e.second before (omega arith) (omega arith) (λ i a b z. omega arith) (λ l. sym (step_out car _ _ lo lo (omega arith))))
+        (λ a b. own.here ks (gear_is e hs (omega arith)))
+        (piece_good (e.second + 1) hi after (omega arith) (omega arith) (λ i a b z. omega arith) (λ l. own.next l car ks)))

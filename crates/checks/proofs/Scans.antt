@@ -1,26 +1,22 @@
 -- The two scans of a trip, as a loop meets them: here, one second further, and at the end of the trace.
-use Rattle.rules.proofs.Offered.{ℕ, suc, ◌+◌, ◌-◌, ◌≤◌, ◌<◌, add-zero, add-suc, suc-add, add-one, arith, ◌≡◌, sym, ap, ◌∙◌, Bool, true, false, not, List}
-use Rattle.rules.proofs.Offered.{length, drop_of_length-le, drop-cons, not-true, not-false, at, moving, start, run, stop}
-
--- what the code found not to be so is not, and what it did not find not to be so is
-pub not_so : {r t : Bool} → r ≡ t → not r ≡ true → t ≡ false
-not_so {r} e n = sym e ∙ not-true r n
-
-pub so : {r t : Bool} → r ≡ t → not r ≡ false → t ≡ true
-so {r} e n = sym e ∙ not-false r n
+use Rattle.rules.proofs.Offered.{ℕ, suc, ◌+◌, ◌-◌, ◌≤◌, ◌<◌, add-zero, add-suc, suc-add, add-one, arith, ◌≡◌, sym, ap, ◌∙◌, true, false, List}
+use Rattle.rules.proofs.Offered.{length, drop_of_length-le, drop-cons, at, moving, start, run, stop}
 
 module _ (vs : List ℕ) (k : ℕ) where
   -- ---- to the left
 
   -- there is no second before
-  pub start_zero : k ≡ 0 → k ≡ start vs k
+  pub start_zero : k ≡ 0 → 0 ≡ start vs k
   unfolding start
   start_zero e = rw e
 
   -- the second before is standing
-  pub start-here : 0 < k → moving (at vs (k - 1)) ≡ false → k ≡ start vs k
+  pub start-here : 0 < k → moving (at vs (k - 1)) ≡ false → k - 1 + 1 ≡ start vs k
   unfolding start
-  start-here h l = let e : k ≡ suc (k - 1) = omega arith in rw (e, l)
+  start-here h l =
+      let z : k - 1 + 1 ≡ k = omega arith in
+      let e : k ≡ suc (k - 1) = omega arith in
+      z ∙ rw (e, l)
 
   -- it is moving
   pub start-more : 0 < k → moving (at vs (k - 1)) ≡ true → start vs k ≡ start vs (k - 1)

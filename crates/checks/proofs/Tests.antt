@@ -2,16 +2,9 @@
 use Rattle.rules.proofs.Offered.{ℕ, suc, ◌+◌, ◌-◌, ◌*◌, ◌≤◌, ◌<◌, arith, ◌≡◌, refl, sym, ◌∙◌, Bool, true, false, not, List, eqb, length, lt-ltb, le-ltb}
 use Rattle.rules.proofs.Offered.{le-leb, lt-leb, eq-eqb, ne_eqb, ◌and◌, ◌or◌, at, highest, fastest, steepest, moving, engine, is_under_nmax, fits}
 use Rattle.rules.proofs.Offered.{role_at, not_driven, speed, step, ends, over-ng, at_rest, over-rev, no-gear, check_number, checks, bad, by_order, and_no}
-use Rattle.rules.proofs.Offered.{first_at_is, choice_none_fits}
+use Rattle.rules.proofs.Offered.{first_at_is, choice_none_fits, ltb, add-one}
 use Rattle.rules.specs.declared.Vehicle.{Vehicle}
-use Rattle.gears.specs.declared.Numbers.{Numbers}
-use Rattle.gears.specs.Parts.{Has}
-use Rattle.gears.proofs.Parts.{nmax_of, engine_of}
 use Rattle.checks.specs.Checks.{fault_no, hold_checks}
-
--- a number that is not below k, nor k, as the last arm of a match knows it of each arm before
-pub past : {b k : ℕ} → k ≤ b → (b ≡ k → ⊥) → k < b
-past h n = omega arith
 
 module _ (car : Vehicle) (vs hs : List ℕ) (lo i : ℕ) where
   -- ---- 5, the step. The code has the gap, which is one number for both ways
@@ -36,6 +29,12 @@ module _ (car : Vehicle) (vs hs : List ℕ) (lo i : ℕ) where
   step_small h l =
       rw (lt-ltb lo i h, le-ltb (at vs (i - 1) + steepest) (at vs i) (omega arith), le-ltb (at vs i + steepest) (at vs (i - 1)) (omega arith))
 
+  -- so the code's test of the gap is the check
+  pub step_gap : lo < i → ltb steepest ((at vs (i - 1) - at vs i) + (at vs i - at vs (i - 1))) ≡ bad step car vs hs lo i
+  step_gap h =
+      let gap = (at vs (i - 1) - at vs i) + (at vs i - at vs (i - 1)) in
+      by_order steepest gap (λ l. lt-ltb steepest gap l ∙ step_large h l) (λ l. le-ltb steepest gap l ∙ step_small h l)
+
   -- ---- 6, the trace's ends
 
   -- a standing second is as an end has to be
@@ -43,15 +42,15 @@ module _ (car : Vehicle) (vs hs : List ℕ) (lo i : ℕ) where
   unfolding bad ◌and◌
   ends_standing h = rw h
 
-  -- the first sample moves
-  pub ends_first : moving (at vs i) ≡ true → i ≡ 0 → true ≡ bad ends car vs hs lo i
+  -- a moving second is a fault where it is the first
+  pub ends_first : moving (at vs i) ≡ true → i ≡ 0 → eqb i 0 ≡ bad ends car vs hs lo i
   unfolding bad ◌and◌ ◌or◌
   ends_first h e = rw (h, eq-eqb i 0 e)
 
-  -- the last does
-  pub ends_last : moving (at vs i) ≡ true → (i ≡ 0 → ⊥) → i + 1 ≡ length vs → true ≡ bad ends car vs hs lo i
+  -- or else where it is the last
+  pub ends_last : moving (at vs i) ≡ true → (i ≡ 0 → ⊥) → {n : ℕ} → n ≡ length vs → eqb (i + 1) n ≡ bad ends car vs hs lo i
   unfolding bad ◌and◌ ◌or◌
-  ends_last h n e = rw (h, ne_eqb i 0 n, eq-eqb (suc i) (length vs) (omega arith))
+  ends_last h n e = rw (h, ne_eqb i 0 n, e, add-one)
 
   -- a moving second between them is no fault
   pub ends_between : moving (at vs i) ≡ true → (i ≡ 0 → ⊥) → (i + 1 ≡ length vs → ⊥) → false ≡ bad ends car vs hs lo i
@@ -126,41 +125,32 @@ pub free_good : (car : Vehicle) (vs hs : List ℕ) (lo i : ℕ) → at hs i ≡ 
 unfolding fault_no hold_checks
 free_good car vs hs lo i e = rw (over_none car vs hs lo i e, rest_free car vs hs lo i e, rev_free car vs hs lo i e)
 
-module _ {car : Vehicle} {k : Numbers} {ratio : List ℕ} (H : Has car k ratio) (vs hs : List ℕ) (lo i : ℕ) {held : ℕ} (shows : at hs i ≡ held) where
+module _ (car : Vehicle) (vs hs : List ℕ) (lo i : ℕ) {v held : ℕ} (here : at vs i ≡ v) (shows : at hs i ≡ held) where
   -- 7 goes before 8 and 9, at a standing second too
   pub held_over : true ≡ not_driven car held → 7 ≡ fault_no car vs hs lo i hold_checks
   unfolding fault_no hold_checks check_number
   held_over a = rw (over_is car vs hs lo i shows a)
 
   module _ (n : held ≡ 0 → ⊥) (a : false ≡ not_driven car held) where
+    is_held : at hs i ≡ 0 → ⊥
+    is_held z = n (sym shows ∙ z)
+
     -- 8 goes before 9
-    pub held_standing : moving (at vs i) ≡ false → 8 ≡ fault_no car vs hs lo i hold_checks
+    pub held_standing : false ≡ moving v → 8 ≡ fault_no car vs hs lo i hold_checks
     unfolding fault_no hold_checks check_number
-    held_standing l = rw (over_is car vs hs lo i shows a, rest_yes car vs hs lo i l (λ z. n (sym shows ∙ z)))
+    held_standing l = rw (over_is car vs hs lo i shows a, rest_yes car vs hs lo i (rw here (sym l)) is_held)
 
-    module _ (l : moving (at vs i) ≡ true) where
-      turns : engine car (at hs i) (at vs i) ≡ at ratio (held - 1) * at vs i
-      turns = engine_of H (at hs i) (at vs i) ∙ rw shows
-
+    module _ (l : true ≡ moving v) where
       -- 9, where 7 and 8 pass
-      pub held_over_rev : 1000 * k.nmax < at ratio (held - 1) * at vs i → 9 ≡ fault_no car vs hs lo i hold_checks
+      pub held_over_rev : 1000 * car.nmax < engine car held v → 9 ≡ fault_no car vs hs lo i hold_checks
       unfolding fault_no hold_checks check_number
       held_over_rev x =
-          rw (
-            over_is car vs hs lo i shows a,
-            rest_moving car vs hs lo i l,
-            rev_yes car vs hs lo i (λ z. n (sym shows ∙ z)) (omega (arith, turns, nmax_of H.counts)),
-          )
+          rw (over_is car vs hs lo i shows a, rest_moving car vs hs lo i (rw here (sym l)), rev_yes car vs hs lo i is_held (rw (here, shows) x))
 
       -- a hold that passes these
-      pub held_good : at ratio (held - 1) * at vs i ≤ 1000 * k.nmax → 10 ≡ fault_no car vs hs lo i hold_checks
+      pub held_good : engine car held v ≤ 1000 * car.nmax → 10 ≡ fault_no car vs hs lo i hold_checks
       unfolding fault_no hold_checks
-      held_good x =
-          rw (
-            over_is car vs hs lo i shows a,
-            rest_moving car vs hs lo i l,
-            rev_no car vs hs lo i (omega (arith, turns, nmax_of H.counts)),
-          )
+      held_good x = rw (over_is car vs hs lo i shows a, rest_moving car vs hs lo i (rw here (sym l)), rev_no car vs hs lo i (rw (here, shows) x))
 
 -- ---- of all: 4, 5 and 6 go before those that look at a hold
 

@@ -1,6 +1,6 @@
 -- What is asked for changes its own second and no other, and no length. A second past the trace asks for nothing.
 use Rattle.rules.proofs.Offered.{ℕ, ◌<◌, arith, ◌≡◌, ap, ◌∙◌, ◌≢◌, List, length, set, set_out, length-set, get_or-set_same, get_or-set_other, at}
-use Rattle.checks.specs.declared.Asked.{Asked}
+use Rattle.checks.specs.declared.trace.Asked.{Asked}
 use Rattle.checks.specs.Asked.{speeds_with, holds_with}
 
 module _ (e : Asked) where

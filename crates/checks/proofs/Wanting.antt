@@ -1,17 +1,14 @@
 -- No gap between two gears' speeds is enough: no second of a span that passes the checks before wants a gear.
-use Rattle.rules.proofs.Offered.{ℕ, zero, suc, ◌+◌, ◌-◌, ◌*◌, ◌≤◌, ◌<◌, mul_comm, mul_assoc, mul-le-mul_left, mul-le-mul_right, le_of_mul-le-mul_right}
-use Rattle.rules.proofs.Offered.{le_trans, le_of_eq, le_of_lt, zero-mul, arith, ◌≡◌, refl, sym, ap, ◌∙◌, Bool, true, false, not, List, none, some, eqb}
+use Rattle.rules.proofs.Offered.{ℕ, zero, suc, ◌-◌, ◌*◌, ◌≤◌, ◌<◌, mul_comm, mul_assoc, mul-le-mul_left, mul-le-mul_right, le_of_mul-le-mul_right}
+use Rattle.rules.proofs.Offered.{le_trans, le_of_eq, le_of_lt, zero-mul, add-one, arith, ◌≡◌, refl, sym, ap, ◌∙◌, Bool, true, false, not, List, none, some, eqb}
 use Rattle.rules.proofs.Offered.{length, drop, le-leb, leb-false, eqb-true, eqb-false, ne_eqb, not-true, eq-eqb, ◌and◌, ◌or◌, at, first, highest}
-use Rattle.rules.proofs.Offered.{low, steepest, moving, start, is_first, minimum, engine, is_under_nmax, is_over_minimum, allowed, fits, closing, role_of}
-use Rattle.rules.proofs.Offered.{first_at, refuse_at, ◌orelse◌, no-gear, bad, seconds_fault, clash, by_test, by_order, by_eq, first_none}
+use Rattle.rules.proofs.Offered.{low, ratio_of, steepest, moving, start, is_first, minimum, engine, is_under_nmax, is_over_minimum, allowed, fits, closing}
+use Rattle.rules.proofs.Offered.{role_of, first_at, refuse_at, ◌orelse◌, no-gear, bad, seconds_fault, clash, by_test, by_order, by_eq, first_none}
 use Rattle.rules.proofs.Offered.{one_holds, start_le, step_passed, role_at, gear_fault}
 use Rattle.rules.proofs.Theorems.Choosing.{fits-at_any}
 use Rattle.rules.specs.declared.Vehicle.{Vehicle}
 use Rattle.rules.specs.declared.Role.{Role}
 use Rattle.rules.specs.declared.Role.TheVariants.{AfterLow}
-use Rattle.gears.specs.declared.Numbers.{Numbers}
-use Rattle.gears.specs.Parts.{Has, low_in}
-use Rattle.gears.proofs.Parts.{low_of, ng_of, nmax_of, engine_of}
 use Rattle.checks.specs.Calm.{first_fastest, Each, AtMost, gap_at, Stands, Follows, NoGap}
 use Rattle.checks.proofs.Tests.{step_large, gear_standing, gear_held, gear_free}
 use Rattle.checks.proofs.Scans.{start-more}
@@ -38,54 +35,61 @@ first-place car true closes before = refl
 first-place car false true before = refl
 first-place car false false before = by_test (eqb before (low car)) (λ t. rw t) (λ t. rw t)
 
-module _ {car : Vehicle} {k : Numbers} {ratio : List ℕ} (H : Has car k ratio) (v : ℕ) where
+-- the lowest gear is one
+pub low_some : (car : Vehicle) → 1 ≤ low car
+unfolding low
+low_some car = omega arith
+
+module _ (car : Vehicle) (v : ℕ) where
+  -- a gear turns no faster at this speed than at a higher one
+  turns_less : (g : ℕ) {w : ℕ} → v ≤ w → engine car g v ≤ engine car g w
+  unfolding engine
+  turns_less g h = mul-le-mul_left (ratio_of car g) h
+
   -- the lowest gear has no minimum, and may fit at any second
-  low_fits : (here : Role) → at ratio (low_in k - 1) * v ≤ 1000 * k.nmax → fits car here v (low_in k) ≡ true
+  low_fits : (here : Role) → engine car (low car) v ≤ 1000 * car.nmax → fits car here v (low car) ≡ true
   unfolding fits allowed is_over_minimum is_under_nmax ◌and◌ ◌or◌
-  low_fits here h =
-      let l : engine car (low_in k) v ≤ 1000 * car.nmax = omega (arith, engine_of H (low_in k) v, nmax_of H.counts) in
-      rw (low_of H.counts, le-leb (low_in k) (low_in k) (omega arith), eq-eqb (low_in k) (low_in k) refl, le-leb _ _ l)
+  low_fits here h = rw (le-leb (low car) (low car) (omega arith), eq-eqb (low car) (low car) refl, le-leb _ _ h)
 
   -- a gear above it, after the lowest gear, where its minimum is highest
-  high_fits : (g : ℕ) → low_in k ≤ g → 1000 * minimum car AfterLow (g + 1) ≤ at ratio g * v → at ratio g * v ≤ 1000 * k.nmax
-      → fits car AfterLow v (g + 1) ≡ true
+  high_fits : (g : ℕ) → low car < g → 1000 * minimum car AfterLow g ≤ engine car g v → engine car g v ≤ 1000 * car.nmax → fits car AfterLow v g ≡ true
   unfolding fits allowed is_over_minimum is_under_nmax is_first ◌and◌ ◌or◌
-  high_fits g a l h =
-      let e : g + 1 - 1 ≡ g = omega arith in
-      let x : engine car (g + 1) v ≡ at ratio g * v = engine_of H (g + 1) v ∙ rw e in
-      let up : 1000 * minimum car AfterLow (g + 1) ≤ engine car (g + 1) v = omega arith in
-      let to : engine car (g + 1) v ≤ 1000 * car.nmax = omega (arith, nmax_of H.counts) in
-      rw (low_of H.counts, le-leb (low_in k) (g + 1) (omega arith), ne_eqb (g + 1) (low_in k) (λ z. omega arith), le-leb _ _ up, le-leb _ _ to)
+  high_fits g a up to = rw (le-leb (low car) g (omega arith), ne_eqb g (low car) (λ z. omega arith), le-leb _ _ up, le-leb _ _ to)
 
-  module _ (on : Each (Follows k ratio) (low_in k) k.ng) (here : Role) (later : is_first here ≡ false) where
+  module _ (on : Each (Follows car) (low car) car.ng) (here : Role) (later : is_first here ≡ false) where
+    -- the gear after one that turns past nmax
+    next_fits : (g : ℕ) → low car ≤ g → g < car.ng → 1000 * car.nmax < engine car g v → engine car (suc g) v ≤ 1000 * car.nmax
+        → fits car here v (suc g) ≡ true
+    unfolding engine ratio_of
+    next_fits g b a over under =
+        let m = minimum car AfterLow (suc g) in
+        let x : suc g - 1 ≡ g = omega arith in
+        let o : m * at car.ratio (g - 1) ≤ car.nmax * at car.ratio g = rw (add-one g) at (on g b a) in
+        fits-at_any car here v (suc g) later
+        (high_fits (suc g) (omega arith) (rw x (reached (at car.ratio (g - 1)) (at car.ratio g) v m car.nmax over o)) under)
+
     -- from a gear that turns no faster than nmax down to the floor, which fits: it is the lowest, or the gear below it turns past nmax
-    floor-fits : (j : ℕ) → low_in k ≤ suc j → j < k.ng → at ratio j * v ≤ 1000 * k.nmax → true ≡ not (eqb (highest (fits car here v) k.ng) 0)
-    floor-fits zero b a h = let e : low_in k ≡ 1 = omega arith in one_holds _ k.ng (low_in k) (omega arith) (omega arith) (low_fits here (rw e h))
-    floor-fits (suc j) b a h =
+    floor-fits : (g : ℕ) → low car ≤ g → g ≤ car.ng → engine car g v ≤ 1000 * car.nmax → true ≡ not (eqb (highest (fits car here v) car.ng) 0)
+    floor-fits zero b a h = let l = low_some car in absurd (omega arith)
+    floor-fits (suc g) b a h =
         by_eq b
-        (λ e. let z : low_in k - 1 ≡ suc j = omega arith in one_holds _ k.ng (low_in k) (omega arith) (omega arith) (low_fits here (rw z h)))
-        (λ above. by_order (1000 * k.nmax) (at ratio j * v)
-        (λ over.
-        let e : suc j - 1 ≡ j = omega arith in
-        let m = minimum car AfterLow (suc j + 1) in
-        let o : m * at ratio j ≤ k.nmax * at ratio (suc j) = rw e at (on (suc j) (omega arith) a car H.counts) in
-        one_holds _ k.ng (suc j + 1) (omega arith) (omega arith)
-        (fits-at_any car here v (suc j + 1) later (high_fits (suc j) (omega arith) (reached (at ratio j) (at ratio (suc j)) v m k.nmax over o) h)))
-        (λ under. floor-fits j (omega arith) (omega arith) under))
+        (λ e. one_holds _ car.ng (low car) (low_some car) (omega arith) (low_fits here (rw e h)))
+        (λ above. by_order (1000 * car.nmax) (engine car g v)
+        (λ over. one_holds _ car.ng (suc g) (omega arith) a (next_fits g (omega arith) (omega arith) over h))
+        (λ under. floor-fits g (omega arith) (omega arith) under))
 
   -- so that some gear fits at every speed up to `most`, and at the first second of a trip at every one that it can have
-  some_gear : {most : ℕ} → NoGap k ratio most → v ≤ most → (here : Role) → (is_first here ≡ true → v ≤ first_fastest)
-      → true ≡ not (eqb (highest (fits car here v) k.ng) 0)
+  some_gear : {most : ℕ} → NoGap car most → v ≤ most → (here : Role) → (is_first here ≡ true → v ≤ first_fastest)
+      → true ≡ not (eqb (highest (fits car here v) car.ng) 0)
   some_gear d a here b =
       by_test (is_first here)
-      (λ t. one_holds _ k.ng (low_in k) (omega arith) d.some (low_fits here (le_trans (mul-le-mul_left (at ratio (low_in k - 1)) (b t)) d.at_first)))
-      (λ t. floor-fits d.covered here t (k.ng - 1) (omega (arith, d.some)) (omega (arith, d.some))
-      (le_trans (mul-le-mul_left (at ratio (k.ng - 1)) a) d.at_most))
+      (λ t. one_holds _ car.ng (low car) (low_some car) d.some (low_fits here (le_trans (turns_less (low car) (b t)) d.at_first)))
+      (λ t. floor-fits d.covered here t car.ng d.some (omega arith) (le_trans (turns_less car.ng a) d.at_most))
 
 -- ---- so no second wants one
 
-module _ {car : Vehicle} {k : Numbers} {ratio : List ℕ} (H : Has car k ratio) (vs hs : List ℕ) (lo hi : ℕ) {most : ℕ}
-    (rooms : length hs ≡ length vs) (rest : Stands vs lo hi) (speeds : AtMost (at vs) lo hi most) (gears : NoGap k ratio most)
+module _ (car : Vehicle) (vs hs : List ℕ) (lo hi : ℕ) {most : ℕ}
+    (rooms : length hs ≡ length vs) (rest : Stands vs lo hi) (speeds : AtMost (at vs) lo hi most) (gears : NoGap car most)
     (before : none ≡ seconds_fault car vs hs lo hi) where
   module _ (i : ℕ) (since : lo ≤ i) (until : i < hi) where
     -- a moving second is not the span's first
@@ -121,9 +125,8 @@ module _ {car : Vehicle} {k : Numbers} {ratio : List ℕ} (H : Has car k ratio) 
         let free : at hs i ≡ 0 = eqb-true _ _ t in
         let here = role_at car vs hs i in
         gear_free car vs hs lo i rooms m free
-        ∙ ap (λ (g : ℕ). eqb (highest (fits car here (at vs i)) g) 0) (ng_of H.counts)
         ∙ not-true _
-        (sym (some_gear H (at vs i) gears (speeds i since until) here
+        (sym (some_gear car (at vs i) gears (speeds i since until) here
         (λ f. first_slow m (sym (first-place car (eqb i (start vs i)) (closing (drop i vs)) (first_at car vs hs (i - 1))) ∙ f)))))
         (λ t. sym (gear_held car vs hs lo i rooms m (eqb-false _ _ t))))
         (λ m. sym (gear_standing car vs hs lo i m))

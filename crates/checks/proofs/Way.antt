@@ -1,15 +1,17 @@
 -- A part of a trip on the way through it: going through its seconds with the speed that follows gives their first choices.
-use Rattle.rules.proofs.Offered.{ℕ, zero, suc, ◌+◌, ◌-◌, ◌≤◌, ◌<◌, arith, ◌≡◌, refl, sym, ap, ◌∙◌, Bool, true, false, List, [], ◌∷◌, leb, eqb, length, take}
-use Rattle.rules.proofs.Offered.{drop, length-take-le, le-leb, lt-leb, eq-eqb, ne_eqb, ◌and◌, at, part, pass, rise, start, closing, role_of, first_at, IsTrip}
+use Rattle.rules.proofs.Offered.{ℕ, zero, suc, ◌+◌, ◌-◌, ◌≤◌, ◌<◌, arith, ◌≡◌, ◌≢◌, refl, sym, ap, ◌∙◌, Bool, true, false, List, [], ◌∷◌, leb, eqb, length}
+use Rattle.rules.proofs.Offered.{drop, le-leb, lt-leb, eq-eqb, ne_eqb, ◌and◌, at, part, pass, rise, start, closing, role_of, first_at, IsTrip}
 use Rattle.rules.proofs.Offered.{role_at, by_order, and_no, at_part, length_part, pass-at, pass_done, trip_start, closing-part, first_at_is, of₃}
+use Rattle.std.specs.Prelude.{Ok, Err}
+use Rattle.std.specs.List.{AllWithin}
 use Rattle.rules.specs.declared.Vehicle.{Vehicle}
 use Rattle.gears.specs.Choosing.{first_of}
 use Rattle.trips.specs.Ready.{Paced}
 use Rattle.trips.specs.Trip.{on_way}
 use Rattle.trips.proofs.Clutch.{rise-here}
-use Rattle.checks.specs.declared.Asked.{Asked}
+use Rattle.checks.specs.declared.trace.Asked.{Asked}
 use Rattle.checks.specs.Asked.{speeds_with, holds_with}
-use Rattle.checks.specs.Want.{OnWay, PartEnd, Firsts, Through, LowestAt}
+use Rattle.checks.specs.Want.{OnWay, Firsts, Through}
 use Rattle.checks.proofs.Through.{speed_else, hold_else}
 
 -- ---- what is lent of a part
@@ -44,7 +46,7 @@ piece_part e vs hs i to order inside rooms apart =
 
 -- ---- a second on the way
 
-module _ {vs hs : List ℕ} {a b run i : ℕ} (W : OnWay vs hs a b run i) where
+module _ {vs : List ℕ} {a b run i : ℕ} (W : OnWay vs a b run i) where
   its_trip : IsTrip vs a b
   its_trip = record { some_second = omega (arith, W.since, W.until); inside = W.trip.moves; before = W.trip.before; after = W.trip.after }
 
@@ -84,10 +86,10 @@ left_here a i j run h =
     (λ l. lt-leb (run - (i - a)) j (omega arith) ∙ sym (lt-leb run (i + j - a) l))
     (λ l. le-leb (run - (i - a)) j (omega arith) ∙ sym (le-leb run (i + j - a) l))
 
-module _ {vs ns : List ℕ} {a b run i : ℕ} (W : OnWay vs ns a b run i) {ks us hs : List ℕ} (P : Piece vs ks us hs i) (until : i + length hs ≤ b) where
+module _ {vs : List ℕ} {a b run i : ℕ} (W : OnWay vs a b run i) {ks us hs : List ℕ} (P : Piece vs ks us hs i) (until : i + length hs ≤ b) where
   -- each second of it is on the way
-  each_way : (j : ℕ) → j < length hs → OnWay vs ns a b run (i + j)
-  each_way j l = record { trip = W.trip; rooms = W.rooms; since = omega (arith, W.since); until = omega arith; closes = W.closes }
+  each_way : (j : ℕ) → j < length hs → OnWay vs a b run (i + j)
+  each_way j l = record { trip = W.trip; since = omega (arith, W.since); until = omega arith; closes = W.closes }
 
   -- D of each is its own
   each_rise : (j : ℕ) → j < length hs → rise us j ≡ rise vs (i + j)
@@ -143,31 +145,30 @@ module _ {vs ns : List ℕ} {a b run i : ℕ} (W : OnWay vs ns a b run i) {ks us
 
 -- ---- a part gone through
 
--- the first place without a gear is the first second without one
-pub went_through : {car : Vehicle} {vs hs : List ℕ} (gs : List ℕ) {i m none : ℕ} → length gs ≡ m → 1 ≤ m → Firsts car vs hs i m gs
-    → LowestAt (λ j. eqb (at gs j) 0) 0 (length gs) none
-    → Through car vs hs i (i + m) (i + none) (at gs (length gs - 1))
-went_through {car} {vs} {hs} gs {i} {m} {none} size some firsts N = record {
-  until = record {
-    from = omega arith;
-    to = omega (arith, N.to);
-    fails =
-        λ j a b. let x : i + (j - i) ≡ j = omega arith in
-        rw (firsts (j - i) (omega arith) (omega (arith, N.to)), x) at (N.fails (j - i) (omega arith) (omega arith));
-    holds = λ l. rw (firsts none (omega arith) (omega arith)) at (N.holds (omega arith));
-  };
-  last_is = let x : i + (length gs - 1) ≡ i + m - 1 = omega arith in rw x at (firsts (length gs - 1) (omega arith) (omega arith));
-}
+-- gs are the first choices from second i up to `to`
+module _ (car : Vehicle) (vs hs : List ℕ) {i to m : ℕ} (gs : List ℕ) (firsts : Firsts car vs hs i m gs) (size : length gs ≡ m) (some : i < to)
+    (all : i + m ≡ to) where
+  -- a place with a gear is a second with one
+  geared : (n : ℕ) → n ≤ m → AllWithin (λ g. g ≢ 0) gs 0 n → (j : ℕ) → i ≤ j → j < i + n → eqb (first_at car vs hs j) 0 ≡ false
+  geared n l N j a b =
+      let x : i + (j - i) ≡ j = omega arith in
+      ne_eqb _ 0 (rw (firsts (j - i) (omega arith) (omega arith), x) at (N (j - i) 0 (omega arith) (omega arith)))
 
--- ---- a room for 64 gears, of which as many are lent as the part has seconds
+  -- each has one
+  pub all_geared : AllWithin (λ g. g ≢ 0) gs 0 (length gs) → Through car vs hs i to (Ok (at gs (length gs - 1)))
+  all_geared N = record {
+    until = λ j a b. geared (length gs) (omega arith) N j a (omega arith);
+    last_is = let x : i + (length gs - 1) ≡ to - 1 = omega arith in rw x at (firsts (length gs - 1) (omega arith) (omega arith));
+  }
 
-module _ {asked i b to : ℕ} (T : PartEnd asked i b to) (room : List ℕ) (size : length room ≡ 64) where
-  room_end : i + length (take (to - i) room) ≡ to
-  room_end = let n : length (take (to - i) room) ≡ to - i = length-take-le (to - i) room (omega (arith, T.few)) in omega (arith, T.some)
-
-  pub room_lent : PartEnd asked i b (i + length (take (to - i) room))
-  room_lent = rw room_end T
-
-  pub room_through : {car : Vehicle} {vs hs : List ℕ} {r last : ℕ} → Through car vs hs i (i + length (take (to - i) room)) r last
-      → Through car vs hs i to r last
-  room_through h = rw room_end at h
+  -- the first place without one is the first second without one
+  pub one_wants : {none : ℕ} → none < length gs → at gs none ≡ 0 → AllWithin (λ g. g ≢ 0) gs 0 none → Through car vs hs i to (Err (i + none))
+  one_wants {none} l z N = record {
+    until = record {
+      from = omega arith;
+      to = omega arith;
+      fails = geared none (omega arith) N;
+      holds = eq-eqb _ 0 (sym (firsts none (omega arith) (omega arith)) ∙ z);
+    };
+    last_is = tt;
+  }

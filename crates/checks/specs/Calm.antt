@@ -3,11 +3,9 @@ use Rattle.std.specs.Prelude.{ℕ, zero, suc, ◌+◌, ◌-◌, ◌*◌, ◌≤�
 use Rattle.rules.specs.Words.{at}
 use Rattle.rules.specs.declared.Vehicle.{Vehicle}
 use Rattle.rules.specs.declared.Role.TheVariants.{AfterLow}
-use Rattle.rules.specs.Units.{fastest, steepest, moving}
-use Rattle.rules.specs.Gears.{minimum}
+use Rattle.rules.specs.Units.{low, fastest, steepest, moving}
+use Rattle.rules.specs.Gears.{engine, minimum}
 use Rattle.rules.specs.Refusals.{step, checks, bad}
-use Rattle.gears.specs.declared.Numbers.{Numbers}
-use Rattle.gears.specs.Parts.{low_in, Counts, Has}
 use Rattle.checks.specs.Checks.{fault_no, hold_checks}
 
 -- seconds of the trace, from lo up to hi
@@ -50,36 +48,35 @@ pub record Stands (vs : List ℕ) (lo hi : ℕ) : Type 0 where
   pub last : moving (at vs (hi - 1)) ≡ false
 
 -- gear j + 1, whose ratio stands at place j, has reached the highest of its minima wherever the gear below it turns past nmax
-abbrev pub Follows : Numbers → List ℕ → ℕ → Type 0
-Follows k ratio j = (car : Vehicle) → Counts car k → minimum car AfterLow (j + 1) * at ratio (j - 1) ≤ k.nmax * at ratio j
+abbrev pub Follows : Vehicle → ℕ → Type 0
+Follows car j = minimum car AfterLow (j + 1) * at car.ratio (j - 1) ≤ car.nmax * at car.ratio j
 
 -- the highest speed of a trip's first second, one step above a standing one
 abbrev pub first_fastest : ℕ
 first_fastest = 9 + steepest
 
 -- up to the speed `most` some gear fits; at the first second of a trip the lowest does
-pub record NoGap (k : Numbers) (ratio : List ℕ) (most : ℕ) : Type 0 where
-  pub some : low_in k ≤ k.ng
-  pub at_first : at ratio (low_in k - 1) * first_fastest ≤ 1000 * k.nmax
-  pub at_most : at ratio (k.ng - 1) * most ≤ 1000 * k.nmax
-  pub covered : Each (Follows k ratio) (low_in k) k.ng
+pub record NoGap (car : Vehicle) (most : ℕ) : Type 0 where
+  pub some : low car ≤ car.ng
+  pub at_first : engine car (low car) first_fastest ≤ 1000 * car.nmax
+  pub at_most : engine car car.ng most ≤ 1000 * car.nmax
+  pub covered : Each (Follows car) (low car) car.ng
 
 -- a second of this speed passes the checks that look at a hold, if it is held in this gear
-abbrev pub HoldPasses : Numbers → List ℕ → ℕ → ℕ → Type 0
-HoldPasses k ratio v g =
-    g ≢ 0 → (car : Vehicle) → Has car k ratio → (vs hs : List ℕ) (lo i : ℕ) → at vs i ≡ v → at hs i ≡ g → 10 ≡ fault_no car vs hs lo i hold_checks
+abbrev pub HoldPasses : Vehicle → ℕ → ℕ → Type 0
+HoldPasses car v g = g ≢ 0 → (vs hs : List ℕ) (lo i : ℕ) → at vs i ≡ v → at hs i ≡ g → 10 ≡ fault_no car vs hs lo i hold_checks
 
 -- so second i
-abbrev pub HoldsPass : Numbers → List ℕ → List ℕ → List ℕ → ℕ → Type 0
-HoldsPass k ratio vs hs i = HoldPasses k ratio (at vs i) (at hs i)
+abbrev pub HoldsPass : Vehicle → List ℕ → List ℕ → ℕ → Type 0
+HoldsPass car vs hs i = HoldPasses car (at vs i) (at hs i)
 
 -- nothing is wrong with the speeds, the steps and the holds from lo up to hi
-pub record Quiet (k : Numbers) (ratio vs hs : List ℕ) (lo hi : ℕ) : Type 0 where
+pub record Quiet (car : Vehicle) (vs hs : List ℕ) (lo hi : ℕ) : Type 0 where
   pub speeds : AtMost (at vs) lo hi fastest
   pub steps : AtMost (gap_at vs) (lo + 1) hi steepest
-  pub holds : Each (HoldsPass k ratio vs hs) lo hi
+  pub holds : Each (HoldsPass car vs hs) lo hi
 
 -- second s, held in gear g, fails none of the checks 4 to 9, and the step from it to the next is none too large
-pub record OwnPasses (k : Numbers) (ratio vs : List ℕ) (g lo hi s : ℕ) : Type 0 where
-  pub here : (car : Vehicle) → Has car k ratio → (hs : List ℕ) → at hs s ≡ g → 10 ≡ fault_no car vs hs lo s checks
+pub record OwnPasses (car : Vehicle) (vs : List ℕ) (g lo hi s : ℕ) : Type 0 where
+  pub here : (hs : List ℕ) → at hs s ≡ g → 10 ≡ fault_no car vs hs lo s checks
   pub next : s + 1 < hi → (car : Vehicle) (hs : List ℕ) → bad step car vs hs lo (s + 1) ≡ false

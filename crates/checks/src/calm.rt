@@ -1,18 +1,16 @@
 // A cheap test of a span: what it lets through passes checks 4 to 9, and what it does not is judged second by second. It is of the seconds as they are
-// written, but for the one that is asked for, which is judged. Its loops neither branch nor leave early, so that several seconds are looked at at once.
-ghost use Rattle.std.specs.Prelude.{◌≡◌, true, ◌-◌, ◌≤◌, max};
+// written, but for the one that is asked for, which is judged. `look` and `most_held` neither branch nor leave early, so that several seconds are looked at at
+// once. What is said of a vehicle, a trace and a span together stays a clause, `Spanned`: spans of one trace are cut and joined as they are passed on.
+ghost use Rattle.std.specs.Prelude.{◌≡◌, true, ◌-◌, ◌≤◌};
 ghost use Rattle.rules.specs.Words.{none, at};
-ghost use Rattle.rules.specs.declared.Vehicle.{Vehicle};
 ghost use Rattle.rules.specs.Refusals.{seconds_fault};
-ghost use Rattle.gears.specs.Parts.{Has};
-ghost use Rattle.checks.specs.Asked.{speeds_with, holds_with};
+ghost use Rattle.checks.specs.Asked.{speeds_in, holds_in};
 ghost use Rattle.checks.specs.Checks.{TraceSecond, Spanned};
 ghost use Rattle.checks.specs.Calm.{Seconds, Seen, Around, Each, most_of, Stands, HoldsPass, OwnPasses};
 
-use crate::seconds::{fault_at, gap, held_fault, speed_at, step_over};
-use crate::{Asked, Span};
-use gears::Numbers;
-use rules::{FASTEST, STEEPEST, moving};
+use crate::seconds::{check_held, check_second, step_over};
+use crate::{Span, Trace};
+use rules::{FASTEST, STEEPEST, Vehicle, moving};
 
 // What a look at the speeds of a span finds: the highest, and the largest step.
 #[derive(Clone, Copy)]
@@ -21,50 +19,24 @@ pub struct Sight {
     pub steepest: u16,
 }
 
-// The larger of two.
-fn larger(a: u16, b: u16) -> u16
-    ensures { result ≡ max a b }
-{
-    if a < b {
-        return b;
-    }
-    a
-}
-
-// The same of two holds.
-fn higher(a: u8, b: u8) -> u8
-    ensures { result ≡ max a b }
-{
-    if a < b {
-        return b;
-    }
-    a
-}
-
 // The highest speed of a span, and the largest step between two seconds of it, up or down, in one look.
 pub fn look(speeds: &[u16], span: Span) -> Sight
     requires { Seconds speeds.now span.lo span.hi }
     ensures { Seen speeds.now span.lo span.hi result.fastest result.steepest }
 {
-    let lo = span.lo;
-    if span.hi <= lo {
+    if span.hi <= span.lo {
         return Sight {
             fastest: 0,
             steepest: 0,
         };
     }
-    let mut most: u16 = speeds[lo];
-    let mut step: u16 = 0;
-    let mut i = lo + 1;
-    while i < span.hi {
-        most = larger(most, speeds[i]);
-        step = larger(step, gap(speeds[i - 1], speeds[i]));
-        i += 1;
+    let mut fastest = speeds[span.lo];
+    let mut steepest: u16 = 0;
+    for i in span.lo + 1..span.hi {
+        fastest = fastest.max(speeds[i]);
+        steepest = steepest.max(speeds[i - 1].abs_diff(speeds[i]));
     }
-    Sight {
-        fastest: most,
-        steepest: step,
-    }
+    Sight { fastest, steepest }
 }
 
 // The highest hold of a span: 0 where no second is held.
@@ -73,139 +45,72 @@ fn most_held(holds: &[u8], span: Span) -> u8
     ensures { result ≡ most_of (at holds.now) span.lo (span.hi - span.lo) }
 {
     let mut most: u8 = 0;
-    let mut i = span.lo;
-    while i < span.hi {
-        most = higher(most, holds[i]);
-        i += 1;
+    for i in span.lo..span.hi {
+        most = most.max(holds[i]);
     }
     most
 }
 
 // Whether each held second passes 7, 8 and 9, one after the other.
-fn each_passes<'a>(
-    k: Numbers,
-    ratio: &'a [u16; 10],
-    speeds: &'a [u16],
-    holds: &'a [u8],
-    span: Span,
-) -> bool
-    requires { Spanned k speeds.now holds.now span.lo span.hi }
-    ensures { result ≡ true → Each (HoldsPass k ratio.now speeds.now holds.now) span.lo span.hi }
+fn each_passes(car: &Vehicle, trace: Trace, span: Span) -> bool
+    requires { Spanned car.now trace.speeds.now span.lo span.hi }
+    ensures { result ≡ true → Each (HoldsPass car.now trace.entry.speeds.now trace.entry.holds.now) span.lo span.hi }
 {
-    let mut i = span.lo;
-    while i < span.hi {
-        let held = holds[i];
-        if held != 0 {
-            if held_fault(k, ratio, speeds[i], held) != 10 {
-                return false;
-            }
+    for i in span.lo..span.hi {
+        let held = trace.holds[i];
+        if held != 0 && check_held(car, trace.speeds[i], held, i).is_err() {
+            return false;
         }
-        i += 1;
     }
     true
 }
 
 // The same. Where no second is held there is nothing to pass.
-fn holds_pass<'a>(
-    k: Numbers,
-    ratio: &'a [u16; 10],
-    speeds: &'a [u16],
-    holds: &'a [u8],
-    span: Span,
-) -> bool
-    requires { Spanned k speeds.now holds.now span.lo span.hi }
-    ensures { result ≡ true → Each (HoldsPass k ratio.now speeds.now holds.now) span.lo span.hi }
+fn holds_pass(car: &Vehicle, trace: Trace, span: Span) -> bool
+    requires { Spanned car.now trace.speeds.now span.lo span.hi }
+    ensures { result ≡ true → Each (HoldsPass car.now trace.entry.speeds.now trace.entry.holds.now) span.lo span.hi }
 {
-    if most_held(holds, span) == 0 {
-        return true;
-    }
-    each_passes(k, ratio, speeds, holds, span)
+    most_held(trace.holds, span) == 0 || each_passes(car, trace, span)
 }
 
 // Whether the second that is asked for passes, and the step from it to the next.
-fn own_passes<'a>(
-    k: Numbers,
-    ratio: &'a [u16; 10],
-    speeds: &'a [u16],
-    asked: Asked,
-    span: Span,
-) -> bool
-    requires { TraceSecond k speeds.now asked.second × Around speeds.now span.lo span.hi asked.second }
-    ensures { result ≡ true → OwnPasses k ratio.now (speeds_with asked speeds.now) asked.gear span.lo span.hi asked.second }
+fn own_passes(car: &Vehicle, trace: Trace, span: Span) -> bool
+    requires { TraceSecond car.now trace.speeds.now trace.asked.second × Around trace.speeds.now span.lo span.hi trace.asked.second }
+    ensures { result ≡ true → OwnPasses car.now (speeds_in trace.entry) trace.entry.asked.gear span.lo span.hi trace.entry.asked.second }
 {
-    let s = asked.second;
-    if fault_at(k, ratio, speeds, asked, asked.gear, span.lo, s) != 10 {
+    let s = trace.asked.second;
+    if check_second(car, trace, trace.asked.gear, span.lo, s).is_err() {
         return false;
     }
     let next = s + 1;
-    if span.hi <= next {
-        return true;
-    }
-    !step_over(speeds, asked, span.lo, next)
+    span.hi <= next || !step_over(trace, span.lo, next)
 }
 
 // Whether a span begins and ends with a standing second: then check 6 passes, and the step into each of its trips lies in the span.
-fn stands(speeds: &[u16], asked: Asked, span: Span) -> bool
-    requires { Seconds speeds.now span.lo span.hi }
-    ensures { result ≡ true → Stands (speeds_with asked speeds.now) span.lo span.hi }
+fn stands(trace: Trace, span: Span) -> bool
+    requires { Seconds trace.speeds.now span.lo span.hi }
+    ensures { result ≡ true → Stands (speeds_in trace.entry) span.lo span.hi }
 {
-    let lo = span.lo;
-    let hi = span.hi;
-    if hi <= lo {
-        return false;
-    }
-    let first = speed_at(speeds, asked, lo);
-    if moving(first) {
-        return false;
-    }
-    let last = speed_at(speeds, asked, hi - 1);
-    !moving(last)
+    span.lo < span.hi && !moving(trace.speed_at(span.lo)) && !moving(trace.speed_at(span.hi - 1))
 }
 
 // Whether nothing is wrong in the span, of which `seen` is what a look at its speeds found.
-pub fn calm<'a>(
-    k: Numbers,
-    ratio: &'a [u16; 10],
-    speeds: &'a [u16],
-    holds: &'a [u8],
-    asked: Asked,
-    span: Span,
-    seen: Sight,
-) -> bool
-    requires { Spanned k speeds.now holds.now span.lo span.hi × (span.lo ≤ asked.second)
-        × Seen speeds.now span.lo span.hi seen.fastest seen.steepest }
-    ensures { result ≡ true → (car : Vehicle) → Has car k ratio.now
-        → none ≡ seconds_fault car (speeds_with asked speeds.now) (holds_with asked holds.now) span.lo span.hi }
+pub fn calm(car: &Vehicle, trace: Trace, span: Span, seen: Sight) -> bool
+    requires { Spanned car.now trace.speeds.now span.lo span.hi × (span.lo ≤ trace.asked.second)
+        × Seen trace.speeds.now span.lo span.hi seen.fastest seen.steepest }
+    ensures { result ≡ true → none ≡ seconds_fault car.now (speeds_in trace.entry) (holds_in trace.entry) span.lo span.hi }
 {
-    if STEEPEST < seen.steepest {
+    if STEEPEST < seen.steepest || FASTEST < seen.fastest || !stands(trace, span) {
         return false;
     }
-    if FASTEST < seen.fastest {
-        return false;
-    }
-    if !stands(speeds, asked, span) {
-        return false;
-    }
-    let s = asked.second;
+    let s = trace.asked.second;
     if span.hi <= s {
-        return holds_pass(k, ratio, speeds, holds, span);
+        return holds_pass(car, trace, span);
     }
-    if !holds_pass(k, ratio, speeds, holds, Span { lo: span.lo, hi: s }) {
-        return false;
-    }
+    let before = Span { lo: span.lo, hi: s };
     let after = Span {
         lo: s + 1,
         hi: span.hi,
     };
-    if !holds_pass(k, ratio, speeds, holds, after) {
-        return false;
-    }
-    own_passes(k, ratio, speeds, asked, span)
-}
-
-// The highest speed of the span, or a higher one where what is asked for takes that away.
-pub fn fastest_asked(asked: Asked, seen: Sight) -> u16
-    ensures { result ≡ max seen.fastest asked.speed }
-{
-    larger(seen.fastest, asked.speed)
+    holds_pass(car, trace, before) && holds_pass(car, trace, after) && own_passes(car, trace, span)
 }

@@ -6,6 +6,7 @@ mod calm;
 mod opening;
 mod row;
 mod seconds;
+mod trace;
 mod trips_asked;
 mod trips_in;
 mod want;
@@ -13,19 +14,11 @@ mod want;
 pub use opening::{check_lengths, check_opening};
 pub use row::check_span;
 pub use seconds::check_seconds;
+pub use trace::{Asked, Trace};
 pub use trips_in::{trip_start, trip_stop};
 pub use want::check_gears;
 
-// What is asked for at one second and not yet written: its speed and its hold, 0 for none. A hold or a release asks for the speed that is there, a mended
-// sample for the hold that is there. A second past the trace asks for nothing.
-#[derive(Clone, Copy)]
-pub struct Asked {
-    pub second: usize,
-    pub speed: u16,
-    pub gear: u8,
-}
-
-// The seconds from lo up to, not including, hi.
+// The seconds from lo up to, not including, hi. It is copied where it is passed on, which a Range of the library is not.
 #[derive(Clone, Copy)]
 pub struct Span {
     pub lo: usize,

@@ -1,49 +1,28 @@
 // The refusals that come before the seconds are looked at.
 ghost use Rattle.std.specs.Prelude.{◌≡◌, List, ℕ, length};
 ghost use Rattle.rules.specs.Refusals.{said, ◌orelse◌, trace_fault, room_fault, vehicle_fault};
-ghost use Rattle.gears.specs.Parts.{whole};
 
-use gears::{NEWEST, Numbers, check_vehicle};
-use rules::{Answer, LONGEST, Refusal};
+use gears::{NEWEST, check_vehicle};
+use rules::{LONGEST, Refusal, Vehicle};
 
 // 1 and 2, by the lengths alone.
-pub fn check_lengths(speeds: usize, holds: usize, card: usize) -> Answer
+pub fn check_lengths(speeds: usize, holds: usize, card: usize) -> Result<(), Refusal>
     ensures { (vs hs old : List ℕ) → length vs ≡ speeds → length hs ≡ holds → length old ≡ card → said result ≡ (trace_fault vs orelse room_fault vs hs old) }
 {
-    if speeds == 0 {
-        return Answer::Refused(Refusal::TraceLength);
+    if speeds == 0 || LONGEST < speeds {
+        return Err(Refusal::TraceLength);
     }
-    if LONGEST < speeds {
-        return Answer::Refused(Refusal::TraceLength);
+    if holds != speeds || card != speeds {
+        return Err(Refusal::RoomLength);
     }
-    if holds != speeds {
-        return Answer::Refused(Refusal::RoomLength);
-    }
-    if card != speeds {
-        return Answer::Refused(Refusal::RoomLength);
-    }
-    Answer::Done
+    Ok(())
 }
 
-// 1, 2 and 3, of a vehicle in its parts.
-pub fn check_opening<'a>(
-    k: Numbers,
-    ratio: &'a [u16; 10],
-    n: &'a [u16; 64],
-    p: &'a [u16; 64],
-    m: &'a [u16; 64],
-    margin: u16,
-    speeds: usize,
-    holds: usize,
-    card: usize,
-) -> Answer
+// 1, 2 and 3.
+pub fn check_opening(car: &Vehicle, speeds: usize, holds: usize, card: usize) -> Result<(), Refusal>
     ensures { (vs hs old : List ℕ) → length vs ≡ speeds → length hs ≡ holds → length old ≡ card
-        → said result ≡ (trace_fault vs orelse room_fault vs hs old orelse vehicle_fault
-        (whole k ratio.now n.now p.now m.now margin)) }
+        → said result ≡ (trace_fault vs orelse room_fault vs hs old orelse vehicle_fault car.now) }
 {
-    let lengths = check_lengths(speeds, holds, card);
-    let Answer::Done = lengths else {
-        return lengths;
-    };
-    check_vehicle(k, ratio, n, p, m, margin, NEWEST)
+    check_lengths(speeds, holds, card)?;
+    check_vehicle(car, NEWEST)
 }

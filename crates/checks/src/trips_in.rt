@@ -9,14 +9,12 @@ pub fn trip_start(speeds: &[u16], i: usize) -> usize
     requires { i ≤ length speeds.now }
     ensures { result ≡ start speeds.now i }
 {
-    let mut k = i;
-    while 0 < k {
-        if !moving(speeds[k - 1]) {
-            return k;
+    for k in (0..i).rev() {
+        if !moving(speeds[k]) {
+            return k + 1;
         }
-        k -= 1;
     }
-    k
+    0
 }
 
 // The second after the last of the trip that i lies in; i itself where it is standing.
@@ -24,12 +22,10 @@ pub fn trip_stop(speeds: &[u16], i: usize) -> usize
     requires { i ≤ length speeds.now }
     ensures { result ≡ stop speeds.now i }
 {
-    let mut k = i;
-    while k < speeds.len() {
+    for k in i..speeds.len() {
         if !moving(speeds[k]) {
             return k;
         }
-        k += 1;
     }
-    k
+    speeds.len()
 }

@@ -2,7 +2,7 @@
 use Rattle.rules.proofs.Offered.{ℕ, ◌≡◌, sym, ◌∙◌, none, some, List, length, Fault, said, filled, left_none}
 use Rattle.rules.proofs.Offered.{left_some}
 use Rattle.rules.specs.Determined.{AsksNothing, Promises}
-use Rattle.rules.specs.declared.Answer.{Answer}
+use Rattle.rules.specs.Refusals.{Answer}
 use Rattle.cycles.specs.Cycle.{cycle}
 use Rattle.cycles.specs.Parts.{fill_fault, fill_room}
 use Rattle.cycles.proofs.filling.fill.Kinds as fill-kinds

@@ -1,6 +1,4 @@
 -- What belongs to no one function.
-pub mod Copied
-pub mod FillingEnds
 pub mod Stretches
 pub mod Sound
 pub mod Table

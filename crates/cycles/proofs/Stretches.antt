@@ -1,5 +1,5 @@
 -- What the refusals and the parts of the cycle come to.
-use Rattle.rules.proofs.Offered.{ℕ, zero, suc, ◌+◌, ◌-◌, ◌≤◌, ◌<◌, arith, ◌≡◌, refl, ◌≢◌, Option, none, some, List, [], length, ltb, lit≤, lt-ltb, le-ltb}
+use Rattle.rules.proofs.Offered.{ℕ, zero, suc, ◌+◌, ◌-◌, ◌≤◌, ◌<◌, arith, ◌≡◌, refl, Option, none, some, List, [], length, ltb, lit≤, lt-ltb, le-ltb}
 use Rattle.rules.proofs.Offered.{ltb-false, part, Fault, refuse_at, ◌orelse◌, when, left, orelse_none, when_none}
 use Rattle.cycles.specs.Parts.{cycle_seconds, first_second, last_second, fill_fault, places, stretch, part_seconds}
 
@@ -54,13 +54,6 @@ unfolding first_second last_second
 at_ends P a b c d e p h =
     by_part (λ q. q ≤ 4 → P (first_second q) × P (last_second q)) (λ l. (a, e)) (λ l. (a, b)) (λ l. (b, c)) (λ l. (c, d)) (λ l. (d, e))
     (λ q l. absurd (omega arith)) p h
-
--- a number of no part has no seconds
-pub no_second : (p : ℕ) → p ≢ 0 → p ≢ 1 → p ≢ 2 → p ≢ 3 → p ≢ 4 → (first_second p ≡ 0) × (last_second p ≡ 0)
-unfolding first_second last_second
-no_second p a b c d e =
-    by_part (λ q. p ≡ q → (first_second q ≡ 0) × (last_second q ≡ 0))
-    (λ h. absurd (a h)) (λ h. absurd (b h)) (λ h. absurd (c h)) (λ h. absurd (d h)) (λ h. absurd (e h)) (λ q h. (refl, refl)) p refl
 
 -- ---- a part's places
 

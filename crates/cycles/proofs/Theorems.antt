@@ -4,7 +4,7 @@ use Rattle.rules.proofs.Offered.{length-append, length-drop, take-append-le, dro
 use Rattle.rules.proofs.Offered.{◌or◌, at, part, longest, moving, filled, Fault, said, left}
 use Rattle.rules.specs.Determined.{Promises}
 use Rattle.rules.specs.declared.Vehicle.{Vehicle}
-use Rattle.rules.specs.declared.Answer.{Answer}
+use Rattle.rules.specs.Refusals.{Answer}
 use Rattle.cycles.specs.Cycle.{cycle, low_phase, medium_phase, high_phase, extra_high_phase, speed_sum}
 use Rattle.cycles.specs.Parts.{trace_checks, first_second, last_second, fill_fault, fill_room, part_seconds}
 use Rattle.cycles.proofs.Stretches.{by_fault, ordered, at_ends, accepted, accepted_part, accepted_room}

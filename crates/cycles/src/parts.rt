@@ -1,9 +1,9 @@
 // The parts of the cycle.
-ghost use Rattle.std.specs.Prelude.{◌≡◌};
+ghost use Rattle.std.specs.Prelude.{◌≡◌, ◌≤◌};
 ghost use Rattle.rules.specs.Refusals.{said};
 ghost use Rattle.cycles.specs.Parts.{first_second, last_second, fill_fault, part_seconds, stretch};
 
-use rules::{Answer, Refusal};
+use rules::Refusal;
 
 // Seconds of a room that follow each other.
 #[repr(C)]
@@ -14,41 +14,31 @@ pub struct Stretch {
 }
 
 // 18, then 2, by the part number and the room's length alone.
-pub fn check_part(part: u32, length: usize) -> Answer
+pub fn check_part(part: u32, length: usize) -> Result<(), Refusal>
     ensures { said result ≡ fill_fault part length }
 {
     if 4 < part {
-        return Answer::Refused(Refusal::BadPart);
+        return Err(Refusal::BadPart);
     }
     if length < 1801 {
-        return Answer::Refused(Refusal::RoomLength);
+        return Err(Refusal::RoomLength);
     }
-    Answer::Done
+    Ok(())
 }
 
-fn first_second(part: u32) -> usize
-    ensures { result ≡ first_second part }
+// The first and the last second of a part, by the number that C gives: 0 is the whole cycle, the last arm.
+#[tactic(auto, unfolding(crate::specs::Parts::first_second, crate::specs::Parts::last_second))]
+fn ends_of(part: u32) -> (usize, usize)
+    requires { part ≤ 4 }
+    ensures first { result.0 ≡ first_second part }
+    ensures last { result.1 ≡ last_second part }
 {
     match part {
-        0 => 0,
-        1 => 0,
-        2 => 589,
-        3 => 1022,
-        4 => 1477,
-        _ => 0,
-    }
-}
-
-fn last_second(part: u32) -> usize
-    ensures { result ≡ last_second part }
-{
-    match part {
-        0 => 1800,
-        1 => 589,
-        2 => 1022,
-        3 => 1477,
-        4 => 1800,
-        _ => 0,
+        1 => (0, 589),
+        2 => (589, 1022),
+        3 => (1022, 1477),
+        4 => (1477, 1800),
+        _ => (0, 1800),
     }
 }
 
@@ -56,13 +46,15 @@ fn last_second(part: u32) -> usize
 pub fn stretch_of(part: u32, length: usize) -> Stretch
     ensures { result ≡ stretch part length }
 {
-    let Answer::Done = check_part(part, length) else {
-        return Stretch { first: 0, count: 0 };
-    };
-    let first = first_second(part);
-    Stretch {
-        first: first,
-        count: last_second(part) + 1 - first,
+    match check_part(part, length) {
+        Ok(()) => {
+            let (first, last) = ends_of(part);
+            Stretch {
+                first,
+                count: last + 1 - first,
+            }
+        }
+        Err(_) => Stretch { first: 0, count: 0 },
     }
 }
 
@@ -70,8 +62,6 @@ pub fn stretch_of(part: u32, length: usize) -> Stretch
 pub fn part_of(room: &[u16], part: u32) -> &[u16]
     ensures { result.now ≡ part_seconds part room.now }
 {
-    let place = stretch_of(part, room.len());
-    let first = place.first;
-    let end = first + place.count;
-    &room[first..end]
+    let Stretch { first, count } = stretch_of(part, room.len());
+    &room[first..first + count]
 }

@@ -1,5 +1,5 @@
 -- A stretch of a room that is changed from left to right, one place a turn.
-use Rattle.rules.proofs.Offered.{ℕ, ◌+◌, ◌≤◌, ◌<◌, arith, ◌≡◌, refl, subst, ◌∙◌, List, length, set, length-set, get_or-set_same, get_or-set_other, by_eq}
+use Rattle.rules.proofs.Offered.{ℕ, ◌+◌, ◌≤◌, ◌<◌, arith, ◌≡◌, refl, ◌∙◌, List, length, set, length-set, get_or-set_same, get_or-set_other, by_eq}
 use Rattle.downscale.specs.Closed.{Changed}
 
 pub begin : (g : ℕ → ℕ) (lo : ℕ) (room : List ℕ) → Changed g lo lo room room
@@ -16,6 +16,3 @@ more {g} {lo} {hi} {room₀} {room} h l m v e = record {
       (λ s. get_or-set_other room hi j v 0 (omega arith) ∙ h.inside j b s);
   behind = λ j b. get_or-set_other room hi j v 0 (omega arith) ∙ h.behind j (omega arith);
 }
-
-pub upto : {g : ℕ → ℕ} {lo hi end : ℕ} {room₀ room : List ℕ} → Changed g lo hi room₀ room → hi ≡ end → Changed g lo end room₀ room
-upto {g} {lo} {hi} {end} {room₀} {room} h e = subst (λ (m : ℕ). Changed g lo m room₀ room) e h

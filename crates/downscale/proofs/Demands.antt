@@ -1,7 +1,7 @@
 -- The demands on downscaling, over the contracts of its two functions as the check reads them.
 use Rattle.rules.proofs.Offered.{ℕ, ◌≡◌, sym, ◌∙◌, none, some, List, length, Fault, said, left_none, left_some}
 use Rattle.rules.specs.Determined.{AsksNothing, Promises}
-use Rattle.rules.specs.declared.Answer.{Answer}
+use Rattle.rules.specs.Refusals.{Answer}
 use Rattle.downscale.specs.Steps.{scaled_cycle, down_fault, down_room}
 use Rattle.downscale.proofs.closed.downscale.Kinds as closed-kinds
 use Rattle.downscale.proofs.closed.downscale.Reads as closed-reads

@@ -1,9 +1,12 @@
 -- The room as both ways leave it is the scaled cycle.
-use Rattle.rules.proofs.Offered.{ℕ, ◌+◌, ◌-◌, ◌*◌, ◌≤◌, ◌<◌, zero-add, arith, ◌≡◌, refl, sym, ap, ◌∙◌, not, none, List, append-nil, length, drop-length}
+use Rattle.rules.proofs.Offered.{ℕ, ◌+◌, ◌-◌, ◌*◌, ◌≤◌, ◌<◌, zero-add, arith, ◌≡◌, refl, sym, ap, ◌∙◌, not, none, some, fault, said, List}
+use Rattle.rules.proofs.Offered.{append-nil, length, drop-length}
 use Rattle.rules.proofs.Offered.{ext_get_or, ltb, eqb, lit≤, pos, nat_abs, ltb-false, eqb-true, not-false, le-leb, lt-leb, ◌and◌, within, nearest, at, filled}
 use Rattle.rules.proofs.Offered.{left, by_order, by_eq, length-table, at_table, orelse_none, when_none, pos_sub}
+use Rattle.std.proofs.Common.{Err}
+use Rattle.rules.specs.declared.Refusal.{Refusal}
 use Rattle.cycles.specs.Cycle.{cycle}
-use Rattle.cycles.specs.Parts.{fill_room}
+use Rattle.cycles.specs.Parts.{fill_fault, fill_room}
 use Rattle.cycles.proofs.Stretches.{accepted}
 use Rattle.cycles.proofs.Table.{length-cycle}
 use Rattle.downscale.specs.Steps.{own, steps, rise_steps, peak, fall_steps, by_stretch, scaled_at, scaled_cycle, down_fault}
@@ -23,6 +26,14 @@ unfolding down_fault
 accepted_length f n e = eqb-true n 1801 (not-false _ (when_none 2 (not (eqb n 1801)) 0 (orelse_none _ _ e).1))
 
 -- ---- the room filled with the cycle
+
+-- a room that is not refused is not refused when it is filled
+pub fills : (f : ℕ) (room : List ℕ) (r : Refusal) → down_fault f (length room) ≡ none → said {A = Unit {0}} (Err r) ≡ fill_fault 0 (length room) → ⊥
+unfolding said
+fills f room r e g =
+    let n = accepted_length f (length room) e in
+    let z : some (fault r) ≡ none = g ∙ accepted 0 (length room) (lit≤ tt) (omega arith) in
+    cc
 
 -- a room of 1,801 places that is filled is the cycle
 pub filled-cycle : (room : List ℕ) → length room ≡ 1801 → fill_room 0 room ≡ cycle

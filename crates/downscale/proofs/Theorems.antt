@@ -2,7 +2,7 @@
 use Rattle.rules.proofs.Offered.{ℕ, suc, ◌+◌, ◌-◌, ◌*◌, ◌≤◌, ◌<◌, arith, ◌≡◌, sym, ◌∙◌, none, List, lit<, lit≤, ext_get_or, pos, ◌-ℤ◌}
 use Rattle.rules.proofs.Offered.{said_once, at, part, longest, by_order, by_eq}
 use Rattle.rules.specs.declared.Vehicle.{Vehicle}
-use Rattle.rules.specs.declared.Answer.{Answer}
+use Rattle.rules.specs.Refusals.{Answer}
 use Rattle.cycles.specs.Cycle.{cycle}
 use Rattle.cycles.specs.Parts.{trace_checks, first_second, last_second}
 use Rattle.cycles.proofs.Table.{Near}

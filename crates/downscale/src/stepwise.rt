@@ -6,14 +6,14 @@ ghost use Rattle.downscale.specs.Steps.{steps, down_fault, down_room};
 ghost use Rattle.downscale.specs.Closed.{Changed, Stepping};
 
 use crate::checks::{check_factor, nearest};
-use rules::Answer;
+use rules::Refusal;
 
 // One step more: the factor times the cycle's own step is added to the sum.
 fn step_on(sum: u64, factor: u64, before: u16, speed: u16) -> u64
     requires { (factor ≤ 487000) × (factor * before ≤ sum) × (sum ≤ 487000 * 65535) }
     ensures { result ≡ sum + factor * speed - factor * before }
 {
-    sum + factor * (speed as u64) - factor * (before as u64)
+    sum + factor * u64::from(speed) - factor * u64::from(before)
 }
 
 // Each second after first, up to, not including, end: one step more, and the nearest speed is left there. `start` is the cycle's speed at first, `sum` the
@@ -32,33 +32,26 @@ fn add_steps(
     ensures room { Changed (λ j. nearest (nat_abs (steps first (pos sum) (pos factor) (j - first))) whole) (suc first) end room.old
         room.new }
 {
-    let mut i = first + 1;
     let mut before = start;
     let mut total = sum;
-    while i < end {
-        let speed = room[i];
-        total = step_on(total, factor, before, speed);
-        let near = nearest(total, whole);
-        room[i] = near;
-        before = speed;
-        i += 1;
+    for speed in &mut room[first + 1..end] {
+        total = step_on(total, factor, before, *speed);
+        before = *speed;
+        *speed = nearest(total, whole);
     }
     total
 }
 
 // The same as `downscale`, by Annex 1's steps.
-pub fn downscale_steps(factor: u32, room: &mut [u16]) -> Answer
+pub fn downscale_steps(factor: u32, room: &mut [u16]) -> Result<(), Refusal>
     ensures answer { said result ≡ down_fault factor (length room.old) }
     ensures room { room.new ≡ down_room factor room.old }
 {
-    let checked = check_factor(factor, room.len());
-    let Answer::Done = checked else {
-        return checked;
-    };
-    let f = factor as u64;
-    let _ = cycles::fill(0, room);
+    check_factor(factor, room.len())?;
+    cycles::fill(0, room)?;
+    let f = u64::from(factor);
     let peak = add_steps(room, 1533, 1725, 1000, 1000 - f, 600, 1000 * 600);
-    let _ = add_steps(
+    add_steps(
         room,
         1724,
         1763,
@@ -67,5 +60,5 @@ pub fn downscale_steps(factor: u32, room: &mut [u16]) -> Answer
         1313,
         487 * peak,
     );
-    Answer::Done
+    Ok(())
 }

@@ -1,28 +1,25 @@
 -- What is said of an edit: its row of checks begins with the opening and the second, and ends with the checks of its span.
-use Rattle.rules.proofs.Offered.{ℕ, ◌+◌, ◌≤◌, ◌<◌, min, arith, ◌≡◌, refl, sym, ap, ◌∙◌, Bool, true, false, not, Option, List, eqb, ltb, length, set, set-get_or}
+use Rattle.rules.proofs.Offered.{ℕ, ◌+◌, ◌≤◌, ◌<◌, min, arith, ◌≡◌, refl, sym, ap, ◌∙◌, true, not, Option, List, eqb, ltb, length, set, set-get_or}
 use Rattle.rules.proofs.Offered.{lt-ltb, le-ltb, eqb-true, ◌or◌, Fault, said, refuse_at, ◌orelse◌, when, not_driven, span_fault, Extent, showing, second}
-use Rattle.rules.proofs.Offered.{asked_speeds, asked_holds, span, asked_fault, edit_fault, none_held, clash, by_test, own-checks, zero_as_over, span-kept}
+use Rattle.rules.proofs.Offered.{asked_speeds, asked_holds, span, asked_fault, edit_fault, none_held, by_test, own-checks, zero_as_over, span-kept}
 use Rattle.rules.specs.declared.Vehicle.{Vehicle}
 use Rattle.rules.specs.declared.Summary.{Summary}
 use Rattle.rules.specs.declared.Edit.{Edit}
 use Rattle.rules.specs.declared.Edit.TheVariants.{Hold, Release, Mend}
 use Rattle.rules.specs.declared.Refusal.{Refusal}
 use Rattle.rules.specs.declared.Refusal.TheVariants.{OutsideTrace}
-use Rattle.rules.specs.declared.Answer.{Answer}
-use Rattle.rules.specs.declared.Answer.TheVariants.{Done, Refused}
+use Rattle.std.specs.Prelude.{Result, Ok, Err}
+use Rattle.edits.specs.declared.Judged.{Judged}
 use Rattle.checks.specs.Asked.{speeds_with, holds_with}
 use Rattle.checks.proofs.Rows.{opening, Opened, after_opening, opening_first}
-use Rattle.edits.specs.Asks.{over_all, gear_asked, asked_of}
+use Rattle.edits.specs.Asks.{answer_in, over_all, gear_asked, asked_of}
 use Rattle.edits.proofs.Places.{lies}
 
--- what was refused is not done
-is_done : Answer → Bool
-is_done Done = true
-is_done (Refused q) = false
-
-pub not_done : {P : Type 0} {x : Answer} {q : Refusal} → x ≡ Refused q → x ≡ Done → P
-unfolding is_done
-not_done {x = x} r d = let z : true ≡ false = sym (ap is_done d) ∙ ap is_done r in clash refl z
+-- the answer alone says what the whole says
+pub said_in : (r : Result Summary Refusal) → said (answer_in r) ≡ said r
+unfolding said
+said_in (Ok n) = refl
+said_in (Err q) = refl
 
 -- ---- what is asked of the checks
 
@@ -66,11 +63,11 @@ module _ (car : Vehicle) (e : Edit) (vs hs old : List ℕ) (n : Summary) where
   abbrev said_of : Option Fault
   said_of = edit_fault car e (showing vs hs old n)
 
-  pub at_opening : {x : Answer} {q : Refusal} → said x ≡ opening car vs hs old → x ≡ Refused q → said x ≡ said_of
+  pub at_opening : (q : Refusal) → said {A = Unit {0}} (Err q) ≡ opening car vs hs old → said {A = Judged} (Err q) ≡ said_of
   unfolding edit_fault
-  at_opening r h = opening_first car vs hs old (refuse_at 11 (when (not (ltb (second e) (length vs))) (second e)) orelse asked_fault car e vs hs) r h
+  at_opening q r = opening_first car vs hs old (refuse_at 11 (when (not (ltb (second e) (length vs))) (second e)) orelse asked_fault car e vs hs) r refl refl
 
-  pub at_second : {s : ℕ} → s ≡ second e → Opened car vs hs old → length vs ≤ s → said (Refused (OutsideTrace s)) ≡ said_of
+  pub at_second : {s : ℕ} → s ≡ second e → Opened car vs hs old → length vs ≤ s → said {A = Judged} (Err (OutsideTrace s)) ≡ said_of
   unfolding edit_fault when refuse_at ◌orelse◌ said
   at_second q O h =
       rw q (sym (after_opening (refuse_at 11 (when (not (ltb (second e) (length vs))) (second e)) orelse asked_fault car e vs hs) O

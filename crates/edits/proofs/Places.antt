@@ -5,8 +5,6 @@ use Rattle.rules.proofs.Offered.{length_asked, span-kept}
 use Rattle.rules.specs.declared.Vehicle.{Vehicle}
 use Rattle.rules.specs.declared.Edit.{Edit}
 use Rattle.rules.specs.declared.Edit.TheVariants.{Hold, Release, Mend}
-use Rattle.gears.specs.declared.Numbers.{Numbers}
-use Rattle.gears.specs.Parts.{Counts}
 use Rattle.checks.specs.Checks.{Spanned}
 use Rattle.checks.specs.Want.{Resting}
 use Rattle.checks.proofs.Rows.{Opened, spanned, longest_is}
@@ -57,8 +55,8 @@ lies_asked e vs h = let k = span-kept e vs in rw (← k) (lies e (asked_speeds e
 
 module _ {car : Vehicle} {vs hs old : List ℕ} (O : Opened car vs hs old) (e : Edit) (h : second e < length vs) where
   module _ {lo end : ℕ} (a : lo ≡ (span e vs).lo) (b : end ≡ min ((span e vs).hi + 1) (length vs)) where
-    pub spanned_at : {k : Numbers} → Counts car k → Spanned k vs hs lo end
-    spanned_at K = let L = lies e vs h in spanned K O (omega (arith, h, L.since, L.order)) (omega arith)
+    pub spanned_at : Spanned car vs lo end
+    spanned_at = let L = lies e vs h in spanned O (omega (arith, h, L.since, L.order)) (omega arith)
 
     pub since_at : lo ≤ second e
     since_at = let L = lies e vs h in omega (arith, L.since)

@@ -11,13 +11,11 @@ pub fn second_of(edit: Edit) -> usize
     ensures { result ≡ second edit }
 {
     match edit {
-        Edit::Hold(second, gear) => second,
-        Edit::Release(second) => second,
-        Edit::Mend(second, speed) => second,
+        Edit::Hold(second, _) | Edit::Release(second) | Edit::Mend(second, _) => second,
     }
 }
 
-// Above every ng.
+// Above every ng; the definition `gear_asked` has it.
 const OVER_NG: u8 = 255;
 
 // A gear as the checks judge it: 0 is no gear, and counts as one above every ng.

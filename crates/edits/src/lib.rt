@@ -9,13 +9,11 @@ mod spans;
 
 pub use buttons::{hold, mend, release};
 use checks::Span;
-use rules::Answer;
 use summaries::Tally;
 
-// What was found out of an edit: the answer, and where there is no refusal the seconds that it re-works, and what the card as it stands counts there.
+// What was found out of an edit that no check refuses: the seconds that it re-works, and what the card as it stands counts there.
 #[derive(Clone, Copy)]
 pub struct Judged {
-    pub answer: Answer,
     pub range: Span,
     pub counted: Tally,
 }

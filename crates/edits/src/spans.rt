@@ -12,9 +12,8 @@ fn around(speeds: &[u16], second: usize) -> Span
     ensures from { result.lo ≡ (around speeds.now second).lo }
     ensures to { result.hi ≡ (around speeds.now second).hi }
 {
-    let first = trip_start(speeds, second);
     Span {
-        lo: before(first),
+        lo: trip_start(speeds, second).saturating_sub(1),
         hi: trip_stop(speeds, second + 1),
     }
 }
@@ -25,13 +24,14 @@ fn held_span(speeds: &[u16], second: usize) -> Span
     ensures from { result.lo ≡ (hold_span speeds.now second).lo }
     ensures to { result.hi ≡ (hold_span speeds.now second).hi }
 {
-    if !moving(speeds[second]) {
-        return Span {
+    if moving(speeds[second]) {
+        around(speeds, second)
+    } else {
+        Span {
             lo: second,
             hi: second,
-        };
+        }
     }
-    around(speeds, second)
 }
 
 // Each edit's.
@@ -41,9 +41,8 @@ pub fn span_of(speeds: &[u16], edit: Edit) -> Span
     ensures to { result.hi ≡ (span edit speeds.now).hi }
 {
     match edit {
-        Edit::Hold(second, gear) => held_span(speeds, second),
-        Edit::Release(second) => held_span(speeds, second),
-        Edit::Mend(second, speed) => around(speeds, second),
+        Edit::Hold(second, _) | Edit::Release(second) => held_span(speeds, second),
+        Edit::Mend(second, _) => around(speeds, second),
     }
 }
 
@@ -54,20 +53,6 @@ pub fn widened(range: Span, seconds: usize) -> Span
 {
     Span {
         lo: range.lo,
-        hi: past(range.hi, seconds),
+        hi: range.hi.saturating_add(1).min(seconds),
     }
-}
-
-// The second before, where there is one.
-fn before(a: usize) -> usize
-    ensures { result ≡ a - 1 }
-{
-    if a == 0 { 0 } else { a - 1 }
-}
-
-// Past the second b, where there is one.
-fn past(b: usize, seconds: usize) -> usize
-    ensures { result ≡ min (b + 1) seconds }
-{
-    if b < seconds { b + 1 } else { seconds }
 }

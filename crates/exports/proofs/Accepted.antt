@@ -1,5 +1,6 @@
 -- Request Five: "Each kind 1 and 2 exactly once, in either order", and "kind 0 ends the export". An export that is accepted is two records of different
 -- kinds, each with its floats, the end, and no byte more.
+use Rattle.std.specs.Option.{is_some}
 use Rattle.rules.proofs.Offered.{ℕ, ◌+◌, arith, ◌≡◌, sym, ap, ◌∙◌, ◌⊎◌, inl, inr, not, List, length, ltb, eqb, Float, eqb-true, ◌and◌, at, early, Read, got}
 use Rattle.rules.proofs.Offered.{hand_on, demand, by_test, by_order, and_left}
 use Rattle.exports.specs.declared.Record.{Record}
@@ -77,10 +78,10 @@ module _ (bytes : List ℕ) where
         by_test (eqb (at bytes spot) 0)
         (λ z. end_stands (eqb-true _ _ z) (rw z at e))
         (λ z.
-        by_test (eqb (at bytes spot) 1 and not found.has_coefficients)
+        by_test (eqb (at bytes spot) 1 and not (is_some found.coefficients))
         (λ a. coefficients_stand (eqb-true _ _ (and_left _ _ a)) (rw (z, a) at e))
         (λ a.
-        by_test (eqb (at bytes spot) 2 and not found.has_mass)
+        by_test (eqb (at bytes spot) 2 and not (is_some found.mass))
         (λ b. mass_stands (eqb-true _ _ (and_left _ _ b)) (rw (z, a, b) at e))
         (λ b. never (rw (z, a, b) at e))))
 

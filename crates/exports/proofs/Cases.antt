@@ -6,8 +6,8 @@ use Rattle.rules.proofs.Cases.Rows.{Value, scaled as amount, refusal, ◌beside�
 use Rattle.exports.specs.declared.Field.{Field}
 use Rattle.exports.specs.Floats.{four_bytes, float_of, finite, signed, scaled}
 use Rattle.exports.specs.Fields.{f0_field, f1_field, f2_field, tm_field, units, in_bounds}
-use Rattle.exports.specs.Export.{none_yet, kind, float, finite_float, judged, coefficients_read, mass_read, end_read, of_kind, record_read, export_read}
-use Rattle.exports.specs.Export.{figures_of}
+use Rattle.exports.specs.Export.{kind, float, finite_float, judged, coefficients_read, mass_read, end_read, of_kind, record_read, export_read}
+use Rattle.exports.specs.Export.{figure, figures_of}
 
 -- ---- a float's bits, and its value in a field's units
 
@@ -87,7 +87,7 @@ rows =
 
 pub every-row : sums rows ≡ papers rows
 unfolding sums papers row told told_of rows three mass taken refused_by ◌and◌ hand_on demand read_fault four_bytes float_of finite of_bits of_fields odd
-    count_trailing_zeros nearest signed scaled f0_field f1_field f2_field tm_field units in_bounds none_yet early kind float finite_float judged
+    count_trailing_zeros nearest signed scaled f0_field f1_field f2_field tm_field units in_bounds early kind float finite_float judged
     coefficients_read mass_read end_read of_kind
-    record_read export_read figures_of
+    record_read export_read figure figures_of
 every-row = refl

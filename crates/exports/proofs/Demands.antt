@@ -1,6 +1,8 @@
 -- The demands on the reader of an export, over the contract of `read_export` as the check reads it.
 use Rattle.rules.proofs.Offered.{ℕ, ◌≡◌, refl, sym, ◌∙◌, none, List, arith, said, Read, got, refused, read_fault}
 use Rattle.rules.specs.Determined.{AsksNothing, Promises}
+use Rattle.std.proofs.Common.{Result}
+use Rattle.rules.specs.declared.Refusal.{Refusal}
 use Rattle.exports.specs.declared.Export.{Export}
 use Rattle.exports.specs.declared.Found.{Found}
 use Rattle.exports.specs.Export.{export_read, ExportAs}
@@ -18,7 +20,7 @@ pub export_says : Promises read-kinds.ps read-kinds.r read-reads.Asked read-read
 export_says κs a asked z ws p = p
 
 -- refused by number and place exactly where request Five says
-pub demand_1_table : {bytes : List ℕ} {z : Export} → ExportAs bytes z → said z.answer ≡ read_fault (export_read bytes 0)
+pub demand_1_table : {bytes : List ℕ} {z : Result Export Refusal} → ExportAs bytes z → said z ≡ read_fault (export_read bytes 0)
 demand_1_table E = E.answered
 
 -- what is read where nothing is refused
@@ -27,6 +29,10 @@ unfolding read_fault
 was_read (got found k) e = (found, k, refl)
 was_read (refused f) e = let z : ◌≡◌ {A = ℕ} 0 1 = cc in absurd (omega arith)
 
--- request Five: an export that is accepted is exactly two records, of different kinds, and the end
-pub five_accepted : {bytes : List ℕ} {z : Export} → ExportAs bytes z → said z.answer ≡ none → TwoRecords bytes
-five_accepted {bytes} E e = let r = was_read (export_read bytes 0) (sym E.answered ∙ e) in five_two_records bytes r.2
+-- request Five: an export that is accepted is exactly two records, of different kinds, and the end: by the definition ..
+pub accepted_two : {bytes : List ℕ} → read_fault (export_read bytes 0) ≡ none → TwoRecords bytes
+accepted_two {bytes} e = let r = was_read (export_read bytes 0) e in five_two_records bytes r.2
+
+-- .. and so by what the contract says
+pub five_accepted : {bytes : List ℕ} {z : Result Export Refusal} → ExportAs bytes z → said z ≡ none → TwoRecords bytes
+five_accepted E e = accepted_two (sym E.answered ∙ e)

@@ -1,4 +1,5 @@
 -- Each kind exactly once: an export that is accepted has met both kinds, and its third record is the end.
+use Rattle.std.specs.Option.{is_some}
 use Rattle.rules.proofs.Offered.{ℕ, arith, ◌≡◌, refl, sym, ◌∙◌, Bool, true, false, not, List, length, eqb, Float, not-true, ◌and◌, at, by_test, by_order}
 use Rattle.rules.proofs.Offered.{and_left, and_right, Fault, Read, got, refused, Reader, hand_on, give, demand}
 use Rattle.exports.specs.declared.Record.{Record}
@@ -13,7 +14,7 @@ use Rattle.exports.proofs.RecordAnswers.{no_kind, by_kind}
 -- ---- a reading that came to its end went by each step
 
 pub never : {A : Type 0} {f : Fault} {a : A} {j : ℕ} {P : Type 0} → ◌≡◌ {A = Read A} (refused f) (got a j) → P
-never e = let z : ◌≡◌ {A = ℕ} 0 1 = cc in absurd (omega arith)
+never e = cc
 
 pub went : {A B P : Type 0} (m : Read A) (f : A → Reader B) {b : B} {j : ℕ} → hand_on m f ≡ got b j → ((a : A) (k : ℕ) → m ≡ got a k → f a k ≡ got b j → P) → P
 unfolding hand_on
@@ -32,17 +33,17 @@ module _ (bytes : List ℕ) (found : Found) (i : ℕ) {r : Record} {j : ℕ} whe
   end_fresh : (k : ℕ) → end_read bytes i found k ≡ got r j → Fresh found r
   unfolding end_read hand_on demand
   end_fresh k e =
-      by_test (found.has_coefficients and found.has_mass)
+      by_test (is_some found.coefficients and is_some found.mass)
       (λ t. let s = same_record (rw t at e) in rw (← s) (and_left _ _ t, and_right _ _ t))
       (λ t. never (rw t at e))
 
-  coefficients_fresh : (k : ℕ) → found.has_coefficients ≡ false → coefficients_read bytes i k ≡ got r j → Fresh found r
+  coefficients_fresh : (k : ℕ) → is_some found.coefficients ≡ false → coefficients_read bytes i k ≡ got r j → Fresh found r
   unfolding coefficients_read
   coefficients_fresh k t e =
       went (judged bytes i f0_field k) _ e (λ x k _ e. went (judged bytes i f1_field k) _ e
       (λ y k _ e. went (judged bytes i f2_field k) _ e (λ z k _ e. rw (← same_record e) t)))
 
-  mass_fresh : (k : ℕ) → found.has_mass ≡ false → mass_read bytes i k ≡ got r j → Fresh found r
+  mass_fresh : (k : ℕ) → is_some found.mass ≡ false → mass_read bytes i k ≡ got r j → Fresh found r
   unfolding mass_read
   mass_fresh k t e = went (judged bytes i tm_field k) _ e (λ x k _ e. rw (← same_record e) t)
 
@@ -52,10 +53,10 @@ module _ (bytes : List ℕ) (found : Found) (i : ℕ) {r : Record} {j : ℕ} whe
       by_test (eqb n 0)
       (λ z. end_fresh k (rw z at e))
       (λ z.
-      by_test (eqb n 1 and not found.has_coefficients)
+      by_test (eqb n 1 and not (is_some found.coefficients))
       (λ a. coefficients_fresh k (not-true _ (and_right _ _ a)) (rw (z, a) at e))
       (λ a.
-      by_test (eqb n 2 and not found.has_mass)
+      by_test (eqb n 2 and not (is_some found.mass))
       (λ b. mass_fresh k (not-true _ (and_right _ _ b)) (rw (z, a, b) at e))
       (λ b. never (rw (z, a, b) at e))))
 
@@ -72,14 +73,13 @@ pub two_kinds : (P : Record → Record → Type 0)
     → ((c : Coefficients) (m : Float) → P (record_is.Coefficients c) (record_is.Mass m))
     → ((m : Float) (c : Coefficients) → P (record_is.Mass m) (record_is.Coefficients c))
     → (one two : Record) → Fresh none_yet one → Fresh (with_record none_yet one) two → P one two
-unfolding none_yet
-two_kinds P f g (record_is.Coefficients a) (record_is.Coefficients b) p q = let z : ◌≡◌ {A = ℕ} 0 1 = cc in absurd (omega arith)
+two_kinds P f g (record_is.Coefficients a) (record_is.Coefficients b) p q = cc
 two_kinds P f g (record_is.Coefficients a) (record_is.Mass b) p q = f a b
-two_kinds P f g (record_is.Coefficients a) record_is.End p q = let z : ◌≡◌ {A = ℕ} 0 1 = cc in absurd (omega arith)
+two_kinds P f g (record_is.Coefficients a) record_is.End p q = cc
 two_kinds P f g (record_is.Mass a) (record_is.Coefficients b) p q = g a b
-two_kinds P f g (record_is.Mass a) (record_is.Mass b) p q = let z : ◌≡◌ {A = ℕ} 0 1 = cc in absurd (omega arith)
-two_kinds P f g (record_is.Mass a) record_is.End p q = let z : ◌≡◌ {A = ℕ} 0 1 = cc in absurd (omega arith)
-two_kinds P f g record_is.End two p q = let z : ◌≡◌ {A = ℕ} 0 1 = cc in absurd (omega arith)
+two_kinds P f g (record_is.Mass a) (record_is.Mass b) p q = cc
+two_kinds P f g (record_is.Mass a) record_is.End p q = cc
+two_kinds P f g record_is.End two p q = cc
 
 -- both kinds were met
 abbrev pub Both : Found → Type 0

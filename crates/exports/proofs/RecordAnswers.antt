@@ -1,7 +1,8 @@
 -- What the reading answers, one law for each way through it.
+use Rattle.std.specs.Option.{is_some}
 use Rattle.rules.proofs.Offered.{ℕ, ◌+◌, ◌<◌, ◌≤◌, ◌≡◌, true, false, List, length, Float, binary32, of_bits-fits, le-leb, lt-leb, lt-ltb, le-ltb, ne_eqb, ◌and◌}
 use Rattle.rules.proofs.Offered.{at, Fault, fault, early, Read, got, refused, hand_on, demand}
-use Rattle.rules.specs.declared.Refusal.TheVariants.{JobEndsEarly, BadKind, NotFinite, OutOfBounds, KindMissing}
+use Rattle.rules.specs.declared.Refusal.TheVariants.{JobEndsEarly, BadKind, NotFinite, OutOfBounds}
 use Rattle.exports.specs.declared.Record.{Record}
 use Rattle.exports.specs.declared.Record.TheVariants as record_is
 use Rattle.exports.specs.declared.Found.{Found}
@@ -95,37 +96,23 @@ module _ (bytes : List ℕ) (found : Found) (i : ℕ) where
     kind_0 e g = rw (by_kind, e) g
 
     module _ (e : at bytes i ≡ 1) where
-      pub kind_1_twice : found.has_coefficients ≡ true → refused (fault (BadKind i)) ≡ record_read bytes found i
+      pub kind_1_twice : is_some found.coefficients ≡ true → refused (fault (BadKind i)) ≡ record_read bytes found i
       unfolding of_kind ◌and◌
       kind_1_twice t = rw (by_kind, e, t)
 
-      pub kind_1 : found.has_coefficients ≡ false → {r : Read Record} → r ≡ coefficients_read bytes i (i + 1) → r ≡ record_read bytes found i
+      pub kind_1 : is_some found.coefficients ≡ false → {r : Read Record} → r ≡ coefficients_read bytes i (i + 1) → r ≡ record_read bytes found i
       unfolding of_kind ◌and◌
       kind_1 t g = rw (by_kind, e, t) g
 
     module _ (e : at bytes i ≡ 2) where
-      pub kind_2_twice : found.has_mass ≡ true → refused (fault (BadKind i)) ≡ record_read bytes found i
+      pub kind_2_twice : is_some found.mass ≡ true → refused (fault (BadKind i)) ≡ record_read bytes found i
       unfolding of_kind ◌and◌
       kind_2_twice t = rw (by_kind, e, t)
 
-      pub kind_2 : found.has_mass ≡ false → {r : Read Record} → r ≡ mass_read bytes i (i + 1) → r ≡ record_read bytes found i
+      pub kind_2 : is_some found.mass ≡ false → {r : Read Record} → r ≡ mass_read bytes i (i + 1) → r ≡ record_read bytes found i
       unfolding of_kind ◌and◌
       kind_2 t g = rw (by_kind, e, t) g
 
     pub kind_unknown : (at bytes i ≡ 0 → ⊥) → (at bytes i ≡ 1 → ⊥) → (at bytes i ≡ 2 → ⊥) → refused (fault (BadKind i)) ≡ record_read bytes found i
     unfolding of_kind ◌and◌
     kind_unknown a b c = rw (by_kind, ne_eqb (at bytes i) 0 a, ne_eqb (at bytes i) 1 b, ne_eqb (at bytes i) 2 c)
-
-module _ (bytes : List ℕ) (spot : ℕ) (found : Found) (i : ℕ) where
-  pub end_lacks_coefficients : found.has_coefficients ≡ false → refused (fault (KindMissing spot)) ≡ end_read bytes spot found i
-  unfolding end_read hand_on demand ◌and◌
-  end_lacks_coefficients t = rw t
-
-  module _ (t : found.has_coefficients ≡ true) where
-    pub end_lacks_mass : found.has_mass ≡ false → refused (fault (KindMissing spot)) ≡ end_read bytes spot found i
-    unfolding end_read hand_on demand ◌and◌
-    end_lacks_mass u = rw (t, u)
-
-    pub end_comes : found.has_mass ≡ true → got record_is.End i ≡ end_read bytes spot found i
-    unfolding end_read hand_on demand ◌and◌
-    end_comes u = rw (t, u)

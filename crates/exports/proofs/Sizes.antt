@@ -1,28 +1,14 @@
 -- Sizes: what fits the code's types, and what a judged value is in them.
 use Rattle.rules.proofs.Offered.{ℕ, zero, suc, ◌+◌, ◌*◌, ◌/◌, ◌%◌, ◌^◌, ◌<◌, ◌≤◌, mul-le-mul, mul_comm, div-eq_of_lt, mod-eq_of_lt, one-mul, arith, ◌≡◌, refl}
-use Rattle.rules.proofs.Offered.{ap, ◌∙◌, Bool, true, false, ℤ, pos, negsuc, neg_ℤ, ◌-ℤ◌, +ℤ_idl, le_z, lt_z, pow-add, pow_mono, shr_le, Float}
+use Rattle.rules.proofs.Offered.{ap, ◌∙◌, Bool, true, false, ℤ, pos, negsuc, neg_ℤ, ◌-ℤ◌, +ℤ_idl, le_z, pow-add, pow_mono, shr_le, Float}
 use Rattle.rules.proofs.Offered.{binary32, to_bits}
-use Rattle.rules.proofs.Offered.{to_z-of_z, to_z_pos, sfits_lit, SFits, to_z, of_z, w32, w64, le-leb, lt-leb, leb-true, ltb-true, ltb-false, nearest, ◌and◌}
+use Rattle.rules.proofs.Offered.{to_z-of_z, to_z_pos, sfits_lit, SFits, to_z, of_z, w32, w64, le-leb, lt-leb, leb-true, nearest, ◌and◌}
 use Rattle.rules.proofs.Offered.{and_left, and_right}
 use Rattle.exports.specs.declared.Field.{Field}
 use Rattle.exports.specs.Floats.{signed, scaled}
 use Rattle.exports.specs.Fields.{f0_field, f1_field, f2_field, tm_field, units, in_bounds}
 use Rattle.exports.specs.Bits.{negative, significand, shift, size_of, Moderate, InField, Fair, Unsigned}
 use Rattle.exports.proofs.Values.{scaled_is, moderate}
-
--- ---- order
-
-pub less_no : (a b : ℤ) → lt_z a b ≡ true → le_z b a ≡ false
-less_no (pos a) (pos b) t = lt-leb b a (ltb-true a b t)
-less_no (pos a) (negsuc b) t = let z : ◌≡◌ {A = ℕ} 0 1 = cc in absurd (omega arith)
-less_no (negsuc a) (pos b) t = refl
-less_no (negsuc a) (negsuc b) t = lt-leb a b (ltb-true b a t)
-
-pub less_yes : (a b : ℤ) → lt_z a b ≡ false → le_z b a ≡ true
-less_yes (pos a) (pos b) t = le-leb b a (ltb-false a b t)
-less_yes (pos a) (negsuc b) t = refl
-less_yes (negsuc a) (pos b) t = let z : ◌≡◌ {A = ℕ} 0 1 = cc in absurd (omega arith)
-less_yes (negsuc a) (negsuc b) t = le-leb a b (ltb-false b a t)
 
 -- ---- products
 
@@ -120,7 +106,7 @@ module _ (k : ℕ) (x : Float) (m : Moderate k x) (n : ℕ) (e : n ≡ size_of k
   minus_is : pos 0 -ℤ to_z w64 n ≡ neg_ℤ (pos n)
   minus_is = rw (to_z_pos w64 {n = n} (omega arith)) (+ℤ_idl (neg_ℤ (pos n)))
 
-  pub minus_short : SFits w64 (pos 0 -ℤ to_z w64 n)
+  minus_short : SFits w64 (pos 0 -ℤ to_z w64 n)
   unfolding signed
   minus_short = rw minus_is (signed_short true n low)
 

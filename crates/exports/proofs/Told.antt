@@ -1,4 +1,5 @@
 -- Whatever the reader of an export refuses, it refuses by number and place of a row of the table.
+use Rattle.std.specs.Option.{is_some}
 use Rattle.rules.proofs.Offered.{ℕ, ◌+◌, refl, not, List, length, leb, ltb, eqb, ◌and◌, early, Reader, hand_on, read_fault, if_ind, Told, ToldRead, told_got}
 use Rattle.rules.proofs.Offered.{told-refused, told_then, told-demand}
 use Rattle.rules.specs.declared.Refusal.TheVariants.{JobEndsEarly, BadKind, NotFinite, OutOfBounds, KindMissing, BytesAfter}
@@ -29,12 +30,12 @@ module _ (bytes : List ℕ) where
   kinds_told spot k found i =
       if_ind (λ (f : Reader Record). ToldRead (f i)) (eqb k 0)
       (λ _. told_then _ _ (told-demand _ 22 spot i (KindMissing spot, refl)) (λ t j. told_got _ j)) (λ _.
-      if_ind (λ (f : Reader Record). ToldRead (f i)) (eqb k 1 and not found.has_coefficients)
+      if_ind (λ (f : Reader Record). ToldRead (f i)) (eqb k 1 and not (is_some found.coefficients))
       (λ _.
       told_then _ _ (judged-told spot f0_field i) (λ x j. told_then _ _ (judged-told spot f1_field j)
       (λ y j. told_then _ _ (judged-told spot f2_field j) (λ z j. told_got _ j))))
       (λ _.
-      if_ind (λ (f : Reader Record). ToldRead (f i)) (eqb k 2 and not found.has_mass)
+      if_ind (λ (f : Reader Record). ToldRead (f i)) (eqb k 2 and not (is_some found.mass))
       (λ _. told_then _ _ (judged-told spot tm_field i) (λ x j. told_got _ j))
       (λ _. told-refused (BadKind spot, refl))))
 

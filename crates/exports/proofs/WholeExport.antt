@@ -1,31 +1,28 @@
 -- The whole export: one law for each end of the reading.
+use Rattle.std.proofs.Common.{Some, Ok, Err, Float}
 use Rattle.rules.proofs.Offered.{ℕ, ◌≡◌, List, length, ℤ, pos, eq-eqb, ne_eqb, Fault, fault, said, got, refused, hand_on, demand, read_fault}
 use Rattle.rules.specs.declared.Refusal.{Refusal}
 use Rattle.rules.specs.declared.Refusal.TheVariants.{BytesAfter}
-use Rattle.rules.specs.declared.Answer.TheVariants.{Done, Refused}
+use Rattle.exports.specs.declared.Coefficients.{Coefficients}
 use Rattle.exports.specs.declared.Record.{Record}
 use Rattle.exports.specs.declared.Found.{Found}
 use Rattle.exports.specs.Fields.{tm_field, units}
-use Rattle.exports.specs.Export.{none_yet, with_record, record_read, export_read, figures_of, ExportAs}
+use Rattle.exports.specs.Export.{none_yet, with_record, record_read, export_read, figure, figures_of, ExportAs}
 use Rattle.exports.specs.Bits.{InField, Bounded, InUnits}
-use Rattle.exports.specs.Answers.{Fresh, Good, no_export}
+use Rattle.exports.specs.Answers.{Fresh, Good}
 use Rattle.exports.proofs.Once.{two_kinds}
 
--- the coefficients and the mass of two records that come were judged
-pub both-judged : (one two : Record) → Fresh none_yet one → Fresh (with_record none_yet one) two → Good one → Good two
-    → Bounded (with_record (with_record none_yet one) two).coefficients × InField tm_field (with_record (with_record none_yet one) two).mass
-both-judged =
-    two_kinds
-    (λ one two. Good one → Good two → Bounded (with_record (with_record none_yet one) two).coefficients
-    × InField tm_field (with_record (with_record none_yet one) two).mass)
-    (λ c m p q. (p, q))
-    (λ m c p q. (q, p))
+-- what was found of two records that come, and is both the coefficients and the mass, was judged
+abbrev pub BothJudged : Record → Record → Type 0
+BothJudged one two =
+    Good one → Good two → (c : Coefficients) (m : Float) → (with_record (with_record none_yet one) two).coefficients ≡ Some c
+    → (with_record (with_record none_yet one) two).mass ≡ Some m → Bounded c × InField tm_field m
 
--- a record that comes at place i: it was read there, is of a kind not met before, and its values were judged
-pub record RecordCame (bytes : List ℕ) (found : Found) (i : ℕ) (one : Record) (j : ℕ) : Type 0 where
-  pub reads : got one j ≡ record_read bytes found i
-  pub fresh : Fresh found one
-  pub good : Good one
+pub both-judged : (one two : Record) → Fresh none_yet one → Fresh (with_record none_yet one) two → BothJudged one two
+both-judged =
+    two_kinds BothJudged
+    (λ a b p q c m e f. let x : a ≡ c = cc in let y : b ≡ m = cc in rw (← x, ← y) (p, q))
+    (λ b a p q c m e f. let x : a ≡ c = cc in let y : b ≡ m = cc in rw (← x, ← y) (q, p))
 
 module _ (bytes : List ℕ) where
   pub first_stops : {f : Fault} → refused f ≡ record_read bytes none_yet 0 → refused f ≡ export_read bytes 0
@@ -53,14 +50,19 @@ module _ (bytes : List ℕ) where
 
 -- ---- the reader's two ends
 
-pub refused_as : (bytes : List ℕ) {f : Refusal} → refused (fault f) ≡ export_read bytes 0 → ExportAs bytes (no_export (Refused f))
+pub refused_as : (bytes : List ℕ) {f : Refusal} → refused (fault f) ≡ export_read bytes 0 → ExportAs bytes (Err f)
 unfolding said read_fault figures_of
 refused_as bytes e = record { answered = cc; the_f0 = cc; the_f1 = cc; the_f2 = cc; the_tm = cc }
 
-pub read_as_found : (bytes : List ℕ) {found : Found} {k : ℕ} → got found k ≡ export_read bytes 0
-    → {a b t : ℕ} {s : ℤ} → InUnits found.coefficients (record { f0 = a; f1 = s; f2 = b }) → pos t ≡ units tm_field found.mass
-    → ExportAs bytes (record { answer = Done; f0 = a; f1 = s; f2 = b; tm = t })
-unfolding said read_fault figures_of
+-- what was found, where both kinds were met
+pub found_is : (found : Found) {c : Coefficients} {m : Float} → found.coefficients ≡ Some c → found.mass ≡ Some m
+    → found ≡ record { coefficients = Some c; mass = Some m }
+found_is found e f i = record { coefficients = e i; mass = f i }
+
+pub read_as_found : (bytes : List ℕ) {c : Coefficients} {m : Float} {k : ℕ} → got (record { coefficients = Some c; mass = Some m }) k ≡ export_read bytes 0
+    → {a b t : ℕ} {s : ℤ} → InUnits c (record { f0 = a; f1 = s; f2 = b }) → pos t ≡ units tm_field m
+    → ExportAs bytes (Ok (record { f0 = a; f1 = s; f2 = b; tm = t }))
+unfolding said read_fault figures_of figure
 read_as_found bytes e u m =
     let f0 = u.f0_is in
     let f1 = u.f1_is in

@@ -1,13 +1,15 @@
 -- Request Five: the export, read from left to right, each float judged once its bytes are read.
 -- Place is the byte where the record begins, for 12 the length, for 16 the first extra byte.
 use Rattle.rules.specs.Words.{◌and◌, at}
-use Rattle.std.specs.Prelude.{Float, ℕ, ◌+◌, ◌≡◌, true, false, not, List, length, leb, ltb, eqb, ℤ, pos, if◌then◌else◌}
-use Rattle.std.specs.Float.{fin}
+use Rattle.std.specs.Prelude.{Float, ℕ, ◌+◌, ◌≡◌, not, List, length, leb, ltb, eqb, ℤ, pos, if◌then◌else◌, Option, Some, None, is_some, Result}
+use Rattle.std.specs.Result.{result_unwrap_or}
+use Rattle.rules.specs.declared.Refusal.{Refusal}
 use Rattle.rules.specs.Refusals.{said}
 use Rattle.rules.specs.Groups.{Read, got, refused, Reader, ◌>>=◌, ◌>>◌, give, cursor, demand, early}
 use Rattle.rules.specs.Job.{read_fault}
 use Rattle.exports.specs.declared.Record.{Record}
 use Rattle.exports.specs.declared.Record.TheVariants as record_is
+use Rattle.exports.specs.declared.Coefficients.{Coefficients}
 use Rattle.exports.specs.declared.Found.{Found}
 use Rattle.exports.specs.declared.Field.{Field}
 use Rattle.exports.specs.declared.Export.{Export}
@@ -17,19 +19,13 @@ use Rattle.exports.specs.Fields.{f0_field, f1_field, f2_field, tm_field, units, 
 -- ---- what was found
 
 -- no record yet: neither kind was met
-unfoldable pub none_yet : Found
-none_yet = record {
-  has_coefficients = false;
-  coefficients = record { f0 = fin false 0 (pos 0); f1 = fin false 0 (pos 0); f2 = fin false 0 (pos 0) };
-  has_mass = false;
-  mass = fin false 0 (pos 0);
-}
+abbrev pub none_yet : Found
+none_yet = record { coefficients = None; mass = None }
 
 -- and this record
 abbrev pub with_record : Found → Record → Found
-with_record found (record_is.Coefficients c) = record { has_coefficients = true; coefficients = c; has_mass = found.has_mass; mass = found.mass }
-with_record found (record_is.Mass m) =
-    record { has_coefficients = found.has_coefficients; coefficients = found.coefficients; has_mass = true; mass = m }
+with_record found (record_is.Coefficients c) = record { coefficients = Some c; mass = found.mass }
+with_record found (record_is.Mass m) = record { coefficients = found.coefficients; mass = Some m }
 with_record found record_is.End = found
 
 -- ---- reading
@@ -74,15 +70,15 @@ module _ (bytes : List ℕ) where
   -- kind 0 ends the export: 22 ended with a kind missing
   unfoldable pub end_read : ℕ → Found → Reader Record
   end_read spot found = do
-    demand (found.has_coefficients and found.has_mass) 22 spot
+    demand (is_some found.coefficients and is_some found.mass) 22 spot
     give record_is.End
 
   -- what follows the kind byte k: 19 kind unknown or met twice
   unfoldable pub of_kind : ℕ → ℕ → Found → Reader Record
   of_kind spot k found =
       if eqb k 0 then end_read spot found
-      else if eqb k 1 and not found.has_coefficients then coefficients_read spot
-      else if eqb k 2 and not found.has_mass then mass_read spot
+      else if eqb k 1 and not (is_some found.coefficients) then coefficients_read spot
+      else if eqb k 2 and not (is_some found.mass) then mass_read spot
       else (λ i. refused (record { no = 19; spot = spot }))
 
   -- a record, after those that were found
@@ -112,20 +108,29 @@ pub record Figures : Type 0 where
   pub f2 : ℤ
   pub tm : ℤ
 
+-- the figure of what was met; where it was not, which no export that is accepted leaves, 0
+unfoldable pub figure : {A : Type 0} → (A → ℤ) → Option A → ℤ
+figure of (Some x) = of x
+figure of None = pos 0
+
 -- those of what was found; all 0 where the export is refused
 unfoldable pub figures_of : Read Found → Figures
 figures_of (got found j) = record {
-  f0 = units f0_field found.coefficients.f0;
-  f1 = units f1_field found.coefficients.f1;
-  f2 = units f2_field found.coefficients.f2;
-  tm = units tm_field found.mass;
+  f0 = figure (λ (c : Coefficients). units f0_field c.f0) found.coefficients;
+  f1 = figure (λ (c : Coefficients). units f1_field c.f1) found.coefficients;
+  f2 = figure (λ (c : Coefficients). units f2_field c.f2) found.coefficients;
+  tm = figure (units tm_field) found.mass;
 }
 figures_of (refused f) = record { f0 = pos 0; f1 = pos 0; f2 = pos 0; tm = pos 0 }
 
--- the answer r is what is read of the export
-pub record ExportAs (bytes : List ℕ) (r : Export) : Type 0 where
-  pub answered : said r.answer ≡ read_fault (export_read bytes 0)
-  pub the_f0 : pos r.f0 ≡ (figures_of (export_read bytes 0)).f0
-  pub the_f1 : r.f1 ≡ (figures_of (export_read bytes 0)).f1
-  pub the_f2 : pos r.f2 ≡ (figures_of (export_read bytes 0)).f2
-  pub the_tm : pos r.tm ≡ (figures_of (export_read bytes 0)).tm
+-- what stands for the figures where there are none
+abbrev pub no_export : Export
+no_export = record { f0 = 0; f1 = pos 0; f2 = 0; tm = 0 }
+
+-- the answer r is what is read of the export: an `Err` is its refusal, an `Ok` its figures; with `no_export` in the place of an `Err` all four are 0
+pub record ExportAs (bytes : List ℕ) (r : Result Export Refusal) : Type 0 where
+  pub answered : said r ≡ read_fault (export_read bytes 0)
+  pub the_f0 : pos (result_unwrap_or r no_export).f0 ≡ (figures_of (export_read bytes 0)).f0
+  pub the_f1 : (result_unwrap_or r no_export).f1 ≡ (figures_of (export_read bytes 0)).f1
+  pub the_f2 : pos (result_unwrap_or r no_export).f2 ≡ (figures_of (export_read bytes 0)).f2
+  pub the_tm : pos (result_unwrap_or r no_export).tm ≡ (figures_of (export_read bytes 0)).tm

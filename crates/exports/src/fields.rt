@@ -1,6 +1,5 @@
 // The fields that the bench gives: which floats are within document 01's bounds, and what they are in its units.
 ghost use Rattle.std.specs.Prelude.{◌≡◌, pos};
-ghost use Rattle.rules.specs.Words.{le_z, ◌and◌};
 ghost use Rattle.exports.specs.Fields.{f1_field, units, in_bounds};
 ghost use Rattle.exports.specs.Bits.{Finite, InField, Fair, Unsigned, Bounded, InUnits};
 
@@ -35,26 +34,17 @@ pub const TM: Field = Field {
     hi: 4000,
 };
 
-// From lo to hi, both included.
-fn within(lo: i64, hi: i64, x: i64) -> bool
-    ensures { result ≡ le_z lo x and le_z x hi }
-{
-    if x < lo {
-        return false;
-    }
-    x <= hi
-}
-
 // Whether the rounded value lies within a field's bounds.
 pub fn in_bounds(x: f32, field: Field) -> bool
     requires { Finite x × Fair field }
     ensures { result ≡ in_bounds field x }
 {
     // From 2^23 on in size the value is beyond every bound.
-    if 150 <= exponent(f32::to_bits(x)) {
+    if 150 <= exponent(x.to_bits()) {
         return false;
     }
-    within(field.lo, field.hi, scaled(x, field.scale))
+    let value = scaled(x, field.scale);
+    field.lo <= value && value <= field.hi
 }
 
 // A float that was judged, for a field with no negative values, in its units.
@@ -62,7 +52,8 @@ pub fn whole_number(x: f32, field: Field) -> u16
     requires { InField field x × Unsigned field }
     ensures { pos result ≡ units field x }
 {
-    size_of(f32::to_bits(x), field.scale) as u16
+    // `as` fits: the field is in its bounds
+    size_of(x.to_bits(), field.scale) as u16
 }
 
 // F1, which may be negative.
@@ -70,6 +61,7 @@ fn thousandths(x: f32) -> i32
     requires { InField f1_field x }
     ensures { result ≡ units f1_field x }
 {
+    // `as` fits: the field is in its bounds
     scaled(x, 1000) as i32
 }
 

@@ -5,8 +5,7 @@ use Rattle.rules.proofs.Offered.{printed_fault, room_alone}
 use Rattle.rules.specs.declared.Vehicle.{Vehicle}
 use Rattle.rules.specs.declared.Refusal.{Refusal}
 use Rattle.rules.specs.declared.Refusal.TheVariants.{TraceLength}
-use Rattle.rules.specs.declared.Answer.{Answer}
-use Rattle.rules.specs.declared.Answer.TheVariants.{Done, Refused}
+use Rattle.std.specs.Prelude.{Ok, Err}
 use Rattle.reading.specs.declared.Reading.{Reading}
 use Rattle.reading.specs.Reader.{reading, ReadAs}
 use Rattle.reading.proofs.Rooms.{rooms}
@@ -16,17 +15,16 @@ use Rattle.gearcard.specs.Printing.{text_of}
 
 module _ (car : Vehicle) (vs hs old : List ℕ) (e : length old ≡ length vs) where
   -- where the working is done, the text is that of the card that it left
-  pub done_text : {a : Answer} {new : List ℕ} → said a ≡ work_fault car vs hs old → a ≡ Done → new ≡ work_card car vs hs old
-      → text_of car vs hs ≡ card_text vs new
+  pub done_text : {new : List ℕ} → said {A = Unit {0}} (Ok tt) ≡ work_fault car vs hs old → new ≡ work_card car vs hs old → text_of car vs hs ≡ card_text vs new
   unfolding said work_card left worked_text
-  done_text s d n =
-      let w : work_fault car vs hs old ≡ none = sym s ∙ rw d in
+  done_text s n =
+      let w : work_fault car vs hs old ≡ none = sym s in
       rw (← room_alone car vs hs old vs e, w, n, w)
 
   -- where the working refuses, the text is the refusal's
-  pub stop_text : {a : Answer} {q : Refusal} → said a ≡ work_fault car vs hs old → a ≡ Refused q → text_of car vs hs ≡ refusal_text (fault q)
+  pub stop_text : (q : Refusal) → said {A = Unit {0}} (Err q) ≡ work_fault car vs hs old → text_of car vs hs ≡ refusal_text (fault q)
   unfolding said worked_text
-  stop_text s d = rw (← room_alone car vs hs old vs e, ← s, d)
+  stop_text q s = rw (← room_alone car vs hs old vs e, ← s)
 
 -- ---- a refusal, as it is printed
 
@@ -62,20 +60,20 @@ unfolding read_fault read_text
 stop-read (got j end) f e = let z : ◌≡◌ {A = ℕ} 0 1 = cc in absurd (omega arith)
 stop-read (refused g) f e = let z : f ≡ g = cc in rw z
 
-module _ {job s₀ h₀ s h : List ℕ} {r : Reading} (a : ReadAs job s₀ h₀ r s h) (n : length s₀ ≡ program_room) (m : length h₀ ≡ program_room) where
+module _ (job s₀ h₀ : List ℕ) (n : length s₀ ≡ program_room) (m : length h₀ ≡ program_room) where
   -- rooms of so many places are those of the card program
   read_is : read_text (reading job s₀ h₀) ≡ printed job
   unfolding printed reading
   read_is = rw (n, m)
 
   -- of a job that was read the text is what the working says
-  pub printed_done : r.answer ≡ Done → text_of r.vehicle (take r.count s) (take r.count h) ≡ printed job
+  pub printed_done : {s h : List ℕ} {r : Reading} → ReadAs job s₀ h₀ (Ok r) s h → text_of r.vehicle (take r.count s) (take r.count h) ≡ printed job
   unfolding said
-  printed_done d =
+  printed_done a =
       let w = rooms a in
-      rw (w.speeds_are, w.holds_are, a.the_vehicle) (done_read (reading job s₀ h₀) (rw d at a.answered) ∙ read_is)
+      rw (w.speeds_are, w.holds_are, a.the_vehicle) (done_read (reading job s₀ h₀) a.answered ∙ read_is)
 
   -- of one that was refused it is the refusal
-  pub printed-stop : {q : Refusal} → r.answer ≡ Refused q → refusal_text (printed_fault (fault q)) ≡ printed job
+  pub printed-stop : {s h : List ℕ} {q : Refusal} → ReadAs job s₀ h₀ (Err q) s h → refusal_text (printed_fault (fault q)) ≡ printed job
   unfolding said
-  printed-stop d = stop-read (reading job s₀ h₀) _ (rw d at a.answered) ∙ read_is
+  printed-stop a = stop-read (reading job s₀ h₀) _ a.answered ∙ read_is

@@ -4,29 +4,12 @@
 // Where a read or a write fails, the program says so on standard error and ends with status 1.
 #![tactic(auto)]
 
-ghost use Rattle.std.specs.Prelude.{◌≤◌, length, IfOk};
-
+use inputs::read_full;
 use std::io;
-use std::io::Read;
 
 mod text;
 
 use text::{TEXT, answer};
-
-// Reads until the memory is full or the input ends, and answers how many bytes came.
-fn read_full(input: &mut impl Read, job: &mut [u8]) -> io::Result<usize>
-    ensures { IfOk result (λ n. n ≤ length job.new) }
-{
-    let mut done = 0;
-    while done < job.len() {
-        let n = input.read(&mut job[done..])?;
-        if n == 0 {
-            break;
-        }
-        done += n;
-    }
-    Ok(done)
-}
 
 fn main(rt: HostRuntime) -> io::Result<()> {
     let mut job = [0u8; 37513];

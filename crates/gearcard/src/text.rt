@@ -6,7 +6,7 @@ ghost use Rattle.rules.specs.Text.{decimal, pedal, line, lines, card_text, refus
 ghost use Rattle.reading.specs.Lent.{Put};
 ghost use Rattle.gearcard.specs.Printing.{Begins, speed_text, gear_text, text_of};
 
-use rules::{Answer, Refusal, Vehicle};
+use rules::{Refusal, Vehicle};
 
 // The card program has room for so many seconds.
 const ROOM: usize = 4096;
@@ -19,12 +19,9 @@ fn put(out: &mut [u8], at: usize, src: &[u8]) -> usize
     requires { at + length src.now ≤ length out.old }
     ensures { Put src.now out.old at result out.new }
 {
-    let mut i: usize = 0;
-    while i < src.len() {
-        out[at + i] = src[i];
-        i += 1;
-    }
-    at + i
+    let end = at + src.len();
+    out[at..end].copy_from_slice(src);
+    end
 }
 
 // The last digit of a number, as ASCII.
@@ -41,6 +38,7 @@ fn spell(n: u64, digits: &mut [u8]) -> usize
 {
     let mut i: usize = 19;
     let mut rest = n;
+    // It goes on while there are digits: how many there are is found out by this.
     while 10 <= rest {
         digits[i] = digit(rest);
         rest /= 10;
@@ -76,9 +74,9 @@ fn put_speed(out: &mut [u8], at: usize, v: u16) -> usize
     requires { at + length (speed_text v) ≤ length out.old }
     ensures { Put (speed_text v) out.old at result out.new }
 {
-    let dot = put_decimal(out, at, (v / 10) as u64);
+    let dot = put_decimal(out, at, u64::from(v / 10));
     let tenth = put(out, dot, b".");
-    put_decimal(out, tenth, (v % 10) as u64)
+    put_decimal(out, tenth, u64::from(v % 10))
 }
 
 // Puts the gear and the clutch of a card's byte.
@@ -87,7 +85,7 @@ fn put_gear(out: &mut [u8], at: usize, byte: u8) -> usize
     ensures { Put (gear_text byte) out.old at result out.new }
 {
     let gear = put(out, at, b" ");
-    let clutch = put_decimal(out, gear, (byte % 16) as u64);
+    let clutch = put_decimal(out, gear, u64::from(byte % 16));
     put_pedal(out, clutch, byte)
 }
 
@@ -96,6 +94,7 @@ fn put_line(out: &mut [u8], at: usize, i: usize, v: u16, byte: u8) -> usize
     requires { at + length (line i v byte) ≤ length out.old }
     ensures { Put (line i v byte) out.old at result out.new }
 {
+    // `as`: From has none from usize
     let blank = put_decimal(out, at, i as u64);
     let speed = put(out, blank, b" ");
     let gear = put_speed(out, speed, v);
@@ -110,12 +109,8 @@ fn put_lines(out: &mut [u8], at: usize, speeds: &[u16], card: &[u8]) -> usize
     ensures { Put (lines speeds.now card.now 0 (length speeds.now)) out.old at result out.new }
 {
     let mut next = at;
-    let mut i: usize = 0;
-    while i < speeds.len() {
-        let v = speeds[i];
-        let byte = card[i];
-        next = put_line(out, next, i, v, byte);
-        i += 1;
+    for i in 0..speeds.len() {
+        next = put_line(out, next, i, speeds[i], card[i]);
     }
     next
 }
@@ -136,7 +131,7 @@ fn put_refusal(out: &mut [u8], at: usize, refusal: Refusal) -> usize
     requires { at + 43 ≤ length out.old }
     ensures { Put (refusal_text (fault refusal)) out.old at result out.new }
 {
-    let number = refusal.number() as u64;
+    let number = u64::from(refusal.number());
     let spot = refusal.place() as u64;
     let at = put(out, at, b"refused ");
     let at = put_decimal(out, at, number);
@@ -158,14 +153,13 @@ fn put_worked<'a>(
     requires program_room_in_bounds { 25 + 20 * program_room ≤ length out.old }
     ensures { Put (text_of vehicle speeds.now holds.now) out.old 0 result out.new }
 {
-    let answer = cards::work(vehicle, speeds, holds, card);
-    match answer {
-        Answer::Done => put_card(out, 0, speeds, card),
-        Answer::Refused(refusal) => put_refusal(out, 0, refusal),
+    match cards::work(vehicle, speeds, holds, card) {
+        Ok(()) => put_card(out, 0, speeds, card),
+        Err(refusal) => put_refusal(out, 0, refusal),
     }
 }
 
-// A trace that is too long for the program's room is told as too long: 1 where the reader answers 2.
+// A trace that is too long for the program's room is told as too long: 1 where the reader answers 2, by the number, as `printed_fault` has it.
 fn as_printed(refusal: Refusal) -> Refusal
     ensures { fault result ≡ printed_fault (fault refusal) }
 {
@@ -182,23 +176,17 @@ pub fn answer(job: &[u8], out: &mut [u8; TEXT]) -> usize
     let mut speeds = [0u16; ROOM];
     let mut holds = [0u8; ROOM];
     let mut card = [0u8; ROOM];
-    let reading = reading::read(job, &mut speeds, &mut holds);
-    let judged = reading.answer;
-    match judged {
-        Answer::Done => {
+    match reading::read(job, &mut speeds, &mut holds) {
+        Ok(reading) => {
             let count = reading.count;
-            let vehicle = reading.vehicle;
             put_worked(
-                vehicle,
+                reading.vehicle,
                 &speeds[..count],
                 &holds[..count],
                 &mut card[..count],
                 out,
             )
         }
-        Answer::Refused(refusal) => {
-            let shown = as_printed(refusal);
-            put_refusal(out, 0, shown)
-        }
+        Err(refusal) => put_refusal(out, 0, as_printed(refusal)),
     }
 }

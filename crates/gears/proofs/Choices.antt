@@ -1,21 +1,20 @@
 -- The choice, as a loop from the top gear down meets it: what is left, from here down, with the best gear so far, is what was asked.
-use Rattle.rules.proofs.Offered.{ℕ, zero, suc, ◌-◌, ◌≤◌, ◌<◌, arith, ◌≡◌, refl, sym, ◌∙◌, subst, ◌≢◌, Bool, true, false, not, List, eqb, ℤ, pos, nat_abs, le_z}
+use Rattle.rules.proofs.Offered.{ℕ, zero, suc, ◌-◌, ◌≤◌, ◌<◌, arith, ◌≡◌, refl, sym, ◌∙◌, subst, ◌≢◌, Bool, true, false, not, List, eqb, ℤ, pos, negsuc}
 use Rattle.rules.proofs.Offered.{eqb-true, eqb-false, ne_eqb, if◌then◌else◌, ◌and◌, ◌or◌, highest, low, is_first, required, fits, Power, power, enough, more}
 use Rattle.rules.proofs.Offered.{suits, beats, strongest, choose, NoGear, clash, by_test, and_left, and_no, highest-holds, highest_none, fits_from}
 use Rattle.rules.proofs.Offered.{strongest-fits, more_asym, no_more_trans, gear_wide, choose-strongest, choose-highest, choose_to, first_choice_plainly}
-use Rattle.rules.proofs.Offered.{InBounds}
+use Rattle.rules.proofs.Offered.{InBounds, nat_abs, le_z, to_z-of_z, result}
 use Rattle.rules.specs.declared.Vehicle.{Vehicle}
 use Rattle.rules.proofs.Laws.Strongest.{Wide}
 use Rattle.rules.specs.declared.Role.{Role}
 use Rattle.rules.specs.declared.Role.TheVariants.{First}
-use Rattle.gears.specs.declared.Numbers.{Numbers}
 use Rattle.gears.specs.declared.Power as code
 use Rattle.gears.specs.declared.Best.{Best}
-use Rattle.gears.specs.Parts.{Lent}
+use Rattle.gears.specs.Second.{Gear}
 use Rattle.gears.specs.Choosing.{power_of, PowerSized, enough_for, InGear, only_lowest, the_stronger}
-use Rattle.gears.proofs.Powers.{nothing, turning_of, turning_enough, sized_of}
+use Rattle.gears.proofs.Powers.{nothing, turning_of, turning_enough, sized_of, turned-curve, turned-next}
+use Rattle.gears.proofs.Reach.{later}
 use Rattle.gears.proofs.Speeds.{fits_not, fits_lower}
-use Rattle.gears.proofs.Parts.{ng_of}
 
 -- ---- what is left
 
@@ -177,14 +176,15 @@ pub record Tried (car : Vehicle) (here : Role) (v : ℕ) (d : ℤ) (g : ℕ) (b 
   pub to : b.gear ≤ car.ng
 
 -- none, to begin with
-pub tried_none : (car : Vehicle) (here : Role) (v : ℕ) (d : ℤ) (b : Best) → b.gear ≡ 0 → power_of b.power ≡ nothing → Tried car here v d car.ng b
-tried_none car here v d b z p =
-    record { left = rw z (left_all car here v d); none = λ y. p; its_power = λ n. absurd (n z); fitting = λ n. absurd (n z); to = omega (arith, z) }
+pub tried_none : (car : Vehicle) (here : Role) (v : ℕ) (d : ℤ) (g : ℕ) → g ≡ car.ng
+    → Tried car here v d g (record { gear = 0; power = record { q = negsuc 0; w = pos 1 } })
+tried_none car here v d g e =
+    rw e (record { left = left_all car here v d; none = λ y. refl; its_power = λ n. absurd (n refl); fitting = λ n. absurd (n refl); to = omega arith })
 
 module _ {car : Vehicle} {here : Role} {v : ℕ} {d : ℤ} {g : ℕ} {b : Best} (T : Tried car here v d g b) where
   -- the power of the best is within its bounds
-  pub best_sized : {k : Numbers} {ratio n p : List ℕ} → Lent car k ratio n p → PowerSized b.power
-  best_sized {k} L =
+  pub best_sized : InBounds car → PowerSized b.power
+  best_sized B =
       by_test (eqb b.gear 0)
       (λ y. let p = T.none (eqb-true _ _ y) in record {
         q_in = subst (λ (z : Power). nat_abs z.Q ≤ 1000000000000) (sym p) (omega arith);
@@ -192,8 +192,8 @@ module _ {car : Vehicle} {here : Role} {v : ℕ} {d : ℤ} {g : ℕ} {b : Best} 
       })
       (λ y.
       let f = T.fitting (eqb-false _ _ y) in
-      let i : InGear k b.gear = record { from = fits_from car here v b.gear f; to = omega (arith, T.to, ng_of L.has.counts) } in
-      sized_of L v b.gear (turning_of L.has here v b.gear i f) b.power (T.its_power (eqb-false _ _ y)))
+      let i : InGear car b.gear = record { from = fits_from car here v b.gear f; to = T.to } in
+      sized_of B v b.gear (turning_of car here v b.gear i f) b.power (T.its_power (eqb-false _ _ y)))
 
   module _ (l : 0 < g) where
     -- gear g suits: it is the choice
@@ -244,11 +244,18 @@ unfolding suits enough enough_for ◌and◌
 suits-power car here v d g a r f q h = rw (f, ← q, ← r) h
 
 -- or if E is at most 0
-pub suits_none : {car : Vehicle} {k : Numbers} {ratio n p : List ℕ} → Lent car k ratio n p → (here : Role) (v g : ℕ) (d : ℤ) {e : ℤ} → InGear k g
-    → e ≡ required car v d → fits car here v g ≡ true → le_z e (pos 0) ≡ true
+pub suits_none : (car : Vehicle) (here : Role) (v : ℕ) (d : ℤ) (g : ℕ) → InBounds car → InGear car g → fits car here v g ≡ true
+    → le_z (required car v d) (pos 0) ≡ true
     → suits car here v d g ≡ true
 unfolding suits enough enough_for ◌and◌
-suits_none L here v g d {e} i r f h = rw (f, ← r) (turning_enough L v g (turning_of L.has here v g i f) e h)
+suits_none car here v d g B i f h = rw f (turning_enough B v g (turning_of car here v g i f) (required car v d) h)
+
+-- a gear of a vehicle in bounds has a place in the array
+pub in_array : (car : Vehicle) (g : ℕ) → InBounds car → InGear car g → Gear g
+in_array car g b i = record { from = i.from; to = omega (arith, i.to, b.ng_to) }
+
+-- what a turn of the loop stands on
+pub ruleset turns = (tried_none, in_array, turned-curve, turned-next, turning_of, later, to_z-of_z, result)
 
 -- ---- the choice where one gear may fit, or none
 

@@ -1,7 +1,6 @@
 -- Each public function's contract allows one outcome. `Reads` is the contract's own reading, which the check makes of the clauses.
-use Rattle.rules.proofs.Offered.{ℕ, refl, sym, ap, ◌∙◌, List, [], said_once}
+use Rattle.rules.proofs.Offered.{ℕ, refl, sym, ap, ◌∙◌, List, said_once}
 use Rattle.rules.specs.Determined.{Determined, DeterminedAs}
-use Rattle.gears.proofs.Parts.{built_has}
 use Rattle.gears.proofs.second.top.Kinds as top-kinds
 use Rattle.gears.proofs.second.top.Reads as top-reads
 use Rattle.gears.proofs.second.lowest.Kinds as lowest-kinds
@@ -20,8 +19,6 @@ use Rattle.gears.proofs.second.required.Kinds as required-kinds
 use Rattle.gears.proofs.second.required.Reads as required-reads
 use Rattle.gears.proofs.bounds.check_vehicle.Kinds as check-vehicle-kinds
 use Rattle.gears.proofs.bounds.check_vehicle.Reads as check-vehicle-reads
-use Rattle.gears.proofs.numbers_of.Kinds as numbers-of-kinds
-use Rattle.gears.proofs.numbers_of.Reads as numbers-of-reads
 use Rattle.gears.proofs.curve.derate.Kinds as derate-kinds
 use Rattle.gears.proofs.curve.derate.Reads as derate-reads
 use Rattle.gears.proofs.curve.segment_near.Kinds as segment-near-kinds
@@ -46,31 +43,28 @@ pub lowest : Determined lowest-kinds.ps lowest-kinds.r lowest-reads.Asked lowest
 lowest κs a asked z z' ws ws' p q = (p ∙ sym q, refl)
 
 pub not_driven : Determined not-driven-kinds.ps not-driven-kinds.r not-driven-reads.Asked not-driven-reads.Learnt
-not_driven κs a asked z z' ws ws' p q = let C = (built_has a.0 []).counts in (p.1 _ C ∙ sym (q.1 _ C), refl)
+not_driven κs a asked z z' ws ws' p q = (p.1 ∙ sym q.1, refl)
 
 pub engine : Determined engine-kinds.ps engine-kinds.r engine-reads.Asked engine-reads.Learnt
 engine κs a asked z z' ws ws' p q = (p ∙ sym q, refl)
 
 pub minimum : Determined minimum-kinds.ps minimum-kinds.r minimum-reads.Asked minimum-reads.Learnt
-minimum κs a asked z z' ws ws' p q = let C = (built_has a.0 []).counts in (p.0 _ C ∙ sym (q.0 _ C), refl)
+minimum κs a asked z z' ws ws' p q = (p.0 ∙ sym q.0, refl)
 
 pub floor : Determined floor-kinds.ps floor-kinds.r floor-reads.Asked floor-reads.Learnt
-floor κs a asked z z' ws ws' p q = let H = built_has a.0 (a.1.0.now) in (p _ H ∙ sym (q _ H), refl)
+floor κs a asked z z' ws ws' p q = (p ∙ sym q, refl)
 
 pub step_of : Determined step-of-kinds.ps step-of-kinds.r step-of-reads.Asked step-of-reads.Learnt
 step_of κs a asked z z' ws ws' p q = (p ∙ sym q, refl)
 
 pub required : Determined required-kinds.ps required-kinds.r required-reads.Asked required-reads.Learnt
-required κs a asked z z' ws ws' p q = let C = (built_has a.0 []).counts in (p _ C ∙ sym (q _ C), refl)
+required κs a asked z z' ws ws' p q = (p ∙ sym q, refl)
 
 pub check_vehicle : Determined check-vehicle-kinds.ps check-vehicle-kinds.r check-vehicle-reads.Asked check-vehicle-reads.Learnt
 check_vehicle κs a asked z z' ws ws' p q = (said_once z z' (p ∙ sym q), refl)
 
-pub numbers_of : Determined numbers-of-kinds.ps numbers-of-kinds.r numbers-of-reads.Asked numbers-of-reads.Learnt
-numbers_of κs a asked z z' ws ws' p q = (p ∙ sym q, refl)
-
 pub derate : Determined derate-kinds.ps derate-kinds.r derate-reads.Asked derate-reads.Learnt
-derate κs a asked z z' ws ws' p q = (refl, ap (λ (x : List ℕ). (tt, (tt, (tt, (tt, (x, tt)))))) (p ∙ sym q))
+derate κs a asked z z' ws ws' p q = (refl, ap (λ (x : List ℕ). (tt, (x, tt))) (p ∙ sym q))
 
 pub segment_near : Determined segment-near-kinds.ps segment-near-kinds.r segment-near-reads.Asked segment-near-reads.Learnt
 segment_near κs a asked z z' ws ws' p q = (p ∙ sym q, refl)
@@ -80,8 +74,7 @@ segment_at κs a asked z z' ws ws' p q = (p ∙ sym q, refl)
 
 -- a power is known by its Q and w
 pub power_at : Determined power-at-kinds.ps power-at-kinds.r power-at-reads.Asked power-at-reads.Learnt
-power_at κs a asked z z' ws ws' p q =
-    let car = asked.0.car in let L = asked.0.lent in let e = p car L ∙ sym (q car L) in (λ i. record { q = (e i).Q; w = (e i).w }, refl)
+power_at κs a asked z z' ws ws' p q = let e = p ∙ sym q in (λ i. record { q = (e i).Q; w = (e i).w }, refl)
 
 pub enough : Determined enough-kinds.ps enough-kinds.r enough-reads.Asked enough-reads.Learnt
 enough κs a asked z z' ws ws' p q = (p ∙ sym q, refl)
@@ -89,9 +82,9 @@ enough κs a asked z z' ws ws' p q = (p ∙ sym q, refl)
 pub more : Determined more-kinds.ps more-kinds.r more-reads.Asked more-reads.Learnt
 more κs a asked z z' ws ws' p q = (p ∙ sym q, refl)
 
--- the hints are only where a search starts, and may be any
+-- the segment is only where a search starts, and may be any
 pub choose : DeterminedAs choose-kinds.ps choose-kinds.r ℕ (λ κs z. z.gear) choose-reads.Asked choose-reads.Learnt
-choose κs a asked z z' ws ws' p q = let car = asked.0.car in let L = asked.0.lent in (p.0 car L ∙ sym (q.0 car L), refl)
+choose κs a asked z z' ws ws' p q = (p.0 ∙ sym q.0, refl)
 
 pub choice_after : DeterminedAs choice-after-kinds.ps choice-after-kinds.r ℕ (λ κs z. z.gear) choice-after-reads.Asked choice-after-reads.Learnt
-choice_after κs a asked z z' ws ws' p q = let car = asked.0.car in let L = asked.0.lent in (p.0 car L ∙ sym (q.0 car L), refl)
+choice_after κs a asked z z' ws ws' p q = (p.0 ∙ sym q.0, refl)

@@ -1,50 +1,39 @@
--- The search of the curve from a segment near: up while the segment does not reach x, then down while its lower end does.
-use Rattle.rules.proofs.Offered.{ℕ, ◌+◌, ◌-◌, ◌*◌, ◌≤◌, ◌<◌, add-one, arith, ◌≡◌, sym, ◌∙◌, ◌⊎◌, List, [], pos, le-leb, at, reaches, segment_unique, by_order}
+-- The power curve at an engine speed: the search from a segment near it, up while the segment does not reach x, then down while its lower end does; and the
+-- power on the segment found.
+use Rattle.rules.proofs.Offered.{ℕ, suc, ◌+◌, ◌*◌, ◌≤◌, ◌<◌, add-one, le-max_right, max-le, arith, ◌≡◌, sym, ◌⊎◌, List, pos, le-leb, at, engine, reaches}
+use Rattle.rules.proofs.Offered.{between, on_segment, segment, power_speed, power, OnSegment, InBounds, segment_unique, segment-holds}
 use Rattle.rules.specs.declared.Vehicle.{Vehicle}
-use Rattle.gears.specs.Parts.{whole}
-use Rattle.gears.specs.Choosing.{segment_in, segment_parts, Curve}
+use Rattle.gears.specs.Powers.{Powers}
+use Rattle.gears.specs.Choosing.{Curve, Segment, Turning}
 
--- on the way up: a segment of the curve
-pub record Up (n : List ℕ) (points x s : ℕ) : Type 0 where
-  pub curve : Curve n points x
-  pub last : s + 1 < points
+-- the segment that reaches x and whose lower end is under x, or the first
+pub ends : {car : Vehicle} {x : ℕ} → Curve car x → (s : ℕ) → s + 1 < car.points → x ≤ 1000 * at car.n (s + 1)
+    → (s ≡ 0) ⊎ (1000 * at car.n s < x) → s ≡ segment car x
+unfolding reaches
+ends {car} {x} curve s last r p = sym (segment_unique car curve.rises x s (omega arith) (le-leb _ _ (rw add-one at r)) p)
 
--- on the way down: one that reaches x
-pub record Near (n : List ℕ) (points x s : ℕ) : Type 0 where
-  pub curve : Curve n points x
-  pub last : s + 1 < points
-  pub reached : x ≤ 1000 * at n (s + 1)
+module _ {car : Vehicle} (B : InBounds car) (v g : ℕ) (t : Turning car v g) where
+  -- the engine speed at which power is read is at most nmax
+  speed_to : power_speed car v g ≤ 1000 * car.nmax
+  unfolding power_speed
+  speed_to = max-le t.under (omega (arith, B.rated_from, B.nmax_from))
 
--- a vehicle with this curve
-with_curve : List ℕ → ℕ → Vehicle
-with_curve n points =
-    whole (record { ng = 0; idle = 0; rated = 0; nmax = 0; f0 = 0; f1 = pos 0; f2 = 0; tm = 0; points = points; profile = 0 }) [] n [] [] 0
+  -- it lies on the segment found
+  turning_on : OnSegment car (power_speed car v g) (segment car (power_speed car v g))
+  unfolding power_speed
+  turning_on = segment-holds car B (power_speed car v g) (le-max_right (engine car g v) (1000 * car.idle)) speed_to
 
--- a segment under x is not the last
-pub higher : {n : List ℕ} {points x s : ℕ} → Up n points x s → 1000 * at n (s + 1) < x → Up n points x (s + 1)
-higher {n} {points} {x} {s} u l =
-    by_order (s + 1 + 1) points
-    (λ more. record { curve = u.curve; last = more })
-    (λ end. let last : s + 1 < points = u.last in
-    let e : s + 1 ≡ points - 1 = omega arith in
-    let b : x ≤ 1000 * at n (s + 1) = rw e u.curve.reaches_to in
-    absurd (omega arith))
+  module _ {x s : ℕ} (e : x ≡ power_speed car v g) (f : s ≡ segment car (power_speed car v g)) where
+    -- which can be read
+    pub turning-segment : Segment x s
+    turning-segment =
+        let on = turning_on in
+        rw (e, f) (record { next = omega (arith, on.next_point, B.points_to); small = omega (arith, speed_to, B.nmax_to) })
 
--- the way down begins where x is reached
-pub turn : {n : List ℕ} {points x s : ℕ} → Up n points x s → x ≤ 1000 * at n (s + 1) → Near n points x s
-turn u r = record { curve = u.curve; last = u.last; reached = r }
-
--- the segment under reaches x too
-pub down : {n : List ℕ} {points x s : ℕ} → Near n points x s → 0 < s → x ≤ 1000 * at n s → Near n points x (s - 1)
-down {n} {points} {x} {s} h l r =
-    let last : s + 1 < points = h.last in
-    let e : s - 1 + 1 ≡ s = omega arith in
-    record { curve = h.curve; last = omega arith; reached = rw e r }
-
--- the segment whose lower end is under x, or the first
-pub ends : {n : List ℕ} {points x s : ℕ} → Near n points x s → (s ≡ 0) ⊎ (1000 * at n s < x) → s ≡ segment_in n points x
-unfolding reaches with_curve
-ends {n} {points} {x} {s} h p =
-    let last : s + 1 < points = h.last in
-    sym (sym (segment_parts (with_curve n points) x) ∙ segment_unique (with_curve n points) h.curve.rises x s (omega arith)
-    (le-leb _ _ (rw add-one at h.reached)) p)
+    -- the power there is the gear's
+    pub power_is : (p : List ℕ) → Powers car p → between (at car.n s) (pos (at p s)) (at car.n (suc s)) (pos (at p (suc s))) x ≡ power car v g
+    unfolding power on_segment
+    power_is p P =
+        let on = turning_on in
+        let r = segment car (power_speed car v g) in
+        rw (f, e, ← P r (omega (arith, on.next_point)), ← P (suc r) on.next_point)

@@ -1,15 +1,13 @@
--- The power at a gear, from the parts that the code works it out of.
-use Rattle.rules.proofs.Offered.{ℕ, zero, suc, ◌+◌, ◌-◌, ◌*◌, ◌≤◌, ◌<◌, max, le_trans, mul_assoc, mul_left_comm, mul-le-mul_left, max-le, le-max_right, arith}
-use Rattle.rules.proofs.Offered.{◌≡◌, refl, sym, ap, ◌∙◌, subst, true, List, ℤ, pos, negsuc, neg_ℤ, nat_abs, ◌+ℤ◌, ◌-ℤ◌, ◌*ℤ◌, +ℤ_assoc, le_z, lt_z, leb-true}
-use Rattle.rules.proofs.Offered.{le-leb, at, Power, more, engine, is_under_nmax, fits, between, on_segment, segment, power_speed, power, OnSegment, and_right}
-use Rattle.rules.proofs.Offered.{+ℤ-*ℤ, neg_*ℤ, pos_sub, leZ_trans, leZ_scale, segment-holds, Q_size, w_size}
+-- The power at a gear, from the points that the code works it out of.
+use Rattle.rules.proofs.Offered.{ℕ, zero, suc, ◌+◌, ◌-◌, ◌*◌, ◌≤◌, ◌<◌, le_trans, mul_assoc, mul_left_comm, mul-le-mul_left, max-le, le-max_right, arith}
+use Rattle.rules.proofs.Offered.{◌≡◌, sym, ap, ◌∙◌, subst, true, List, ℤ, pos, negsuc, neg_ℤ, nat_abs, ◌+ℤ◌, ◌-ℤ◌, ◌*ℤ◌, +ℤ_assoc, le_z, lt_z, leb-true, le-leb}
+use Rattle.rules.proofs.Offered.{at, Power, more, engine, is_under_nmax, fits, between, on_segment, segment, power_speed, power, OnSegment, InBounds, and_right}
+use Rattle.rules.proofs.Offered.{+ℤ-*ℤ, neg_*ℤ, pos_sub, leZ_trans, leZ_scale, segment-holds, derated_is, Q_size, w_size}
 use Rattle.rules.specs.declared.Vehicle.{Vehicle}
 use Rattle.rules.specs.declared.Role.{Role}
-use Rattle.gears.specs.Choosing.{segment_in, segment_parts, Curve, Segment, power_of, turned, Turning, PowerSized, enough_for, InGear}
-use Rattle.gears.specs.Parts.{Has, Lent}
-use Rattle.gears.specs.declared.Numbers.{Numbers}
+use Rattle.gears.specs.Powers.{Powers}
+use Rattle.gears.specs.Choosing.{Curve, Segment, power_of, Turning, PowerSized, enough_for, InGear}
 use Rattle.gears.specs.declared.Power as code
-use Rattle.gears.proofs.Parts.{idle_of, nmax_of, points_of, engine_of}
 
 -- ---- no power is too little while coasting or braking
 
@@ -36,114 +34,92 @@ more-nothing : (w q : ℕ) → 0 < w → lt_z (negsuc 0 *ℤ pos w) (pos q *ℤ 
 more-nothing zero q l = absurd (omega arith)
 more-nothing (suc w) q l = let e : 1 * suc w ≡ suc w = omega arith in ap (λ (m : ℕ). lt_z (neg_ℤ (pos m)) (pos (q * 1))) e
 
-module _ {car : Vehicle} {k : Numbers} {ratio n p : List ℕ} (L : Lent car k ratio n p) (v g : ℕ) where
-  -- the engine speed at which power is read
-  pub speed_is : {x y : ℕ} → x ≡ max y (1000 * k.idle) → y ≡ at ratio (g - 1) * v → x ≡ power_speed car v g
+module _ {car : Vehicle} (B : InBounds car) (v g : ℕ) (t : Turning car v g) where
+  -- the engine speed at which power is read is at most nmax
+  speed_to : power_speed car v g ≤ 1000 * car.nmax
   unfolding power_speed
-  speed_is e f = e ∙ rw (f, engine_of L.has g v, idle_of L.has.counts)
+  speed_to = max-le t.under (omega (arith, B.rated_from, B.nmax_from))
 
-  -- .. from the numbers and the ratios
-  pub turned_is : turned k ratio v g ≡ power_speed car v g
-  unfolding turned
-  turned_is = speed_is refl refl
+  -- it lies on the segment found
+  pub turning_on : OnSegment car (power_speed car v g) (segment car (power_speed car v g))
+  unfolding power_speed
+  turning_on = segment-holds car B (power_speed car v g) (le-max_right (engine car g v) (1000 * car.idle)) speed_to
 
-  segment_of : (x : ℕ) → segment car x ≡ segment_in n k.points x
-  segment_of x = segment_parts car x ∙ rw (L.speeds, points_of L.has.counts)
+  -- the search can be made
+  pub turned-curve : Curve car (power_speed car v g)
+  turned-curve = record {
+    from = B.points_from;
+    to = B.points_to;
+    rises = B.n_rises;
+    reaches_to = le_trans speed_to (mul-le-mul_left 1000 B.last_point);
+  }
 
-  module _ (t : Turning k ratio v g) where
-    -- that speed is at most nmax
-    speed_to : power_speed car v g ≤ 1000 * car.nmax
-    unfolding power_speed
-    speed_to = max-le (rw (engine_of L.has g v, nmax_of L.has.counts) t.under) (omega (arith, L.bounds.rated_from, L.bounds.nmax_from))
+  -- it finds a segment of the curve
+  pub turned-next : {s : ℕ} → s ≡ segment car (power_speed car v g) → s + 1 < car.points
+  turned-next e = let on = turning_on in rw e (omega (arith, on.next_point))
 
-    -- it lies on the segment found
-    pub turning_on : OnSegment car (power_speed car v g) (segment car (power_speed car v g))
-    unfolding power_speed
-    turning_on = segment-holds car L.bounds (power_speed car v g) (le-max_right (engine car g v) (1000 * car.idle)) speed_to
+  module _ {x s : ℕ} (e : x ≡ power_speed car v g) (f : s ≡ segment car (power_speed car v g)) where
+    -- which can be read
+    pub turning-segment : Segment x s
+    turning-segment =
+        let on = turning_on in
+        rw (e, f) (record { next = omega (arith, on.next_point, B.points_to); small = omega (arith, speed_to, B.nmax_to) })
 
-    -- the power on the segment found is the gear's
-    pub power_is : {x s : ℕ} → x ≡ power_speed car v g → s ≡ segment_in n k.points x
-        → between (at n s) (pos (at p s)) (at n (suc s)) (pos (at p (suc s))) x ≡ power car v g
+    -- the power there is the gear's
+    pub power_is : (p : List ℕ) → Powers car p → between (at car.n s) (pos (at p s)) (at car.n (suc s)) (pos (at p (suc s))) x ≡ power car v g
     unfolding power on_segment
-    power_is {x} {s} e f =
+    power_is p P =
         let on = turning_on in
-        let t = segment car (power_speed car v g) in
-        let here : s ≡ t = f ∙ rw (← segment_of, e) in
-        rw (here, e, ← L.speeds, ← L.powers t (omega (arith, on.next_point)), ← L.powers (suc t) on.next_point)
+        let r = segment car (power_speed car v g) in
+        rw (f, e, ← P r (omega (arith, on.next_point)), ← P (suc r) on.next_point)
 
-    -- the search can be made
-    pub turning-curve : {x : ℕ} → x ≡ power_speed car v g → Curve n k.points x
-    turning-curve e = rw (← L.speeds, ← points_of L.has.counts) (record {
-      from = L.bounds.points_from;
-      to = L.bounds.points_to;
-      rises = L.bounds.n_rises;
-      reaches_to = rw e (le_trans speed_to (mul-le-mul_left 1000 L.bounds.last_point));
-    })
+  -- a power that is the gear's is within its bounds
+  pub sized_of : (a : code.Power) → power_of a ≡ power car v g → PowerSized a
+  unfolding power
+  sized_of a e =
+      let x = power_speed car v g in
+      record {
+        q_in = subst (λ (z : Power). nat_abs z.Q ≤ 1000000000000) (sym e) (Q_size car B x (segment car x) turning_on);
+        w_in = subst (λ (z : Power). nat_abs z.w ≤ 1000) (sym e) (w_size car B x (segment car x) turning_on);
+      }
 
-    -- and so can the reading of what it finds
-    pub turning-segment : {x s : ℕ} → x ≡ power_speed car v g → s ≡ segment_in n k.points x → Segment x s
-    turning-segment e f =
-        let on = turning_on in
-        rw (f, ← segment_of, e) (record { next = omega (arith, on.next_point, L.bounds.points_to); small = omega (arith, speed_to, L.bounds.nmax_to) })
+  -- no power is too little for an E of at most 0
+  pub turning_enough : (e : ℤ) → le_z e (pos 0) ≡ true → enough_for (power car v g) e ≡ true
+  unfolding enough_for power on_segment between
+  turning_enough e h =
+      let x = power_speed car v g in
+      let s = segment car x in
+      let on = turning_on in
+      let rise = B.n_rises s on.next_point in
+      rw (
+        derated_is car B s (omega (arith, on.next_point)),
+        derated_is car B (suc s) on.next_point,
+        pos_sub (at car.n (suc s)) (at car.n s) (omega arith),
+        pos_sub x (1000 * at car.n s) on.from,
+        Q_pos _ _ (at car.n (suc s) - at car.n s) (x - 1000 * at car.n s) (omega (arith, on.to)),
+      ) (enough_none e h _ _ (omega arith))
 
-    -- the same, said of the numbers and the ratios
-    pub turned-curve : Curve n k.points (turned k ratio v g)
-    turned-curve = turning-curve turned_is
-
-    pub turned-next : {s : ℕ} → s ≡ segment_in n k.points (turned k ratio v g) → s + 1 < k.points
-    turned-next e =
-        let on = turning_on in
-        let z = points_of L.has.counts in
-        rw (e, turned_is, ← segment_of (power_speed car v g)) (omega (arith, on.next_point, z))
-
-    -- a power that is the gear's is within its bounds
-    pub sized_of : (a : code.Power) → power_of a ≡ power car v g → PowerSized a
-    unfolding power
-    sized_of a e =
-        let x = power_speed car v g in
-        record {
-          q_in = subst (λ (z : Power). nat_abs z.Q ≤ 1000000000000) (sym e) (Q_size car L.bounds x (segment car x) turning_on);
-          w_in = subst (λ (z : Power). nat_abs z.w ≤ 1000) (sym e) (w_size car L.bounds x (segment car x) turning_on);
-        }
-
-    -- no power is too little for an E of at most 0
-    pub turning_enough : (e : ℤ) → le_z e (pos 0) ≡ true → enough_for (power car v g) e ≡ true
-    unfolding enough_for power on_segment between
-    turning_enough e h =
-        let x = power_speed car v g in
-        let s = segment car x in
-        let on = turning_on in
-        let rise = L.bounds.n_rises s on.next_point in
-        rw (
-          L.powers s (omega (arith, on.next_point)),
-          L.powers (suc s) on.next_point,
-          pos_sub (at car.n (suc s)) (at car.n s) (omega arith),
-          pos_sub x (1000 * at car.n s) on.from,
-          Q_pos (at p s) (at p (suc s)) (at car.n (suc s) - at car.n s) (x - 1000 * at car.n s) (omega (arith, on.to)),
-        ) (enough_none e h _ _ (omega arith))
-
-    -- and each is more than nothing
-    pub turning_more : more (power car v g) nothing ≡ true
-    unfolding more power on_segment between
-    turning_more =
-        let x = power_speed car v g in
-        let s = segment car x in
-        let on = turning_on in
-        let rise = L.bounds.n_rises s on.next_point in
-        rw (
-          L.powers s (omega (arith, on.next_point)),
-          L.powers (suc s) on.next_point,
-          pos_sub (at car.n (suc s)) (at car.n s) (omega arith),
-          pos_sub x (1000 * at car.n s) on.from,
-          Q_pos (at p s) (at p (suc s)) (at car.n (suc s) - at car.n s) (x - 1000 * at car.n s) (omega (arith, on.to)),
-        ) (more-nothing (at car.n (suc s) - at car.n s) _ (omega arith))
+  -- and each is more than nothing
+  pub turning_more : more (power car v g) nothing ≡ true
+  unfolding more power on_segment between
+  turning_more =
+      let x = power_speed car v g in
+      let s = segment car x in
+      let on = turning_on in
+      let rise = B.n_rises s on.next_point in
+      rw (
+        derated_is car B s (omega (arith, on.next_point)),
+        derated_is car B (suc s) on.next_point,
+        pos_sub (at car.n (suc s)) (at car.n s) (omega arith),
+        pos_sub x (1000 * at car.n s) on.from,
+        Q_pos _ _ (at car.n (suc s) - at car.n s) (x - 1000 * at car.n s) (omega (arith, on.to)),
+      ) (more-nothing (at car.n (suc s) - at car.n s) _ (omega arith))
 
 -- a gear that fits turns the engine no faster than nmax
-pub turning_of : {car : Vehicle} {k : Numbers} {ratio : List ℕ} → Has car k ratio → (here : Role) (v g : ℕ) → InGear k g → fits car here v g ≡ true
-    → Turning k ratio v g
+pub turning_of : (car : Vehicle) (here : Role) (v g : ℕ) → InGear car g → fits car here v g ≡ true → Turning car v g
 unfolding fits is_under_nmax
-turning_of {car} H here v g b t = record {
+turning_of car here v g b t = record {
   from = b.from;
   to = b.to;
-  under = rw (engine_of H g v, nmax_of H.counts) at (leb-true (engine car g v) (1000 * car.nmax) (and_right _ _ (and_right _ _ t)));
+  under = leb-true (engine car g v) (1000 * car.nmax) (and_right _ _ (and_right _ _ t));
 }

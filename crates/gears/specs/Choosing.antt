@@ -1,43 +1,28 @@
--- The rules of a choice over the parts that the functions are lent, and what those functions ask of them.
-use Rattle.std.specs.Prelude.{ℕ, suc, ◌+◌, ◌-◌, ◌*◌, ◌≤◌, ◌<◌, max, ◌≡◌, refl, Bool, List, leb, ltb, eqb, ℤ, pos, nat_abs, ◌*ℤ◌, if◌then◌else◌}
-use Rattle.rules.specs.Words.{option_get_or, le_z}
-use Rattle.rules.specs.Words.{◌and◌, at, first, pass}
+-- The rules of a choice as the functions take them, and what those functions ask.
+use Rattle.std.specs.Prelude.{ℕ, suc, ◌+◌, ◌-◌, ◌*◌, ◌≤◌, ◌<◌, ◌≡◌, refl, Bool, List, ltb, eqb, ℤ, pos, nat_abs, ◌*ℤ◌, if◌then◌else◌}
+use Rattle.rules.specs.Words.{le_z}
+use Rattle.rules.specs.Words.{◌and◌, at, pass}
 use Rattle.rules.specs.declared.Vehicle.{Vehicle}
 use Rattle.rules.specs.declared.Role.{Role}
 use Rattle.rules.specs.declared.Role.TheVariants.{Inner}
-use Rattle.rules.specs.Gears.{Power, minimum, engine, fits, more, choose, reaches, segment}
+use Rattle.rules.specs.Gears.{Power, minimum, engine, fits, more, choose}
 use Rattle.rules.specs.Units.{low, fastest, steepest, rise}
 use Rattle.rules.specs.Corrections.{here, first_choice}
-use Rattle.gears.specs.declared.Numbers.{Numbers}
 use Rattle.gears.specs.declared.Power as code
 use Rattle.gears.specs.declared.Best.{Best}
 
 -- ---- the curve
 
--- the available power of each point, p x (100 - M - m), of points so many, and past them what the room held before
-unfoldable pub available : ℕ → List ℕ → List ℕ → ℕ → List ℕ → List ℕ
-available margin p m points room = pass (λ i done. at p i * (100 - margin - at m i)) points room
-
--- r is the whole number x, at most so large, with a sign
-pub record Signed (bound x : ℕ) (r : ℤ) : Type 0 where
-  pub same : r ≡ pos x
-  pub most : x ≤ bound
-
--- the segment of x, from the curve's engine speeds and the number of its points
-unfoldable pub segment_in : List ℕ → ℕ → ℕ → ℕ
-segment_in n points x = option_get_or (first (λ k. leb x (1000 * at n (suc k))) 0 (points - 1)) 0
-
--- it is the rules' segment
-pub segment_parts : (car : Vehicle) (x : ℕ) → segment car x ≡ segment_in car.n car.points x
-unfolding segment reaches segment_in
-segment_parts car x = refl
+-- the available power of each point of a vehicle, p x (100 - M - m), and past them what the room held before
+unfoldable pub available : Vehicle → List ℕ → List ℕ
+available car room = pass (λ i done. at car.p i * (100 - car.margin - at car.m i)) car.points room
 
 -- a curve that rises from point to point, and an engine speed no higher than its last
-pub record Curve (n : List ℕ) (points x : ℕ) : Type 0 where
-  pub from : 2 ≤ points
-  pub to : points ≤ 64
-  pub rises : (k : ℕ) → suc k < points → at n k < at n (suc k)
-  pub reaches_to : x ≤ 1000 * at n (points - 1)
+pub record Curve (car : Vehicle) (x : ℕ) : Type 0 where
+  pub from : 2 ≤ car.points
+  pub to : car.points ≤ 64
+  pub rises : (k : ℕ) → suc k < car.points → at car.n k < at car.n (suc k)
+  pub reaches_to : x ≤ 1000 * at car.n (car.points - 1)
 
 -- a segment and an engine speed that the arrays and the products have room for
 pub record Segment (x s : ℕ) : Type 0 where
@@ -48,15 +33,11 @@ pub record Segment (x s : ℕ) : Type 0 where
 abbrev pub power_of : code.Power → Power
 power_of r = record { Q = r.q; w = r.w }
 
--- the engine speed at which power is read at a gear
-unfoldable pub turned : Numbers → List ℕ → ℕ → ℕ → ℕ
-turned k ratio v g = max (at ratio (g - 1) * v) (1000 * k.idle)
-
 -- a gear that turns the engine no faster than nmax
-pub record Turning (k : Numbers) (ratio : List ℕ) (v g : ℕ) : Type 0 where
+pub record Turning (car : Vehicle) (v g : ℕ) : Type 0 where
   pub from : 1 ≤ g
-  pub to : g ≤ k.ng
-  pub under : at ratio (g - 1) * v ≤ 1000 * k.nmax
+  pub to : g ≤ car.ng
+  pub under : engine car g v ≤ 1000 * car.nmax
 
 -- ---- the choice
 
@@ -79,9 +60,9 @@ unfoldable pub enough_for : Power → ℤ → Bool
 enough_for a e = le_z (e *ℤ a.w) (a.Q *ℤ pos 3240000)
 
 -- one of the gears
-pub record InGear (k : Numbers) (g : ℕ) : Type 0 where
+pub record InGear (car : Vehicle) (g : ℕ) : Type 0 where
   pub from : 1 ≤ g
-  pub to : g ≤ k.ng
+  pub to : g ≤ car.ng
 
 -- a speed and a step in bounds
 pub record Pace (v : ℕ) (d : ℤ) : Type 0 where

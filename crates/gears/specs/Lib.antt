@@ -1,3 +1,3 @@
-pub mod Parts
+pub mod Powers
 pub mod Second
 pub mod Choosing

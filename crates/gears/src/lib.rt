@@ -1,9 +1,8 @@
-// One second of document 01's rules, as code. The vehicle's arrays are lent and its numbers passed in a small struct, so that nothing
-// hot copies the record.
+// One second of document 01's rules, as code. The vehicle is lent from here on: the entry points take it by value, as C passes it, and nothing else copies it.
 #![tactic(auto)]
 
-ghost use Rattle.std.specs.Prelude.{◌≡◌};
-ghost use Rattle.gears.specs.Parts.{numbers_of};
+ghost use Rattle.rules.specs.Inside.{InBounds};
+ghost use Rattle.gears.specs.Powers.{Powers};
 
 mod bounds;
 mod choice;
@@ -19,21 +18,6 @@ pub use second::{engine, floor, lowest, minimum, not_driven, required, step_of, 
 // The newest version of a job, which has a place for every field of a vehicle.
 pub const NEWEST: u16 = 3;
 
-// The vehicle's numbers, without its arrays.
-#[derive(Clone, Copy)]
-pub struct Numbers {
-    pub ng: u16,
-    pub idle: u16,
-    pub rated: u16,
-    pub nmax: u16,
-    pub f0: u16,
-    pub f1: i32,
-    pub f2: u16,
-    pub tm: u16,
-    pub points: u16,
-    pub profile: u16,
-}
-
 // The available power at a gear: Q/(100,000 w) tenths of kW.
 #[derive(Clone, Copy)]
 pub struct Power {
@@ -41,7 +25,7 @@ pub struct Power {
     pub w: i64,
 }
 
-// A gear and its power; gear 0 where none has been met.
+// A gear and its power; gear 0 where none has been met, as `choose` answers none by 0. An Option would be taken apart for each gear.
 #[derive(Clone, Copy)]
 pub struct Best {
     pub gear: usize,
@@ -55,20 +39,11 @@ pub struct Chosen {
     pub segment: usize,
 }
 
-// The numbers of a vehicle.
-pub fn numbers_of(car: Vehicle) -> Numbers
-    ensures { result ≡ numbers_of car }
-{
-    Numbers {
-        ng: car.ng,
-        idle: car.idle,
-        rated: car.rated,
-        nmax: car.nmax,
-        f0: car.f0,
-        f1: car.f1,
-        f2: car.f2,
-        tm: car.tm,
-        points: car.points,
-        profile: car.profile,
-    }
+// A vehicle in bounds, and the available power of each of its points.
+#[derive(Clone, Copy)]
+pub struct Powered<'a> {
+    pub car: &'a Vehicle,
+    pub powers: &'a [u32; 64],
+    pub ghost in_bounds: { InBounds car.now },
+    pub ghost derated: { Powers car.now powers.now },
 }

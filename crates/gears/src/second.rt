@@ -1,135 +1,128 @@
 // One second of a trip: engine speed, minimum speed, the floor, the step D and the required power E.
-ghost use Rattle.std.specs.Prelude.{◌≡◌, false, ◌+◌, ◌-◌, ◌*◌, ◌≤◌, pos, ◌-ℤ◌};
-ghost use Rattle.rules.specs.Words.{at};
-ghost use Rattle.rules.specs.Gears.{next_minimum, minimum, required};
+ghost use Rattle.std.specs.Prelude.{◌≡◌, false, ◌+◌, ◌*◌, ◌≤◌, pos, ◌-ℤ◌};
+ghost use Rattle.rules.specs.Units.{low};
+ghost use Rattle.rules.specs.Gears.{engine, next_minimum, minimum, required};
 ghost use Rattle.rules.specs.Corrections.{floor};
 ghost use Rattle.rules.specs.Refusals.{not_driven};
-ghost use Rattle.rules.specs.declared.Vehicle.{Vehicle};
 ghost use Rattle.rules.specs.declared.Role.TheVariants.{Inner};
-ghost use Rattle.gears.specs.Parts.{low_in, Counts, Has};
 ghost use Rattle.gears.specs.Second.{Gear, Lowest, Driven, Load};
 
-use crate::Numbers;
-use rules::Role;
-
-// A number of the record, wide enough for a product with another.
-fn wide(x: u16) -> u64
-    ensures { (result ≡ x) × (result ≤ 65535) }
-{
-    x as u64
-}
+use rules::{Role, Vehicle};
 
 // The lowest gear that is driven.
-pub fn lowest(k: Numbers) -> usize
-    ensures { result ≡ low_in k }
+#[tactic(auto, unfolding(rules::specs::Units::low))]
+pub fn lowest(car: &Vehicle) -> usize
+    ensures { result ≡ low car.now }
 {
-    1 + k.profile as usize
+    1 + usize::from(car.profile)
 }
 
 // Whether a gear that may be held is not driven: above ng, or under the lowest. 0 is no gear.
-pub fn not_driven(k: Numbers, gear: u8) -> bool
-    ensures driven { result ≡ false → gear ≤ k.ng }
-    ensures rule { (car : Vehicle) → Counts car k → result ≡ not_driven car gear }
+#[tactic(auto, using(crate::proofs::Tests::ladders), unfolding(rules::specs::Refusals::not_driven))]
+pub fn not_driven(car: &Vehicle, gear: u8) -> bool
+    ensures driven { result ≡ false → gear ≤ car.now.ng }
+    ensures rule { result ≡ not_driven car.now gear }
 {
-    if k.ng < gear as u16 {
-        return true;
-    }
-    if gear == 0 {
-        return false;
-    }
-    (gear as usize) < lowest(k)
+    car.ng < u16::from(gear) || (gear != 0 && usize::from(gear) < lowest(car))
 }
 
 // Engine speed X = G x V.
-pub fn engine(ratio: &[u16; 10], g: usize, v: u16) -> u64
+#[tactic(auto, unfolding(rules::specs::Gears::engine, rules::specs::Units::ratio_of))]
+pub fn engine(car: &Vehicle, g: usize, v: u16) -> u64
     requires { Gear g }
-    ensures { result ≡ at ratio.now (g - 1) * v }
+    ensures { result ≡ engine car.now g v }
 {
-    wide(ratio[g - 1]) * wide(v)
+    u64::from(car.ratio[g - 1]) * u64::from(v)
 }
 
 // The minimum speed of the gear above the lowest, by what the second is in its trip, rounded to the nearest whole, halves up.
-fn next_minimum(k: Numbers, here: Role) -> u64
-    ensures speed { (car : Vehicle) → Counts car k → result ≡ next_minimum car here }
+#[tactic(auto, unfolding(rules::specs::Gears::next_minimum))]
+fn next_minimum(car: &Vehicle, here: Role) -> u64
+    ensures speed { result ≡ next_minimum car.now here }
     ensures small { result ≤ 131070 }
 {
-    let idle = wide(k.idle);
+    let idle = u64::from(car.idle);
     match here {
-        Role::First => (9 * idle + 5) / 10,
         Role::Closing => idle,
         Role::AfterLow => (115 * idle + 50) / 100,
-        Role::Inner => (9 * idle + 5) / 10,
+        Role::First | Role::Inner => (9 * idle + 5) / 10,
     }
 }
 
-// The minimum speed of a gear.
-pub fn minimum(k: Numbers, here: Role, g: usize) -> u64
-    requires { Lowest k g }
-    ensures speed { (car : Vehicle) → Counts car k → result ≡ minimum car here g }
+// The minimum speed that the gears from two above the lowest on share.
+#[tactic(auto, using(crate::proofs::Speeds::minima))]
+fn shared_minimum(car: &Vehicle) -> u64
+    requires { car.now.idle ≤ car.now.rated }
+    ensures speed { result ≡ minimum car.now Inner (low car.now + 2) }
     ensures small { result ≤ 131070 }
 {
-    let idle = wide(k.idle);
-    let rated = wide(k.rated);
-    match g - lowest(k) {
-        0 => idle,
-        1 => next_minimum(k, here),
-        _ => idle + (rated - idle + 4) / 8,
+    let idle = u64::from(car.idle);
+    let rated = u64::from(car.rated);
+    idle + (rated - idle + 4) / 8
+}
+
+// The minimum speed of a gear.
+#[tactic(auto, using(crate::proofs::Speeds::minima))]
+pub fn minimum(car: &Vehicle, here: Role, g: usize) -> u64
+    requires { Lowest car.now g }
+    ensures speed { result ≡ minimum car.now here g }
+    ensures small { result ≤ 131070 }
+{
+    match g - lowest(car) {
+        0 => u64::from(car.idle),
+        1 => next_minimum(car, here),
+        _ => shared_minimum(car),
     }
 }
 
 // The least engine speed X of the gear above the lowest.
-pub fn next_least(k: Numbers, here: Role) -> u64
-    ensures { (car : Vehicle) → Counts car k → result ≡ 1000 * minimum car here (low_in k + 1) }
+#[tactic(auto, using(crate::proofs::Speeds::minimum_two))]
+pub fn next_least(car: &Vehicle, here: Role) -> u64
+    ensures { result ≡ 1000 * minimum car.now here (low car.now + 1) }
 {
-    1000 * next_minimum(k, here)
+    1000 * next_minimum(car, here)
 }
 
 // The least engine speed X that the gears from two above the lowest on share.
-pub fn shared_least(k: Numbers) -> u64
-    requires { k.idle ≤ k.rated }
-    ensures { (car : Vehicle) → Counts car k → result ≡ 1000 * minimum car Inner (low_in k + 2) }
+pub fn shared_least(car: &Vehicle) -> u64
+    requires { car.now.idle ≤ car.now.rated }
+    ensures { result ≡ 1000 * minimum car.now Inner (low car.now + 2) }
 {
-    1000 * minimum(k, Role::Inner, lowest(k) + 2)
+    1000 * shared_minimum(car)
 }
 
 // The engine speed X of nmax, which no gear may pass.
-pub fn top(k: Numbers) -> u64
-    ensures { result ≡ 1000 * k.nmax }
+pub fn top(car: &Vehicle) -> u64
+    ensures { result ≡ 1000 * car.now.nmax }
 {
-    1000 * wide(k.nmax)
+    1000 * u64::from(car.nmax)
 }
 
 // The floor: the lowest gear whose X is at most 1000 x nmax; ng + 1 where there is none.
-pub fn floor(k: Numbers, ratio: &[u16; 10], v: u16) -> usize
-    requires { Driven k }
-    ensures { (car : Vehicle) → Has car k ratio.now → result ≡ floor car v }
+pub fn floor(car: &Vehicle, v: u16) -> usize
+    requires { Driven car.now }
+    ensures { result ≡ floor car.now v }
 {
-    let ng = k.ng as usize;
-    let most = top(k);
-    let mut g = lowest(k);
-    while most < engine(ratio, g, v) {
-        g += 1;
-        if ng < g {
-            return g;
-        }
-    }
-    g
+    let end = usize::from(car.ng) + 1;
+    (lowest(car)..end)
+        .find(|&g| engine(car, g, v) <= top(car))
+        .unwrap_or(end)
 }
 
 // D: the next V less this V.
 pub fn step_of(this: u16, next: u16) -> i64
     ensures { result ≡ pos next -ℤ pos this }
 {
-    next as i64 - this as i64
+    i64::from(next) - i64::from(this)
 }
 
 // Required power E, negative while braking, as the bench writes it: speed is taken out as a factor as often as it goes.
-pub fn required(k: Numbers, v: u16, d: i64) -> i64
-    requires { Load k v d }
-    ensures { (car : Vehicle) → Counts car k → result ≡ required car v d }
+pub fn required(car: &Vehicle, v: u16, d: i64) -> i64
+    requires { Load car.now v d }
+    ensures { result ≡ required car.now v d }
 {
-    let v = v as i64;
-    v * (9_000_000 * (k.f0 as i64)
-        + 2_575_000 * d * (k.tm as i64)
-        + v * (9_000 * (k.f1 as i64) + v * (9 * (k.f2 as i64))))
+    let v = i64::from(v);
+    v * (9_000_000 * i64::from(car.f0)
+        + 2_575_000 * d * i64::from(car.tm)
+        + v * (9_000 * i64::from(car.f1) + v * (9 * i64::from(car.f2))))
 }

@@ -1,7 +1,9 @@
 -- The demands on the reader alone; demand 2, which speaks of both directions, stands
 -- in `writing`. A reader of document 01 reads `ReadAs`, which is the contract
 -- of `read`, and then these.
+use Rattle.std.specs.Prelude.{Result}
 use Rattle.rules.proofs.Offered.{ℕ, ◌≡◌, refl, sym, ◌∙◌, some, List, [], arith, Fault, said, Read, got, refused, Job, read_fault, job_of, filled}
+use Rattle.rules.specs.declared.Refusal.{Refusal}
 use Rattle.reading.specs.declared.Reading.{Reading}
 use Rattle.reading.specs.Reader.{reading, ReadAs}
 
@@ -15,13 +17,13 @@ fills_none : (room : List ℕ) {values : List ℕ} → values ≡ [] → filled 
 unfolding filled
 fills_none room e = rw e
 
-module _ {job speeds holds : List ℕ} {r : Reading} {speeds' holds' : List ℕ} (R : ReadAs job speeds holds r speeds' holds') where
+module _ {job speeds holds : List ℕ} {r : Result Reading Refusal} {speeds' holds' : List ℕ} (R : ReadAs job speeds holds r speeds' holds') where
   -- ---- Demand 1. Every list of bytes gets an answer, refused by number and place exactly where the table says, and a refusal changes no byte
 
-  pub demand_1_table-read : said r.answer ≡ read_fault (reading job speeds holds)
+  pub demand_1_table-read : said r ≡ read_fault (reading job speeds holds)
   demand_1_table-read = R.answered
 
-  pub demand_1_untouched_read : (q : Fault) → said r.answer ≡ some q → (speeds' ≡ speeds) × (holds' ≡ holds)
+  pub demand_1_untouched_read : (q : Fault) → said r ≡ some q → (speeds' ≡ speeds) × (holds' ≡ holds)
   demand_1_untouched_read q e =
       let n = nothing_read (reading job speeds holds) q (sym R.answered ∙ e) in
       (R.speeds_left ∙ fills_none speeds n.0, R.holds_left ∙ fills_none holds n.1)

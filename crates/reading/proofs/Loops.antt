@@ -76,10 +76,16 @@ module _ {B : Type 0} {job : List ℕ} {k i next : ℕ} {keep : List ℕ → B} 
   unfolding value
   value_comes r = comes_here p h r
 
--- values that fill a room are all that is left in it
-pub filled_all : (job room : List ℕ) (i : ℕ) {room' : List ℕ} {j : ℕ} → got room' j ≡ used (sets room 0) (many value (length room)) job i
-    → got room' j ≡ (many value (length room)).read job i
-filled_all job room i e = e ∙ use_as_is (many value (length room)) job i (λ l k come. all_filled room l (many-length value_sound job (length room) i come))
+-- a room is filled with values: those that are left go from place i on
+pub fill_begins : (job room : List ℕ) (at : ℕ) → Many value job (length room) 0 at (sets room 0) ((many value (length room)).read job at)
+fill_begins job room at = record {
+  left = (many_begins value job (length room) at (sets room 0)).left
+      ∙ use_as_is (many value (length room)) job at (λ l k come. all_filled room l (many-length value_sound job (length room) at come));
+}
+
+pub fill_again : {job : List ℕ} {k i next : ℕ} {room : List ℕ} {R : Read (List ℕ)} → Many value job k i next (sets room i) R → i < k → {v after : ℕ}
+    → got v after ≡ group job next → Many value job k (i + 1) after (sets (set room i v) (i + 1)) R
+fill_again {i = i} p h e = rw (add-one i) (rw (add-one i) at (value_again p h e))
 
 -- ---- holds
 

@@ -1,13 +1,15 @@
 -- What stands in the rooms at the end is what was read; a refusal leaves them as they were.
+use Rattle.std.specs.Prelude.{Result, Ok, Err}
+use Rattle.std.specs.Result.{result_map_both, result_unwrap_or}
 use Rattle.rules.proofs.Offered.{ℕ, ◌≤◌, arith, ◌≡◌, sym, ◌∙◌, List, ◌++◌, length, take, drop, replicate, length-append, length-replicate, length-take-le}
-use Rattle.rules.proofs.Offered.{take-append_seam, true, fault, said, got, refused, hand_on, value, many, put, Job, job_read, read_fault, job_of, filled}
-use Rattle.rules.proofs.Offered.{value_sound, length-put, Even, job_even, job_room}
+use Rattle.rules.specs.Refusals.{Answer}
+use Rattle.rules.proofs.Offered.{take-append_seam, true, some, Fault, fault, said, Read, got, refused, hand_on, value, many, put, Job, job_read, read_fault}
+use Rattle.rules.proofs.Offered.{job_of, filled, value_sound, length-put, Even, job_even, job_room}
 use Rattle.rules.specs.declared.Vehicle.{Vehicle}
 use Rattle.rules.specs.declared.Refusal.{Refusal}
-use Rattle.rules.specs.declared.Answer.TheVariants.{Done, Refused}
 use Rattle.reading.specs.declared.Reading.{Reading}
-use Rattle.reading.specs.Reader.{reading, ReadAs}
-use Rattle.reading.specs.Progress.{hold_row, no_reading, used}
+use Rattle.reading.specs.Reader.{no_reading, reading, ReadAs}
+use Rattle.reading.specs.Progress.{hold_row, used}
 use Rattle.reading.proofs.Steps.{same_value, many-length, values, judged_comes}
 
 -- ---- what fills the start of a room is what was judged
@@ -36,7 +38,7 @@ module _ (job room : List ℕ) (count : ℕ) (fits : count ≤ length room) {z :
 -- ---- the reader's two ends
 
 pub refused_as : (job speeds holds : List ℕ) {f : Refusal} → refused (fault f) ≡ job_read job (length speeds) (length holds)
-    → ReadAs job speeds holds (no_reading (Refused f)) speeds holds
+    → ReadAs job speeds holds (Err f) speeds holds
 unfolding reading said read_fault job_of filled
 refused_as job speeds holds e =
     let r = sym e in
@@ -45,11 +47,28 @@ refused_as job speeds holds e =
 pub filled_as : (job speeds holds : List ℕ) {v : ℕ} {car : Vehicle} {vs hs : List ℕ} {end : ℕ}
     → got (record { version = v; vehicle = car; speeds = vs; holds = hs }) end ≡ job_read job (length speeds) (length holds)
     → {count : ℕ} → length vs ≡ count → {speeds' holds' : List ℕ} → speeds' ≡ filled speeds vs → holds' ≡ filled holds hs
-    → ReadAs job speeds holds (record { answer = Done; version = v; vehicle = car; count = count }) speeds' holds'
+    → ReadAs job speeds holds (Ok (record { version = v; vehicle = car; count = count })) speeds' holds'
 unfolding reading said read_fault job_of
 filled_as job speeds holds e n s h =
     let r = sym e in
     record { answered = rw r; the_version = rw r; the_vehicle = rw r; the_count = rw r (sym n); speeds_left = rw r s; holds_left = rw r h }
+
+refused_is : (m : Read Job) {q : Fault} → some q ≡ read_fault m → m ≡ refused q
+unfolding read_fault
+refused_is (got j end) e = let z : ◌≡◌ {A = ℕ} 0 1 = cc in absurd (omega arith)
+refused_is (refused f) e = cc
+
+-- an answer that brings nothing, and a reading beside it, that say what is read
+pub beside_as : (job speeds holds : List ℕ) (a : Answer) (r : Reading) {speeds' holds' : List ℕ} → said a ≡ read_fault (reading job speeds holds)
+    → r.version ≡ (job_of (reading job speeds holds)).version → r.vehicle ≡ (job_of (reading job speeds holds)).vehicle
+    → r.count ≡ length (job_of (reading job speeds holds)).speeds → speeds' ≡ filled speeds (job_of (reading job speeds holds)).speeds
+    → holds' ≡ filled holds (job_of (reading job speeds holds)).holds → ReadAs job speeds holds (result_map_both (λ x. r) (λ f. f) a) speeds' holds'
+unfolding said job_of
+beside_as job speeds holds (Ok x) r e v c n s h =
+    record { answered = e; the_version = v; the_vehicle = c; the_count = n; speeds_left = s; holds_left = h }
+beside_as job speeds holds (Err f) r e v c n s h =
+    let m = refused_is (reading job speeds holds) e in
+    record { answered = e; the_version = rw m; the_vehicle = rw m; the_count = rw m; speeds_left = s; holds_left = h }
 
 -- ---- the rooms as the reader leaves them: their start is what was read
 
@@ -65,12 +84,14 @@ pub filled-start : (room values : List ℕ) (n : ℕ) → n ≡ length values �
 unfolding filled
 filled-start room values n e = (rw length-append (omega arith), rw e (take-append_seam values _))
 
-pub rooms : {job s₀ h₀ s h : List ℕ} {r : Reading} → ReadAs job s₀ h₀ r s h → Rooms (job_of (reading job s₀ h₀)) r.count (length s₀) s h
+pub rooms : {job s₀ h₀ s h : List ℕ} {r : Result Reading Refusal} → ReadAs job s₀ h₀ r s h
+    → Rooms (job_of (reading job s₀ h₀)) (result_unwrap_or r no_reading).count (length s₀) s h
 unfolding reading
 rooms {job} {s₀} {h₀} {s} {h} {r} a =
+    let count = (result_unwrap_or r no_reading).count in
     let z : Even (job_of (reading job s₀ h₀)) = job_even job (length s₀) (length h₀) in
-    let v = filled-start s₀ (job_of (reading job s₀ h₀)).speeds r.count a.the_count in
-    let w = filled-start h₀ (job_of (reading job s₀ h₀)).holds r.count (a.the_count ∙ sym z.even) in
+    let v = filled-start s₀ (job_of (reading job s₀ h₀)).speeds count a.the_count in
+    let w = filled-start h₀ (job_of (reading job s₀ h₀)).holds count (a.the_count ∙ sym z.even) in
     record {
       few = rw a.the_count (job_room job (length s₀) (length h₀));
       speeds_fit = rw a.speeds_left v.0;

@@ -1,14 +1,14 @@
 -- What the stages of the vehicle answer, one law for each way through them.
-use Rattle.rules.proofs.Offered.{ℕ, zero, suc, ◌+◌, ◌-◌, ◌≤◌, zero-add, arith, ◌≡◌, ◌∙◌, List, map, append-nil, length, drop, replicate, length-map}
-use Rattle.rules.proofs.Offered.{length-replicate, sets, sets-eq, drop-length, leb, Fault, Read, got, refused, hand_on, give, Form, value, known, only_if}
-use Rattle.rules.proofs.Offered.{bounded, ◌then◌, seen, many, counted, version, profile, gearbox, numbers, point, curve, padded, vehicle_of, vehicle, by_test}
-use Rattle.rules.proofs.Offered.{Sound, value_sound, point_sound}
+use Rattle.rules.proofs.Offered.{ℕ, zero, suc, ◌+◌, ◌-◌, ◌≤◌, zero-add, arith, ◌≡◌, ◌∙◌, List, ◌++◌, map, append-nil, length, take, drop, replicate, length-map}
+use Rattle.rules.proofs.Offered.{length-replicate, length-take-le, sets, sets-eq, drop-length, leb, Fault, got, refused, hand_on, give, Form, value, known}
+use Rattle.rules.proofs.Offered.{only_if, bounded, ◌then◌, seen, many, counted, version, profile, gearbox, numbers, point, curve, padded, vehicle_of, vehicle}
+use Rattle.rules.proofs.Offered.{by_test, Sound, value_sound, point_sound}
 use Rattle.rules.specs.declared.Vehicle.{Vehicle}
-use Rattle.reading.specs.Progress.{reached, used, into, gears, columns, car_of}
-use Rattle.reading.specs.declared.Came.{Came}
-use Rattle.reading.specs.declared.Came.TheVariants as came-is
+use Rattle.reading.specs.declared.Gearbox.{Gearbox}
+use Rattle.reading.specs.declared.Curve.{Curve}
+use Rattle.reading.specs.Progress.{used, into, gears, columns, car, car_of}
 use Rattle.reading.proofs.GroupAnswers.{bounded_in}
-use Rattle.reading.proofs.Steps.{joined, ext, same_value, use_as_is, many-length}
+use Rattle.reading.proofs.Steps.{joined, ext, same_value, used_gives, used_stops, many-length}
 
 -- ---- what is read into zeros
 
@@ -26,12 +26,6 @@ all_filled room vs n = (rw (zero-add, n, drop-length) at (sets-eq vs room 0 (ome
 
 -- ---- the vehicle's parts
 
--- what was read, put to use, and how far reading came
-pub reached_on : {A B : Type 0} (p : Came) (a : A) (f : A → B) {m : Read A} → reached p a ≡ m → reached p (f a) ≡ hand_on m (λ x. give (f x))
-unfolding hand_on
-reached_on (came-is.To j) a f e = rw (← e)
-reached_on (came-is.Fault x) a f e = rw (← e)
-
 -- a count, and so many parts, put to use
 module _ {A B : Type 0} (count : Form ℕ) (part : Form A) (job : List ℕ) (i : ℕ) (f : List A → B) where
   pub counted_stops : {x : Fault} → refused x ≡ count.read job i → refused x ≡ used f (counted count (many part)) job i
@@ -43,12 +37,16 @@ module _ {A B : Type 0} (count : Form ℕ) (part : Form A) (job : List ℕ) (i :
     unfolding used counted seen ◌then◌ hand_on
     counted_on = rw (← e) (simp joined)
 
-    -- the parts were put into rooms, of which the use is made
-    pub counted-reached : Sound part → {C : Type 0} (g : List A → C) (h : C → B) → ((l : List A) → length l ≡ v → h (g l) ≡ f l)
-        → (p : Came) (x : C) → reached p x ≡ used g (many part v) job j → reached p (h x) ≡ used f (counted count (many part)) job i
+    pub part_stops : {x : Fault} → refused x ≡ (many part v).read job j → refused x ≡ used f (counted count (many part)) job i
     unfolding used hand_on
-    counted-reached s g h same p x r =
-        reached_on p x h r
+    part_stops d = (rw (← d)) ∙ counted_on
+
+    -- the parts were put into rooms, of which the use is made
+    pub counted-gives : Sound part → {C : Type 0} (g : List A → C) (h : C → B) → ((l : List A) → length l ≡ v → h (g l) ≡ f l)
+        → {x : C} {k : ℕ} → got x k ≡ used g (many part v) job j → got (h x) k ≡ used f (counted count (many part)) job i
+    unfolding used hand_on
+    counted-gives s g h same {x} {k} r =
+        (rw (← r))
         ∙ (joined ((many part v).read job j) (λ l. give (g l)) (λ x. give (h x))
         ∙ (ext ((many part v).read job j) (λ l k come. rw (same l (many-length s job v j come))) ∙ counted_on))
 
@@ -65,70 +63,89 @@ module _ (job : List ℕ) (i : ℕ) where
   unfolding gearbox
   gearbox_stops w e = counted_stops _ value job i gears e
 
-  pub gearbox_on : (w : ℕ) {v j : ℕ} → got v j ≡ (bounded (2 + w) 10 3 1).read job i → (p : Came) (room : List ℕ)
-      → reached p room ≡ used (sets (replicate 10 0) 0) (many value v) job j → reached p (v, room) ≡ used gears (gearbox w) job i
-  unfolding gearbox
-  gearbox_on w {v} e p room h =
-      let few = (bounded_in job (2 + w) 10 3 1 i e).1 in
-      counted-reached _ value job i gears e value_sound (sets (replicate 10 0) 0) (λ x. (v, x))
-      (λ l n. rw (into_zeros 10 l (omega arith), n)) p room h
+  -- n is the gear count, as the index has it
+  module _ (w : ℕ) {v j : ℕ} (e : got v j ≡ (bounded (2 + w) 10 3 1).read job i) {n : ℕ} (same : n ≡ v) where
+    pub gears_fit : n ≤ 10
+    gears_fit = let few = (bounded_in job (2 + w) 10 3 1 i e).1 in omega arith
+
+    pub so_many_gears : length (take {A = ℕ} n (replicate 10 0)) ≡ n
+    so_many_gears = length-take-le n (replicate 10 0) (gears_fit)
+
+    pub ratio_stops : {f : Fault} → refused f ≡ (many value (length (take {A = ℕ} n (replicate 10 0)))).read job j → refused f ≡ used gears (gearbox w) job i
+    unfolding gearbox
+    ratio_stops d = part_stops _ value job i gears e (rw (so_many_gears, same) at d)
+
+    pub gearbox_gives : {vs : List ℕ} {k : ℕ} → got vs k ≡ (many value (length (take {A = ℕ} n (replicate 10 0)))).read job j
+        → got (record { ng = v; ratio = vs ++ drop n (replicate 10 0) }) k ≡ used gears (gearbox w) job i
+    unfolding gearbox padded
+    gearbox_gives d =
+        counted-gives _ value job i gears e value_sound (λ l. l ++ drop n (replicate 10 0)) (λ l. record { ng = v; ratio = l })
+        (λ l k. rw (k, same, zeros_left v 10)) (used_gives _ (many value v) job j (rw (so_many_gears, same) at d))
 
   pub curve_stops : (w : ℕ) {f : Fault} → refused f ≡ (bounded 2 64 3 11).read job i → refused f ≡ used columns (curve w) job i
   unfolding curve
   curve_stops w e = counted_stops _ (point w) job i columns e
 
-  pub curve_on : (w : ℕ) {v j : ℕ} → got v j ≡ (bounded 2 64 3 11).read job i → (p : Came) (rooms : List ℕ × (List ℕ × List ℕ))
-      → reached p rooms ≡ used (into (replicate 64 0) (replicate 64 0) (replicate 64 0) 0) (many (point w) v) job j
-      → reached p (v, rooms) ≡ used columns (curve w) job i
-  unfolding curve
-  curve_on w {v} e p rooms h =
-      let few = (bounded_in job 2 64 3 11 i e).1 in
-      counted-reached _ (point w) job i columns e (point_sound w) (into (replicate 64 0) (replicate 64 0) (replicate 64 0) 0) (λ x. (v, x))
-      (λ l n. rw (
-        into_zeros 64 (map (λ x. x.0) l) (rw length-map (omega arith)),
-        into_zeros 64 (map (λ x. x.1.0) l) (rw length-map (omega arith)),
-        into_zeros 64 (map (λ x. x.1.1) l) (rw length-map (omega arith)),
-        n,
-      )) p rooms h
+  module _ (w : ℕ) {v j : ℕ} (e : got v j ≡ (bounded 2 64 3 11).read job i) where
+    abbrev read_into : List (ℕ × (ℕ × ℕ)) → List ℕ × (List ℕ × List ℕ)
+    read_into = into (replicate 64 0) (replicate 64 0) (replicate 64 0) 0
+
+    pub points_stop : {f : Fault} → refused f ≡ used read_into (many (point w) v) job j → refused f ≡ used columns (curve w) job i
+    unfolding curve
+    points_stop d = part_stops _ (point w) job i columns e (used_stops read_into (many (point w) v) job j d)
+
+    pub curve_gives : {ns ps ms : List ℕ} {k : ℕ} → got (ns, (ps, ms)) k ≡ used read_into (many (point w) v) job j
+        → got (record { points = v; n = ns; p = ps; m = ms }) k ≡ used columns (curve w) job i
+    unfolding curve
+    curve_gives d =
+        let few = (bounded_in job 2 64 3 11 i e).1 in
+        counted-gives _ (point w) job i columns e (point_sound w) read_into (λ x. record { points = v; n = x.0; p = x.1.0; m = x.1.1 })
+        (λ l n. rw (
+          into_zeros 64 (map (λ x. x.0) l) (rw length-map (omega arith)),
+          into_zeros 64 (map (λ x. x.1.0) l) (rw length-map (omega arith)),
+          into_zeros 64 (map (λ x. x.1.1) l) (rw length-map (omega arith)),
+          n,
+        )) d
 
 -- ---- the version and the vehicle
 
 abbrev pub head : Form (ℕ × Vehicle)
 head = version then λ v. vehicle v
 
-eight_filled : (job : List ℕ) (i : ℕ) → used (sets (replicate 8 0) 0) (many value 8) job i ≡ numbers.read job i
-unfolding numbers
-eight_filled job i = use_as_is (many value 8) job i (λ l k come. all_filled (replicate 8 0) l (many-length value_sound job 8 i come))
-
--- the vehicle as its parts are read
-vehicle_is : (w : ℕ) (job : List ℕ) (i : ℕ) → (vehicle w).read job i
-    ≡ hand_on ((profile w).read job i)
+-- as its parts are read
+head_is : (job : List ℕ) (i : ℕ) → used car head job i
+    ≡ hand_on ((bounded 1 3 14 0).read job i)
+    (λ v j. hand_on ((profile v).read job j)
     (λ x h. hand_on (used gears (gearbox x) job h)
-    (λ b j. hand_on (numbers.read job j) (λ ns k. hand_on (used columns (curve w) job k) (λ c. give (car_of x b ns c)))))
-unfolding vehicle vehicle_of seen ◌then◌ used hand_on
-vehicle_is w job i = simp joined
+    (λ b k. hand_on ((many value 8).read job k) (λ ns l. hand_on (used columns (curve v) job l) (λ c. give (car (v, car_of x b ns c)))))))
+unfolding version vehicle vehicle_of numbers seen ◌then◌ used hand_on
+head_is job i = simp joined
 
 module _ (job : List ℕ) (i : ℕ) where
-  pub version_stops : {f : Fault} → refused f ≡ (bounded 1 3 14 0).read job i → refused f ≡ head.read job i
-  unfolding version ◌then◌ hand_on
-  version_stops e = rw (← e)
+  pub version_stops : {f : Fault} → refused f ≡ (bounded 1 3 14 0).read job i → refused f ≡ used car head job i
+  unfolding hand_on
+  version_stops e = rw (head_is, ← e)
 
   module _ {v j : ℕ} (e : got v j ≡ (bounded 1 3 14 0).read job i) where
-    pub profile_stops : {f : Fault} → refused f ≡ (profile v).read job j → refused f ≡ head.read job i
-    unfolding version ◌then◌ hand_on
-    profile_stops g = rw (← e, vehicle_is, ← g)
+    pub profile_stops : {f : Fault} → refused f ≡ (profile v).read job j → refused f ≡ used car head job i
+    unfolding hand_on
+    profile_stops g = rw (head_is, ← e, ← g)
 
     module _ {x h : ℕ} (q : got x h ≡ (profile v).read job j) where
-      pub gears-stop : {f : Fault} → refused f ≡ used gears (gearbox x) job h → refused f ≡ head.read job i
-      unfolding version ◌then◌ hand_on
-      gears-stop g = rw (← e, vehicle_is, ← q, ← g)
+      pub gears-stop : {f : Fault} → refused f ≡ used gears (gearbox x) job h → refused f ≡ used car head job i
+      unfolding hand_on
+      gears-stop g = rw (head_is, ← e, ← q, ← g)
 
-      module _ {b : ℕ × List ℕ} {k : ℕ} (g : got b k ≡ used gears (gearbox x) job h) where
-        pub numbers-stop : {f : Fault} → refused f ≡ used (sets (replicate 8 0) 0) (many value 8) job k → refused f ≡ head.read job i
-        unfolding version ◌then◌ hand_on
-        numbers-stop n = rw (← e, vehicle_is, ← q, ← g, ← eight_filled, ← n)
+      module _ {b : Gearbox} {k : ℕ} (g : got b k ≡ used gears (gearbox x) job h) where
+        pub numbers-stop : {f : Fault} → refused f ≡ (many value 8).read job k → refused f ≡ used car head job i
+        unfolding hand_on
+        numbers-stop n = rw (head_is, ← e, ← q, ← g, ← n)
 
-        pub car_on : {ns : List ℕ} {l : ℕ} → got ns l ≡ used (sets (replicate 8 0) 0) (many value 8) job k → (p : Came) (c : ℕ × (List ℕ × (List ℕ × List ℕ)))
-            → reached p c ≡ used columns (curve v) job l → reached p (v, car_of x b ns c) ≡ head.read job i
-        unfolding version ◌then◌ hand_on
-        car_on {ns} n p c r = rw (← e, vehicle_is, ← q, ← g, ← eight_filled, ← n) (reached_on p c (λ y. (v, car_of x b ns y)) r ∙ simp joined)
+        module _ {ns : List ℕ} {l : ℕ} (n : got ns l ≡ (many value 8).read job k) where
+          pub curve-stops : {f : Fault} → refused f ≡ used columns (curve v) job l → refused f ≡ used car head job i
+          unfolding hand_on
+          curve-stops c = rw (head_is, ← e, ← q, ← g, ← n, ← c)
+
+          pub car_gives : {c : Curve} {m : ℕ} → got c m ≡ used columns (curve v) job l → got (car (v, car_of x b ns c)) m ≡ used car head job i
+          unfolding hand_on
+          car_gives c = rw (head_is, ← e, ← q, ← g, ← n, ← c)

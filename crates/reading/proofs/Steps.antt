@@ -1,6 +1,6 @@
 -- One reading after another.
-use Rattle.rules.proofs.Offered.{ℕ, arith, ◌≡◌, refl, sym, ◌∙◌, Bool, true, false, List, [], length, Fault, Read, got, refused, Reader, hand_on, give, demand}
-use Rattle.rules.proofs.Offered.{Form, row, many, says_now, Sound, many_sound}
+use Rattle.rules.proofs.Offered.{ℕ, arith, ◌≡◌, refl, sym, ◌∙◌, Bool, true, false, List, [], length, Fault, Read, got, refused, Reader, hand_on, give}
+use Rattle.rules.proofs.Offered.{demand, Form, row, many, says_now, Sound, many_sound}
 use Rattle.reading.specs.Progress.{Comes, used}
 
 -- two readings one after the other, and a third
@@ -46,6 +46,23 @@ unfolding hand_on
 give_on (got a j) = refl
 give_on (refused f) = refl
 
+-- what comes is put to use
+pub used_gives : {A B : Type 0} (f : A → B) (part : Form A) (job : List ℕ) (i : ℕ) {a : A} {j : ℕ} → got a j ≡ part.read job i
+    → got (f a) j ≡ used f part job i
+unfolding used hand_on
+used_gives f part job i e = rw (← e)
+
+stops_of : {A B : Type 0} (f : A → B) (m : Read A) {x : Fault} → refused x ≡ hand_on m (λ a. give (f a)) → refused x ≡ m
+unfolding hand_on
+stops_of f (got a j) e = let z : ◌≡◌ {A = ℕ} 0 1 = cc in absurd (omega arith)
+stops_of f (refused y) e = cc
+
+-- a refusal comes from what was read
+pub used_stops : {A B : Type 0} (f : A → B) (part : Form A) (job : List ℕ) (i : ℕ) {x : Fault} → refused x ≡ used f part job i
+    → refused x ≡ part.read job i
+unfolding used
+used_stops f part job i e = stops_of f (part.read job i) e
+
 -- where it is put to use as it is, it is what was read
 pub use_as_is : {A : Type 0} {f : A → A} (part : Form A) (job : List ℕ) (i : ℕ) → ((a : A) (j : ℕ) → part.read job i ≡ got a j → f a ≡ a)
     → used f part job i ≡ part.read job i
@@ -65,19 +82,10 @@ values (got l j) = l
 values (refused f) = []
 
 module _ {A : Type 0} (part : Form (List A)) (job : List ℕ) (i : ℕ) where
-  stops_of : (m : Read (List A)) {f : Fault} → refused f ≡ hand_on m (λ x. give true) → refused f ≡ m
-  unfolding hand_on
-  stops_of (got l j) e = let z : ◌≡◌ {A = ℕ} 0 1 = cc in absurd (omega arith)
-  stops_of (refused x) e = cc
-
   comes_of : (m : Read (List A)) {k : ℕ} → got true k ≡ hand_on m (λ x. give true) → got (values m) k ≡ m
   unfolding hand_on
   comes_of (got l j) {k} e = let same : k ≡ j = cc in rw same
   comes_of (refused x) e = let z : ◌≡◌ {A = ℕ} 0 1 = cc in absurd (omega arith)
-
-  pub judged_stops : {f : Fault} → refused f ≡ used (λ x. true) part job i → refused f ≡ part.read job i
-  unfolding used
-  judged_stops e = stops_of (part.read job i) e
 
   pub judged_comes : {k : ℕ} → got true k ≡ used (λ x. true) part job i → got (values (part.read job i)) k ≡ part.read job i
   unfolding used

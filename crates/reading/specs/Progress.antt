@@ -1,20 +1,18 @@
 -- What the reader's own functions answer: how far reading came, and what is made of what was read.
-use Rattle.std.specs.Prelude.{ℕ, suc, ◌<◌, ◌≡◌, List, map, length, pos, ◌-ℤ◌}
+use Rattle.std.specs.Prelude.{ℕ, suc, ◌<◌, ◌≤◌, ◌≡◌, List, map, length, pos, ◌-ℤ◌, Result, Ok, Err}
 use Rattle.rules.specs.Words.{at}
 use Rattle.std.proofs.lemmas.List.Edits.{sets}
 use Rattle.rules.specs.declared.Vehicle.{Vehicle}
-use Rattle.rules.specs.declared.Answer.{Answer}
-use Rattle.rules.specs.declared.Answer.TheVariants.{Done, Refused}
+use Rattle.rules.specs.declared.Refusal.{Refusal}
+use Rattle.rules.specs.declared.Refusal.TheVariants.{JobEndsEarly}
 use Rattle.rules.specs.Units.{most_gears, most_points}
-use Rattle.rules.specs.Refusals.{numbered, fault}
+use Rattle.rules.specs.Refusals.{fault}
 use Rattle.rules.specs.Groups.{Read, got, refused, Reader, ◌>>=◌, give}
 use Rattle.rules.specs.Forms.{Form, row}
-use Rattle.rules.specs.Job.{one_hold, padded, job_of}
-use Rattle.reading.specs.declared.Group.{Group}
-use Rattle.reading.specs.declared.Group.TheVariants as group-is
-use Rattle.reading.specs.declared.Came.{Came}
-use Rattle.reading.specs.declared.Came.TheVariants as came-is
-use Rattle.reading.specs.declared.Reading.{Reading}
+use Rattle.rules.specs.Job.{one_hold, padded}
+use Rattle.reading.specs.declared.Gearbox.{Gearbox}
+use Rattle.reading.specs.declared.Curve.{Curve}
+use Rattle.reading.specs.declared.Car.{Car}
 
 -- a byte of the job, and that it is there
 pub record JobByte (job : List ℕ) (i r : ℕ) : Type 0 where
@@ -22,12 +20,17 @@ pub record JobByte (job : List ℕ) (i r : ℕ) : Type 0 where
   pub small : r < 256
   pub there : i < length job
 
+-- that byte, or that the job ends before it
+abbrev pub ByteAs : List ℕ → ℕ → Result ℕ Refusal → Type 0
+ByteAs job i (Ok b) = JobByte job i b
+ByteAs job i (Err f) = (f ≡ JobEndsEarly (length job)) × (length job ≤ i)
+
 -- ---- how far reading came
 
 -- what reading as far as a place says of what was read on the way
-abbrev pub reached : {A : Type 0} → Came → A → Read A
-reached (came-is.To j) a = got a j
-reached (came-is.Fault f) a = refused (fault f)
+abbrev pub reached : {A : Type 0} → Result ℕ Refusal → A → Read A
+reached (Ok j) a = got a j
+reached (Err f) a = refused (fault f)
 
 -- reading that comes to its end
 pub record Comes {A : Type 0} (m : Read A) : Type 0 where
@@ -39,23 +42,6 @@ pub record Comes {A : Type 0} (m : Read A) : Type 0 where
 pub record ShortGroup (m : Read ℕ) : Type 0 where
   pub there : Comes m
   pub small : there.what < 16384
-
--- the same answer with less said of it
-abbrev pub group_came : Group → Came
-group_came (group-is.Value v j) = came-is.To j
-group_came (group-is.Fault f) = came-is.Fault f
-
-abbrev pub came_answer : Came → Answer
-came_answer (came-is.To j) = Done
-came_answer (came-is.Fault f) = Refused f
-
--- the vehicle of a job that was refused, whatever the refusal
-abbrev pub blank : Vehicle
-blank = (job_of (refused (numbered 0 0))).vehicle
-
--- what the reader answers where it refuses
-abbrev pub no_reading : Answer → Reading
-no_reading a = record { answer = a; version = 0; vehicle = blank; count = 0 }
 
 -- ---- what is made of what was read
 
@@ -74,20 +60,26 @@ abbrev pub into : List ℕ → List ℕ → List ℕ → ℕ → List (ℕ × (�
 into ns ps ms i l = (sets ns i (map (λ x. x.0) l), (sets ps i (map (λ x. x.1.0) l), sets ms i (map (λ x. x.1.1) l)))
 
 -- gear count and ratios, and point count, n, p and m, as the vehicle has them
-abbrev pub gears : List ℕ → ℕ × List ℕ
-gears ratios = (length ratios, padded most_gears ratios)
+abbrev pub gears : List ℕ → Gearbox
+gears ratios = record { ng = length ratios; ratio = padded most_gears ratios }
 
-abbrev pub columns : List (ℕ × (ℕ × ℕ)) → ℕ × (List ℕ × (List ℕ × List ℕ))
-columns points = (
-  length points,
-  (padded most_points (map (λ x. x.0) points), (padded most_points (map (λ x. x.1.0) points), padded most_points (map (λ x. x.1.1) points))),
-)
+abbrev pub columns : List (ℕ × (ℕ × ℕ)) → Curve
+columns points = record {
+  points = length points;
+  n = padded most_points (map (λ x. x.0) points);
+  p = padded most_points (map (λ x. x.1.0) points);
+  m = padded most_points (map (λ x. x.1.1) points);
+}
+
+-- a version and a vehicle
+abbrev pub car : ℕ × Vehicle → Car
+car x = record { version = x.0; vehicle = x.1 }
 
 -- the vehicle of this profile, of these gears, of the eight numbers between, F1 with 5,000 added, and of these columns
-abbrev pub car_of : ℕ → ℕ × List ℕ → List ℕ → ℕ × (List ℕ × (List ℕ × List ℕ)) → Vehicle
+abbrev pub car_of : ℕ → Gearbox → List ℕ → Curve → Vehicle
 car_of crawler gearbox numbers curve = record {
-  ng = gearbox.0;
-  ratio = gearbox.1;
+  ng = gearbox.ng;
+  ratio = gearbox.ratio;
   idle = at numbers 0;
   rated = at numbers 1;
   nmax = at numbers 2;
@@ -96,9 +88,9 @@ car_of crawler gearbox numbers curve = record {
   f2 = at numbers 5;
   tm = at numbers 6;
   margin = at numbers 7;
-  points = curve.0;
-  n = curve.1.0;
-  p = curve.1.1.0;
-  m = curve.1.1.1;
+  points = curve.points;
+  n = curve.n;
+  p = curve.p;
+  m = curve.m;
   profile = crawler;
 }

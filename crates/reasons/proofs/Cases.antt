@@ -1,14 +1,13 @@
 -- Document 01, "Sums done on paper", with the chain behind each byte: a second at which A decides, one at which B does, one at which C does, and a hold.
 use Rattle.rules.proofs.Offered.{ℕ, ◌≡◌, refl, List, [], ◌∷◌, replicate, ◌and◌, ◌or◌, within, every, first, highest, pass, ratio_of, ratio_good, point_good}
 use Rattle.rules.proofs.Offered.{bounds, first_failed, bad_field, low, longest, moving, rise, start, run, stop, margin_good, engine, minimum_of, minimum}
-use Rattle.rules.proofs.Offered.{is_under_nmax, is_over_minimum, allowed, fits, required, between, on_segment, reaches, segment, power_speed, power}
-use Rattle.rules.proofs.Offered.{enough, more}
-use Rattle.rules.proofs.Offered.{suits, beats, strongest, choose, is_first, next_minimum, derated, floor, closing, ceiling, here, first_choice, free, is_peak}
-use Rattle.rules.proofs.Offered.{peak, too_high, rising, too_low, slowing, firsts, after_A, after_B, gears, trip_speeds, trip_holds, first_at, gear_at, role_of}
-use Rattle.rules.proofs.Offered.{refuse_at, ◌orelse◌, when, trace_fault, room_fault, vehicle_fault, not_driven, check_number, checks, all_checks, bad, fault_of}
-use Rattle.rules.proofs.Offered.{seconds_fault, span_fault, left, around, hold_span, role_at, kind, about, role_code, next_rule, minimum_rule, listed_power}
-use Rattle.rules.proofs.Offered.{driven_facts, no_facts, gear_facts, gear_list, sentence, A_at, B_at, B_looks, ceiling_of, ceiling_at, clutch_reason_at}
-use Rattle.rules.proofs.Offered.{pedal_down, byte_of, why_lo, why_end, row_fault, why_fault, early_fault, nothing, said_of, why}
+use Rattle.rules.proofs.Offered.{is_under_nmax, is_over_minimum, allowed, fits, required, between, on_segment, reaches, segment, power_speed, power, enough}
+use Rattle.rules.proofs.Offered.{more, suits, beats, strongest, choose, is_first, next_minimum, derated, floor, closing, ceiling, here, first_choice, free}
+use Rattle.rules.proofs.Offered.{is_peak, peak, too_high, rising, too_low, slowing, firsts, after_A, after_B, gears, trip_speeds, trip_holds, first_at, gear_at}
+use Rattle.rules.proofs.Offered.{role_of, refuse_at, ◌orelse◌, when, trace_fault, room_fault, vehicle_fault, not_driven, check_number, checks, all_checks, bad}
+use Rattle.rules.proofs.Offered.{fault_of, seconds_fault, span_fault, left, around, hold_span, role_at, kind, about, role_code, next_rule, minimum_rule}
+use Rattle.rules.proofs.Offered.{listed_power, driven_facts, no_facts, gear_facts, gear_list, sentence, A_at, B_at, B_looks, ceiling_of, ceiling_at}
+use Rattle.rules.proofs.Offered.{clutch_reason_at, pedal_down, byte_of, why_lo, why_end, row_fault, why_fault, early_fault, nothing, said_of, why}
 use Rattle.rules.proofs.Cases.Cars.{vehicle_with, five_gears, car_with, car_of, car_Z, Z, trace}
 use Rattle.rules.specs.declared.Reasons.{Reasons}
 

@@ -1,7 +1,6 @@
 -- The first choice that is listed, and the sentence that is given for it.
-use Rattle.rules.proofs.Offered.{ℕ, zero, suc, ◌-◌, ◌≤◌, arith, ◌≡◌, refl, sym, ◌∙◌, ◌≢◌, Bool, true, false, Option, none, List, [], ◌∷◌, eqb, ℤ}
-use Rattle.rules.proofs.Offered.{get_or, le-leb}
-use Rattle.rules.proofs.Offered.{leb-true, eq-eqb, eqb-true, eqb-false, within, at, highest, ◌and◌, drop, low, rise, closing, is_first, is_under_nmax}
+use Rattle.rules.proofs.Offered.{ℕ, zero, suc, ◌-◌, ◌≤◌, arith, ◌≡◌, refl, sym, ◌∙◌, ◌≢◌, Bool, true, false, Option, none, List, [], ◌∷◌, eqb, ℤ, get_or}
+use Rattle.rules.proofs.Offered.{le-leb, leb-true, eq-eqb, eqb-true, eqb-false, within, at, highest, ◌and◌, drop, low, rise, closing, is_first, is_under_nmax}
 use Rattle.rules.proofs.Offered.{allowed, fits, enough, suits, choose, first_at, Fault, InBounds, HighestEnough, MostPower, role_at, kind, about, listed_power}
 use Rattle.rules.proofs.Offered.{driven_facts, no_facts, gear_facts, gear_list, sentence, why_fault, early_fault, said_of, why, clash, by_test, and_left}
 use Rattle.rules.proofs.Offered.{and_right, both, or_skip, highest-holds, low_from, choose-strongest, choose-highest, choose_to, first_choice_plainly}

@@ -7,7 +7,7 @@ use Rattle.reasons.proofs.whole.why.Kinds as why-kinds
 use Rattle.reasons.proofs.whole.why.Reads as why-reads
 
 -- every input gets an answer
-pub why_asks_nothing : (κs : Lfts 1) (a : Dens κs why-kinds.ps) → why-reads.Asked κs a
+pub why_asks_nothing : (κs : Lfts 2) (a : Dens κs why-kinds.ps) → why-reads.Asked κs a
 why_asks_nothing κs a = tt
 
 -- each refusal has its number and its place

@@ -1,5 +1,6 @@
 -- What belongs to no one function: the theorems and the starred chains, laws of the definitions as the code meets them, and that the contract allows one
 -- outcome.
+pub mod Nothing
 pub mod Gears
 pub mod Stages
 pub mod Places

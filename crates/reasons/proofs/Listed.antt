@@ -1,10 +1,8 @@
 -- What is listed of each gear, held or not: it agrees with itself, and request Two's minimum in the closing run.
-use Rattle.rules.proofs.Offered.{ℕ, ◌+◌, ◌-◌, ◌≤◌, arith, ◌≡◌, refl, sym, ◌≢◌, Bool, true, false, not, none, List, leb, eqb, ℤ, drop}
-use Rattle.rules.proofs.Offered.{◌and◌, ◌or◌, at, low, rise, is_first, next_minimum, minimum, minimum_of, is_under_nmax}
-use Rattle.rules.proofs.Offered.{is_over_minimum, allowed, fits}
-use Rattle.rules.proofs.Offered.{closing, role_of, start, role_at, kind, about, minimum_role, driven_facts, gear_facts, gear_list}
-use Rattle.rules.proofs.Offered.{early_fault}
-use Rattle.rules.proofs.Offered.{said_of, why, clash, by_test, and_no, low_from}
+use Rattle.rules.proofs.Offered.{ℕ, ◌+◌, ◌-◌, ◌≤◌, arith, ◌≡◌, refl, sym, ◌≢◌, Bool, true, false, not, none, List, leb, eqb, ℤ, drop, ◌and◌, ◌or◌, at, low}
+use Rattle.rules.proofs.Offered.{rise, is_first, next_minimum, minimum, minimum_of, is_under_nmax, is_over_minimum, allowed, fits, closing, role_of, start}
+use Rattle.rules.proofs.Offered.{role_at, kind, about, minimum_role, driven_facts, gear_facts, gear_list, early_fault, said_of, why, clash, by_test, and_no}
+use Rattle.rules.proofs.Offered.{low_from}
 use Rattle.rules.specs.declared.Vehicle.{Vehicle}
 use Rattle.rules.specs.declared.Role.{Role}
 use Rattle.rules.specs.declared.Role.TheVariants.{Closing}

@@ -1,25 +1,27 @@
 -- Where the second that is spoken of lies: what is looked at, and its trip.
-use Rattle.rules.proofs.Offered.{ℕ, suc, ◌+◌, ◌-◌, ◌≤◌, ◌<◌, min, add-one, arith, ◌≡◌, refl, sym, ap, ◌∙◌, ◌≢◌, true, false, Option, none, List, eqb}
-use Rattle.rules.proofs.Offered.{lit<, length, set, length-set, set_out, eq-eqb, ne_eqb, eqb-true, eqb-false, lt-ltb, at, part, moving, rise}
-use Rattle.rules.proofs.Offered.{start, stop, trip_speeds, trip_holds, Fault, checks, bad, seconds_fault, gear_fault, fastest, Extent, around}
-use Rattle.rules.proofs.Offered.{hold_span}
-use Rattle.rules.proofs.Offered.{IsTrip, kind, about, clash, by_test, by_order, at_part, length_part, trip_of, trip_start, trip_stop, start_le, start-before}
-use Rattle.rules.proofs.Offered.{stop_le, stop-after, stop_to, moving_in, listed, driven, trace_in}
+use Rattle.rules.proofs.Offered.{ℕ, suc, ◌+◌, ◌-◌, ◌≤◌, ◌<◌, min, add-one, arith, ◌≡◌, refl, sym, ap, ◌∙◌, ◌≢◌, true, false, none, List, eqb, InBounds, lit<}
+use Rattle.rules.proofs.Offered.{length, eq-eqb, ne_eqb, lt-ltb, at, part, moving, rise, start, stop, trip_speeds, trip_holds, checks, bad, seconds_fault}
+use Rattle.rules.proofs.Offered.{fastest, Extent, around, hold_span, IsTrip, kind, about, why_lo, why_end, clash, by_test, by_order, at_part, length_part}
+use Rattle.rules.proofs.Offered.{trip_of, trip_start, trip_stop, start_le, start-before, stop_le, stop-after, stop_to, moving_in, standing_past, listed, driven}
+use Rattle.rules.proofs.Offered.{trace_in}
 use Rattle.rules.proofs.Theorems.Edits.{span_of-hold}
+use Rattle.std.proofs.lemmas.Bool.Decides.{nat_tests}
 use Rattle.rules.specs.declared.Vehicle.{Vehicle}
-use Rattle.gears.specs.declared.Numbers.{Numbers}
-use Rattle.gears.specs.Parts.{Counts, Lent}
-use Rattle.gears.proofs.Parts.{ng_of}
 use Rattle.trips.specs.Ready.{ReadyTrip}
 use Rattle.checks.specs.Checks.{Spanned}
 use Rattle.checks.specs.Calm.{AtMost}
 use Rattle.checks.specs.Want.{Resting, Level, Ahead}
-use Rattle.checks.proofs.Through.{unasked}
 use Rattle.checks.proofs.Dry.{level, ahead}
 use Rattle.checks.proofs.Rows.{Opened, spanned}
 use Rattle.trips.proofs.Passes.{gears_to}
 use Rattle.reasons.specs.declared.Chain.{Chain}
-use Rattle.reasons.specs.Asks.{InTrip, chain_of}
+use denote.Enum.Bare.{sameb}
+use denote.Enum.Declared.{tag_of}
+use Rattle.reasons.specs.contracts.Kind.{the_type}
+use Rattle.reasons.specs.declared.Kind.{Kind}
+use Rattle.reasons.specs.declared.Kind.TheVariants.{Standing, BeforeTrip, Moving}
+use Rattle.reasons.specs.declared.View.{View}
+use Rattle.reasons.specs.Asks.{kind_code, Viewed, InTrip, chain_of}
 
 -- ---- what the second is
 
@@ -45,22 +47,36 @@ module _ (vs : List ℕ) (s : ℕ) where
   about_itself n = rw (ne_eqb (kind vs s) 1 n)
 
   pub about_from : s ≤ about vs s
-  about_from = by_test (eqb (kind vs s) 1) (λ t. omega (arith, about-next (eqb-true _ _ t))) (λ t. omega (arith, about_itself (eqb-false _ _ t)))
+  unfolding about
+  about_from = grind (arith, nat_tests)
 
-  -- before a trip the next second moves
-  pub next_moves : kind vs s ≡ 1 → moving (at vs (suc s)) ≡ true
-  next_moves e =
-      by_test (moving (at vs (suc s))) (λ n. n)
-      (λ n. by_test (moving (at vs s)) (λ m. absurd (omega (arith, e, kind-moving m))) (λ m. absurd (omega (arith, e, kind-rests m n))))
+  pub about_in : s < length vs → about vs s < length vs
+  unfolding about kind
+  about_in h = grind (arith, nat_tests, moving_in)
 
   -- where something is said, the second that is spoken of moves
   pub about_moves : (kind vs s ≡ 0 → ⊥) → moving (at vs (about vs s)) ≡ true
-  about_moves z =
-      by_test (eqb (kind vs s) 1)
-      (λ t. let e : kind vs s ≡ 1 = eqb-true _ _ t in rw (← about-next e) (next_moves e))
-      (λ t. let n : kind vs s ≡ 1 → ⊥ = eqb-false _ _ t in rw (← about_itself n)
-      (by_test (moving (at vs s)) (λ m. m)
-      (λ m. by_test (moving (at vs (suc s))) (λ k. absurd (n (sym (kind-before m k)))) (λ k. absurd (z (sym (kind-rests m k)))))))
+  unfolding about kind
+  about_moves z = grind (arith, nat_tests)
+
+-- past the trace's end nothing moves
+pub ruleset kinds = (nat_tests, standing_past)
+
+-- as the code has it: its number, and whether it is one or another
+pub code_is : (k : Kind) → tag_of the_type k ≡ kind_code k
+code_is Standing = refl
+code_is BeforeTrip = refl
+code_is Moving = refl
+
+pub before_is : (k : Kind) → sameb the_type k BeforeTrip ≡ eqb (kind_code k) 1
+before_is Standing = refl
+before_is BeforeTrip = refl
+before_is Moving = refl
+
+pub standing_is : (k : Kind) → sameb the_type k Standing ≡ eqb (kind_code k) 0
+standing_is Standing = refl
+standing_is BeforeTrip = refl
+standing_is Moving = refl
 
 -- ---- what is looked at
 
@@ -69,6 +85,9 @@ pub record Looked (vs : List ℕ) (lo end : ℕ) : Type 0 where
   pub inside : end ≤ length vs
   pub begins : lo ≢ 0 → moving (at vs lo) ≡ false
   pub ends : end ≢ length vs → moving (at vs (end - 1)) ≡ false
+
+pub resting : {vs : List ℕ} {lo end : ℕ} → Looked vs lo end → Resting vs lo end
+resting K = record { some = K.some; begins = K.begins; ends = K.ends }
 
 module _ (vs : List ℕ) (i : ℕ) (h : i < length vs) where
   looked_here : Looked vs (hold_span vs i).lo (hold_span vs i).end
@@ -99,7 +118,12 @@ module _ (vs : List ℕ) (i : ℕ) (h : i < length vs) where
   pub span-moving : moving (at vs i) ≡ true → (start vs i - 1 ≡ (hold_span vs i).lo) × (min (suc (stop vs i)) (length vs) ≡ (hold_span vs i).end)
   span-moving m = let e = span_of-hold vs i m in (sym (ap (λ (r : Extent). r.lo) e), sym (ap (λ (r : Extent). r.end) e))
 
--- and lies in it
+-- of a second as it is seen
+pub looked_view : {vs : List ℕ} {view : View} → Viewed vs view → view.second < length vs → Looked vs view.checked.lo view.checked.hi
+unfolding why_lo why_end
+looked_view {vs} {view} W h = looked vs (about vs view.second) (about_in vs view.second h) W.checked_from W.checked_to
+
+-- a moving second lies in what is looked at
 pub inside_span : (vs : List ℕ) (i : ℕ) → moving (at vs i) ≡ true → ((hold_span vs i).lo ≤ i) × (i < (hold_span vs i).end)
 inside_span vs i m =
     let h = moving_in vs i m in
@@ -108,27 +132,12 @@ inside_span vs i m =
     omega (arith, e.0, t.1, e.1, t.2, h)
 
 module _ {car : Vehicle} {vs hs : List ℕ} (O : Opened car vs hs hs) {lo end : ℕ} (K : Looked vs lo end) where
-  pub spanned_at : {k : Numbers} → Counts car k → Spanned k vs hs lo end
-  spanned_at C = spanned C O (omega (arith, K.some)) K.inside
-
-  -- nothing is asked for
-  pub resting_at : (v : ℕ) → Resting (set vs (length vs) v) lo end
-  resting_at v = let e = set_out vs (length vs) v (omega arith) in rw e (record { some = K.some; begins = K.begins; ends = K.ends })
-
-  pub no_seconds_edit : (v g : ℕ) {f : Option Fault} → f ≡ seconds_fault car (set vs (length vs) v) (set hs (length vs) g) lo end
-      → f ≡ seconds_fault car vs hs lo end
-  no_seconds_edit v g e = e ∙ unasked (λ us ks. seconds_fault car us ks lo end) vs hs O.holds_long v g
-
-  pub no_gears_edit : (v g : ℕ) {f : Option Fault} → f ≡ gear_fault car (set vs (length vs) v) (set hs (length vs) g) lo end → f ≡ gear_fault car vs hs lo end
-  no_gears_edit v g e = e ∙ unasked (λ us ks. gear_fault car us ks lo end) vs hs O.holds_long v g
+  pub spanned_at : Spanned car vs lo end
+  spanned_at = spanned O (omega (arith, K.some)) K.inside
 
   -- where 4 to 9 pass, no speed is above the highest
-  pub slow_at : (v g : ℕ) → seconds_fault car (set vs (length vs) v) (set hs (length vs) g) lo end ≡ none → AtMost (at (set vs (length vs) v)) lo end fastest
-  slow_at v g e =
-      let n = length-set vs (length vs) v in
-      let flat : Level (set vs (length vs) v) hs lo end =
-      level car (set vs (length vs) v) (set hs (length vs) g) lo end e (resting_at v) (omega (arith, n, K.inside)) (O.holds_long ∙ sym n) in
-      flat.speed_to
+  pub slow_at : seconds_fault car vs hs lo end ≡ none → AtMost (at vs) lo end fastest
+  slow_at e = let flat : Level vs lo end = level car vs hs lo end e (resting K) K.inside in flat.speed_to
 
 -- ---- the trip of a moving second, of a span that passes 4 to 9
 
@@ -138,8 +147,8 @@ module _ {car : Vehicle} {vs hs : List ℕ} (O : Opened car vs hs hs) {i lo end 
   looks : Looked vs lo end
   looks = looked vs i h a b
 
-  flat : Level vs hs lo end
-  flat = level car vs hs lo end e (record { some = looks.some; begins = looks.begins; ends = looks.ends }) looks.inside O.holds_long
+  flat : Level vs lo end
+  flat = level car vs hs lo end e (resting looks) looks.inside
 
   its : IsTrip vs (start vs i) (stop vs i) × (start vs i ≤ i) × (i < stop vs i)
   its = trip_of vs i m
@@ -160,9 +169,9 @@ module _ {car : Vehicle} {vs hs : List ℕ} (O : Opened car vs hs hs) {i lo end 
   same_stop : stop vs (start vs i) ≡ stop vs i
   same_stop = trip_stop vs its.0 (start vs i) (omega arith) its.0.some_second
 
-  pub told : {k : Numbers} → Counts car k → InTrip k vs hs i (start vs i) (stop vs i)
+  pub told : InTrip car vs hs i (start vs i) (stop vs i)
   unfolding bad seconds_fault checks
-  told C =
+  told =
       let x = low_is in
       let y = end_is in
       let l = later in
@@ -178,13 +187,13 @@ module _ {car : Vehicle} {vs hs : List ℕ} (O : Opened car vs hs hs) {i lo end 
         since = t.1;
         until = t.2;
         hold =
-            λ j p q. rw (← ng_of C)
+            λ j p q.
             (driven car (at hs j) (listed (λ c. bad c car vs hs lo) lo end checks e 3 (lit< tt) j (omega (arith, x)) (omega (arith, y, B.inside)))).0;
       }
 
 -- ---- the trip's own lists
 
-module _ {k : Numbers} {vs hs : List ℕ} {i a b : ℕ} (T : InTrip k vs hs i a b) where
+module _ {car : Vehicle} {vs hs : List ℕ} {i a b : ℕ} (T : InTrip car vs hs i a b) where
   pub its_trip : IsTrip vs a b
   its_trip = record { some_second = omega (arith, T.since, T.until); inside = T.trip.moves; before = T.trip.before; after = T.trip.after }
 
@@ -203,7 +212,7 @@ module _ {k : Numbers} {vs hs : List ℕ} {i a b : ℕ} (T : InTrip k vs hs i a 
       )
 
   -- what going through it asks
-  pub trip_ready : {gs : List ℕ} → length gs ≡ b - a → ReadyTrip k (part vs a (b + 1)) (part hs a b) gs
+  pub trip_ready : {gs : List ℕ} → length gs ≡ b - a → ReadyTrip car (part vs a (b + 1)) (part hs a b) gs
   trip_ready {gs} g =
       let l = T.trip.inside in
       let o = T.trip.order in
@@ -223,18 +232,16 @@ module _ {k : Numbers} {vs hs : List ℕ} {i a b : ℕ} (T : InTrip k vs hs i a 
   trip_place = rw (length_part hs a b (omega (arith, T.rooms, T.trip.inside))) (omega (arith, T.since, T.until))
 
   -- the trip's lists, as the card names them
-  pub trip_lists : (car : Vehicle)
-      → chain_of car (part vs a (b + 1)) (part hs a b) (i - a) ≡ chain_of car (trip_speeds vs i) (trip_holds vs hs i) (i - start vs i)
+  pub trip_lists : chain_of car (part vs a (b + 1)) (part hs a b) (i - a) ≡ chain_of car (trip_speeds vs i) (trip_holds vs hs i) (i - start vs i)
   unfolding trip_speeds trip_holds
-  trip_lists car = rw (add-one, trip_start vs its_trip i T.since T.until, trip_stop vs its_trip i T.since T.until)
+  trip_lists = rw (add-one, trip_start vs its_trip i T.since T.until, trip_stop vs its_trip i T.since T.until)
 
   -- the gear after C leaves room for the clutch
-  pub chain_small : {car : Vehicle} {ratio n p : List ℕ} → Lent car k ratio n p → {x : Chain} → x ≡ chain_of car (part vs a (b + 1)) (part hs a b) (i - a)
-      → x.after_c ≤ 11
+  pub chain_small : InBounds car → {x : Chain} → x ≡ chain_of car (part vs a (b + 1)) (part hs a b) (i - a) → x.after_c ≤ 11
   unfolding chain_of
-  chain_small {car = car} L {x} q =
-      let h : at (part hs a b) (i - a) ≤ car.ng = rw (at_part hs a b (i - a) (omega (arith, T.since, T.until)), ng_of L.has.counts)
+  chain_small C {x} q =
+      let h : at (part hs a b) (i - a) ≤ car.ng = rw (at_part hs a b (i - a) (omega (arith, T.since, T.until)))
       (T.hold (a + (i - a)) (omega (arith, T.since)) (omega (arith, T.since, T.until))) in
-      let g = gears_to car L.bounds (part vs a (b + 1)) (part hs a b) (i - a) trip_place h in
+      let g = gears_to car C (part vs a (b + 1)) (part hs a b) (i - a) trip_place h in
       let e = ap (λ (y : Chain). y.after_c) q in
-      omega (arith, e, g, L.bounds.ng_to)
+      omega (arith, e, g, C.ng_to)

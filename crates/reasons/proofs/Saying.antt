@@ -1,19 +1,11 @@
--- What is said of a second, field by field, and each way out of asking.
-use Rattle.rules.proofs.Offered.{ℕ, ◌+◌, ◌-◌, ◌*◌, ◌≤◌, ◌<◌, arith, ◌≡◌, refl, sym, ap, ◌∙◌, Bool, true, false, not, Option, none, some, List}
-use Rattle.rules.proofs.Offered.{eqb, ltb, ℤ, pos, le_z, length, drop, eq-eqb, ne_eqb, lt-ltb, le-ltb, if◌then◌else◌, at}
-use Rattle.rules.proofs.Offered.{moving, rise, start, stop, engine, required, floor, closing, role_of, here, firsts, trip_speeds, trip_holds, first_at, gear_at}
-use Rattle.rules.proofs.Offered.{Fault, said, fault, refuse_at, ◌orelse◌, when, span_fault, seconds_fault, left, role_at, gear_fault, kind, about, role_code}
-use Rattle.rules.proofs.Offered.{gear_facts, gear_list, sentence, A_at, B_at, ceiling_at, clutch_reason_at, pedal_down, byte_of, why_lo, why_end, row_fault}
-use Rattle.rules.proofs.Offered.{why_fault, early_fault, nothing, said_of, why, by_order, trip_of, trip_start, trip_stop, stop_in, closing-part, none_orelse}
-use Rattle.rules.proofs.Offered.{gears_last}
+-- What is said of a second, field by field.
+use Rattle.rules.proofs.Offered.{ℕ, ◌+◌, ◌-◌, ◌<◌, arith, ◌≡◌, refl, sym, ap, ◌∙◌, Bool, true, false, none, some, List, leb, ℤ, pos, le_z, length, drop, eq-eqb}
+use Rattle.rules.proofs.Offered.{ne_eqb, le-leb, lt-leb, at, moving, rise, start, stop, required, floor, closing, role_of, here, firsts, trip_speeds}
+use Rattle.rules.proofs.Offered.{trip_holds, first_at, gear_at, Fault, left, role_at, kind, role_code, gear_facts, gear_list, sentence, A_at, B_at, ceiling_at}
+use Rattle.rules.proofs.Offered.{clutch_reason_at, pedal_down, byte_of, said_of, by_order, trip_of, trip_start, trip_stop, stop_in, closing-part}
 use Rattle.rules.specs.declared.Vehicle.{Vehicle}
 use Rattle.rules.specs.declared.GearFacts.{GearFacts}
 use Rattle.rules.specs.declared.Reasons.{Reasons}
-use Rattle.rules.specs.declared.Refusal.{Refusal}
-use Rattle.rules.specs.declared.Refusal.TheVariants.{OutsideTrace}
-use Rattle.rules.specs.declared.Answer.{Answer}
-use Rattle.rules.specs.declared.Answer.TheVariants.{Done, Refused}
-use Rattle.checks.proofs.Rows.{opening, Opened, after_opening, opening_first, said-first, left_old, left_new}
 use Rattle.trips.proofs.Clutch.{rise-here, fall_yes, fall_no}
 use Rattle.reasons.specs.declared.Chain.{Chain}
 use Rattle.reasons.specs.Asks.{chain_of, uncorrected}
@@ -136,103 +128,15 @@ module _ (car : Vehicle) (vs hs : List ℕ) (s i : ℕ) where
 
 -- ---- the clutch
 
--- D is 0 or less, and above 0
-pub falls : (vs : List ℕ) (s : ℕ) → s + 1 < length vs → at vs (s + 1) ≤ at vs s → le_z (rise vs s) (pos 0) ≡ true
-falls vs s l h = rw (rise-here vs s l) (fall_yes (at vs s) (at vs (s + 1)) h)
+-- D is 0 or less where the next V is not above this V
+pub falls : (vs : List ℕ) (s : ℕ) → s + 1 < length vs → le_z (rise vs s) (pos 0) ≡ leb (at vs (s + 1)) (at vs s)
+falls vs s l =
+    rw (rise-here vs s l)
+    (by_order (at vs s) (at vs (s + 1))
+    (λ h. fall_no (at vs s) (at vs (s + 1)) h ∙ sym (lt-leb (at vs (s + 1)) (at vs s) h))
+    (λ h. fall_yes (at vs s) (at vs (s + 1)) h ∙ sym (le-leb (at vs (s + 1)) (at vs s) h)))
 
-pub rises : (vs : List ℕ) (s : ℕ) → s + 1 < length vs → at vs s < at vs (s + 1) → le_z (rise vs s) (pos 0) ≡ false
-rises vs s l h = rw (rise-here vs s l) (fall_no (at vs s) (at vs (s + 1)) h)
-
-module _ (car : Vehicle) (vs : List ℕ) (s g : ℕ) where
-  pub pedal-before : moving (at vs s) ≡ false → 1 ≡ clutch_reason_at car vs s g
-  unfolding clutch_reason_at
-  pedal-before m = rw m
-
-  module _ (m : moving (at vs s) ≡ true) where
-    pub pedal-rising : le_z (rise vs s) (pos 0) ≡ false → 3 ≡ clutch_reason_at car vs s g
-    unfolding clutch_reason_at
-    pedal-rising f = rw (m, f)
-
-    module _ (f : le_z (rise vs s) (pos 0) ≡ true) where
-      pub pedal_slow : engine car g (at vs s) < 1000 * car.idle → 2 ≡ clutch_reason_at car vs s g
-      unfolding clutch_reason_at
-      pedal_slow h = rw (m, f, lt-ltb _ _ h)
-
-      pub pedal_turns : 1000 * car.idle ≤ engine car g (at vs s) → 4 ≡ clutch_reason_at car vs s g
-      unfolding clutch_reason_at
-      pedal_turns h = rw (m, f, le-ltb _ _ h)
-
--- ---- each way out
-
-module _ (car : Vehicle) (vs hs : List ℕ) (s : ℕ) where
-  -- a row that began with a refusal
-  row_opening : (row : Option Fault) {x : Answer} {q : Refusal} → said x ≡ opening car vs hs hs → x ≡ Refused q → said x ≡ row_fault car vs hs s row
-  unfolding row_fault
-  row_opening row e h = opening_first car vs hs hs (refuse_at 11 (when (not (ltb s (length vs))) s) orelse row) e h
-
-  row_outside : (row : Option Fault) → Opened car vs hs hs → length vs ≤ s → said (Refused (OutsideTrace s)) ≡ row_fault car vs hs s row
-  unfolding row_fault when refuse_at ◌orelse◌ said
-  row_outside row O h = sym (after_opening (refuse_at 11 (when (not (ltb s (length vs))) s) orelse row) O ∙ rw (le-ltb s (length vs) h))
-
-  row_is : (row : Option Fault) → Opened car vs hs hs → s < length vs → row_fault car vs hs s row ≡ row
-  unfolding row_fault when refuse_at ◌orelse◌
-  row_is row O h = after_opening (refuse_at 11 (when (not (ltb s (length vs))) s) orelse row) O ∙ rw (lt-ltb s (length vs) h)
-
-  abbrev Out : Answer → Reasons → Type 0
-  Out x r = (said x ≡ why_fault car vs hs s) × (r ≡ why car vs hs s)
-
-  pub out_opening : {x : Answer} {q : Refusal} → said x ≡ opening car vs hs hs → x ≡ Refused q → Out x nothing
-  unfolding why_fault why early_fault
-  out_opening e h = (row_opening _ e h, left_old nothing _ (row_opening _ e h) h)
-
-  pub out_outside : Opened car vs hs hs → length vs ≤ s → Out (Refused (OutsideTrace s)) nothing
-  unfolding why_fault why early_fault
-  out_outside O h = (row_outside _ O h, left_old nothing _ (row_outside _ O h) refl)
-
--- what is looked at, for a second of a trace whose opening has passed
-pub record InView (car : Vehicle) (vs hs : List ℕ) (s lo end : ℕ) : Type 0 where
-  pub opened : Opened car vs hs hs
-  pub inside : s < length vs
-  pub from : lo ≡ why_lo vs s
-  pub to : end ≡ why_end vs s
-
--- 4 to 9 have passed there, and 10 said this
-pub record Checked (car : Vehicle) (vs hs : List ℕ) (lo end : ℕ) (x : Answer) : Type 0 where
-  pub passed : seconds_fault car vs hs lo end ≡ none
-  pub gears_say : said x ≡ gear_fault car vs hs lo end
-
-module _ {car : Vehicle} {vs hs : List ℕ} {s lo end : ℕ} (W : InView car vs hs s lo end) where
-  early_is : early_fault car vs hs s ≡ seconds_fault car vs hs lo end
-  unfolding early_fault
-  early_is = row_is car vs hs s _ W.opened W.inside ∙ rw (W.from, W.to)
-
-  fault_is : why_fault car vs hs s ≡ span_fault car vs hs lo end
-  unfolding why_fault
-  fault_is = row_is car vs hs s _ W.opened W.inside ∙ rw (W.from, W.to)
-
-  pub out_early : {x : Answer} {q : Refusal} → said x ≡ seconds_fault car vs hs lo end → x ≡ Refused q → Out car vs hs s x nothing
-  unfolding why
-  out_early e r = (said-first (gear_fault car vs hs lo end) e r ∙ sym (gears_last car vs hs lo end) ∙ sym fault_is, left_old nothing _ (e ∙ sym early_is) r)
-
-  module _ {x : Answer} (C : Checked car vs hs lo end x) where
-    said-why : said x ≡ why_fault car vs hs s
-    said-why = C.gears_say ∙ sym (none_orelse _ _ C.passed) ∙ sym (gears_last car vs hs lo end) ∙ sym fault_is
-
-    why_is : why car vs hs s ≡ (if eqb (kind vs s) 0 then nothing else said_of car vs hs s (about vs s) (why_fault car vs hs s))
-    unfolding why
-    why_is = sym (left_new nothing _ (early_is ∙ C.passed))
-
-    pub out_standing : kind vs s ≡ 0 → Out car vs hs s x nothing
-    out_standing z = (said-why, sym (why_is ∙ rw (eq-eqb (kind vs s) 0 z)))
-
-    module _ (z : kind vs s ≡ 0 → ⊥) {i : ℕ} (p : i ≡ about vs s) {all : Reasons} (q : all ≡ said_of car vs hs s i none) where
-      why-said : why car vs hs s ≡ said_of car vs hs s i (said x)
-      why-said = why_is ∙ rw (ne_eqb (kind vs s) 0 z, p, said-why)
-
-      pub out_done : x ≡ Done → Out car vs hs s x all
-      unfolding said
-      out_done c = (said-why, q ∙ ap (said_of car vs hs s i) (sym (ap said c)) ∙ sym why-said)
-
-      pub out_wanting : {r : Refusal} → x ≡ Refused r → Out car vs hs s x (uncorrected all)
-      unfolding said
-      out_wanting {r} c = (said-why, ap uncorrected q ∙ said-wanting car vs hs s i (fault r) ∙ ap (said_of car vs hs s i) (sym (ap said c)) ∙ sym why-said)
+-- before a trip it is down
+pub pedal-before : (car : Vehicle) (vs : List ℕ) (s g : ℕ) → moving (at vs s) ≡ false → 1 ≡ clutch_reason_at car vs s g
+unfolding clutch_reason_at
+pedal-before car vs s g m = rw m

@@ -1,9 +1,8 @@
 -- The byte that is explained is the card's.
 use Rattle.rules.proofs.Offered.{ℕ, suc, ◌+◌, ◌*◌, ◌<◌, add_comm, zero-add, mod-eq_of_lt, add-mod_right, arith, ◌≡◌, refl, sym, ◌∙◌, true, false, none, List}
 use Rattle.rules.proofs.Offered.{ltb, pos, le_z, length, within, at, ◌and◌, moving, rise, engine, gear_at, clutch, byte, pressed, card_at, card, left}
-use Rattle.rules.proofs.Offered.{hold_span}
-use Rattle.rules.proofs.Offered.{kind, about, clutch_reason_at, pedal_down, byte_of, why_lo, why_end, why_fault, early_fault, nothing, said_of, why, by_test}
-use Rattle.rules.proofs.Offered.{at_table, fit_of, gear_in_range, card_mod}
+use Rattle.rules.proofs.Offered.{hold_span, kind, about, clutch_reason_at, pedal_down, byte_of, why_lo, why_end, why_fault, early_fault, nothing, said_of, why}
+use Rattle.rules.proofs.Offered.{by_test, at_table, fit_of, gear_in_range, card_mod}
 use Rattle.rules.specs.declared.Vehicle.{Vehicle}
 use Rattle.reasons.specs.Says.{Shows}
 use Rattle.reasons.proofs.Places.{inside_span, about-next, about_itself, kind-moving, kind-before, kind-rests}
@@ -43,7 +42,7 @@ module _ (car : Vehicle) (vs hs : List ℕ) (s : ℕ) where
     early = early_none car vs hs s e
 
     here_in : s < length vs
-    here_in = (passed_early car vs hs s early).2
+    here_in = (passed_early car vs hs s early).1
 
     -- the gear at the second that is spoken of leaves room for the clutch
     small : moving (at vs (about vs s)) ≡ true → gear_at car vs hs (about vs s) < 16
@@ -53,7 +52,7 @@ module _ (car : Vehicle) (vs hs : List ℕ) (s : ℕ) where
         let B = bounds car vs hs s early in
         let l = inside_span vs i m in
         let r = gear_in_range car vs hs (even car vs hs s early) i m B
-        (fit_of car vs hs (hold_span vs i).lo (hold_span vs i).end (row_none car vs hs s _ e).3 i l.0 l.1) in
+        (fit_of car vs hs (hold_span vs i).lo (hold_span vs i).end (row_none car vs hs s _ e).2 i l.0 l.1) in
         omega (arith, r.1, B.ng_to)
 
     shows_moving : (m : moving (at vs s) ≡ true) → gear_at car vs hs s < 16 → Shows (said_of car vs hs s s none) (card_at car vs hs s)

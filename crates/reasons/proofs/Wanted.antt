@@ -1,9 +1,9 @@
 -- Refused for want of a gear.
 use Rattle.rules.proofs.Offered.{ℕ, ◌-◌, ◌≤◌, ◌<◌, arith, ◌≡◌, refl, sym, ap, ◌∙◌, true, false, Option, none, some, List, eqb, length, leb-true, lt-ltb, eq-eqb}
-use Rattle.rules.proofs.Offered.{eqb-true, eqb-false, within, at, first, drop, low, moving, rise, closing, fits, first_at, Fault, numbered}
-use Rattle.rules.proofs.Offered.{refuse_at, when, no-gear, checks, bad, seconds_fault, work_fault, ◌orelse◌, gear_fault, PassesOthers, role_at, kind, about}
-use Rattle.rules.proofs.Offered.{driven_facts, no_facts, gear_facts, gear_list, sentence, why_lo, why_end, row_fault, why_fault, early_fault, said_of, why}
-use Rattle.rules.proofs.Offered.{by_test, if_ind, and_left, and_right, none_orelse, gears_last, first_found, moving_in, first_choice_plainly, first_at_is}
+use Rattle.rules.proofs.Offered.{eqb-true, eqb-false, within, at, first, drop, low, moving, rise, closing, fits, first_at, Fault, numbered, refuse_at, when}
+use Rattle.rules.proofs.Offered.{no-gear, checks, bad, seconds_fault, work_fault, ◌orelse◌, gear_fault, PassesOthers, role_at, kind, about, driven_facts}
+use Rattle.rules.proofs.Offered.{no_facts, gear_facts, gear_list, sentence, why_lo, why_end, row_fault, why_fault, early_fault, said_of, why, by_test, if_ind}
+use Rattle.rules.proofs.Offered.{and_left, and_right, none_orelse, gears_last, first_found, moving_in, first_choice_plainly, first_at_is}
 use Rattle.rules.specs.declared.Vehicle.{Vehicle}
 use Rattle.rules.specs.declared.GearFacts.{GearFacts}
 use Rattle.reasons.specs.Says.{Wants}
@@ -55,7 +55,7 @@ module _ (car : Vehicle) (vs hs : List ℕ) (i : ℕ) (e : early_fault car vs hs
     none_fits = λ g a b. rw (place (gear_facts car (role_at car vs hs i) (closing (drop i vs)) (at vs i) (rise vs i)) g a b) (listed_none g);
   }
 
-  pub wants_said : Wants (why car vs hs i)
+  wants_said : Wants (why car vs hs i)
   wants_said = let a = itself in rw (said_there car vs hs i e (λ y. omega (arith, y, two)), ← a) (wants_there (why_fault car vs hs i))
 
 nothing_found : {P : Type 0} {f : Fault} → some f ≡ none → P

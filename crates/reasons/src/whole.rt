@@ -1,54 +1,31 @@
 // A second of a trace explained, or the refusal that leaves nothing to be said.
-ghost use Rattle.std.specs.Prelude.{◌≡◌, ◌-◌, ◌<◌, length};
+ghost use Rattle.std.specs.Prelude.{◌≡◌, ◌<◌, length, IfOk};
 ghost use Rattle.rules.specs.Units.{start, stop};
 ghost use Rattle.rules.specs.Refusals.{said};
 ghost use Rattle.rules.specs.Edit.{hold_span};
-ghost use Rattle.rules.specs.Why.{kind, about, nothing, why_fault, why};
+ghost use Rattle.rules.specs.Why.{kind, early_fault, why_fault, why};
+ghost use Rattle.reasons.specs.Asks.{kind_code, Viewed, Passed};
 
-use crate::Explained;
-use crate::explain::{explain, nothing, uncorrected};
-use checks::{Asked, Span, check_gears, check_opening, check_seconds, trip_start, trip_stop};
-use gears::{derate, numbers_of};
-use rules::{Answer, FASTEST, Refusal, Vehicle, moving};
+use crate::explain::{explain, uncorrected};
+use crate::{Explained, Kind, View};
+use checks::{Span, Trace, check_gears, check_opening, check_seconds, trip_start, trip_stop};
+use gears::{Powered, derate};
+use rules::{FASTEST, Reasons, Refusal, Vehicle, moving};
 
-// What the second is: 0 standing, 1 standing before a trip, 2 moving.
-fn kind_of(speeds: &[u16], second: usize) -> u8
+// What the second is. Past the trace's end nothing moves.
+#[tactic(auto, using(crate::proofs::Places::kinds), unfolding(rules::specs::Why::kind))]
+fn kind_of(speeds: &[u16], second: usize) -> Kind
     requires { second < length speeds.now }
-    ensures { result ≡ kind speeds.now second }
+    ensures { kind_code result ≡ kind speeds.now second }
 {
-    if moving(speeds[second]) {
-        return 2;
-    }
     let next = second + 1;
-    if speeds.len() <= next {
-        return 0;
+    if moving(speeds[second]) {
+        Kind::Moving
+    } else if next < speeds.len() && moving(speeds[next]) {
+        Kind::BeforeTrip
+    } else {
+        Kind::Standing
     }
-    if moving(speeds[next]) {
-        return 1;
-    }
-    0
-}
-
-// The second that is spoken of. Where a trip follows, the trace has a next second.
-fn about(speeds: &[u16], second: usize, what: u8) -> usize
-    requires { (second < length speeds.now) × (what ≡ kind speeds.now second) }
-    ensures inside { result < length speeds.now }
-    ensures place { result ≡ about speeds.now second }
-{
-    if what == 1 {
-        return second + 1;
-    }
-    second
-}
-
-// The second before, where there is one.
-fn before(first: usize) -> usize
-    ensures { result ≡ first - 1 }
-{
-    if first == 0 {
-        return 0;
-    }
-    first - 1
 }
 
 // What is looked at, as of a hold: of a moving second its trip with the standing second on either side, as far as the trace has them; of a standing one itself.
@@ -57,117 +34,113 @@ fn hold_span(speeds: &[u16], second: usize, trip: Span) -> Span
     ensures from { result.lo ≡ (hold_span speeds.now second).lo }
     ensures to { result.hi ≡ (hold_span speeds.now second).end }
 {
-    if !moving(speeds[second]) {
-        return Span {
+    if moving(speeds[second]) {
+        Span {
+            lo: trip.lo.saturating_sub(1),
+            hi: (trip.hi + 1).min(speeds.len()),
+        }
+    } else {
+        Span {
             lo: second,
             hi: second + 1,
-        };
-    }
-    let lo = before(trip.lo);
-    let end = trip.hi;
-    if end < speeds.len() {
-        return Span { lo, hi: end + 1 };
-    }
-    Span {
-        lo,
-        hi: speeds.len(),
+        }
     }
 }
 
-// A refusal, of which nothing is said.
-fn refused(answer: Answer) -> Explained
-    ensures answer { result.answer ≡ answer }
-    ensures reasons { result.reasons ≡ nothing }
+// A second as it is seen: before a trip the trip's first second is spoken of, otherwise the second itself.
+fn view_of(speeds: &[u16], second: usize) -> View
+    requires { second < length speeds.now }
+    ensures second { result.second ≡ second }
+    ensures view { Viewed speeds.now result }
 {
-    Explained {
-        answer,
-        reasons: nothing(),
+    let kind = kind_of(speeds, second);
+    let about = if kind == Kind::BeforeTrip {
+        second + 1
+    } else {
+        second
+    };
+    let trip = Span {
+        lo: trip_start(speeds, about),
+        hi: trip_stop(speeds, about),
+    };
+    View {
+        second,
+        kind,
+        about,
+        trip,
+        checked: hold_span(speeds, about, trip),
     }
+}
+
+// 1, 2, 3, 11 and 4 to 9, which leave nothing to be said; and what is seen where they pass.
+fn check_early(car: &Vehicle, speeds: &[u16], holds: &[u8], second: usize) -> Result<View, Refusal>
+    ensures refusal { said result ≡ early_fault car.now speeds.now holds.now second }
+    ensures second { IfOk result (λ view. view.second ≡ second) }
+    ensures view { IfOk result (λ view. Passed car.now speeds.now holds.now view) }
+{
+    check_opening(car, speeds.len(), holds.len(), holds.len())?;
+    if speeds.len() <= second {
+        return Err(Refusal::OutsideTrace(second));
+    }
+    let view = view_of(speeds, second);
+    check_seconds(car, Trace::written(speeds, holds), view.checked)?;
+    Ok(view)
+}
+
+// What is said where the early checks pass and 10 answers so: where it refuses some second of the trip, nothing was corrected.
+fn reasons_with(
+    powered: Powered,
+    speeds: &[u16],
+    holds: &[u8],
+    view: View,
+    answer: Result<(), Refusal>,
+) -> Reasons
+    requires { Passed powered.car.now speeds.now holds.now view × (said answer ≡ why_fault powered.car.now speeds.now holds.now view.second) }
+    ensures { result ≡ why powered.entry.car.now speeds.now holds.now view.second }
+{
+    if view.kind == Kind::Standing {
+        return Reasons::default();
+    }
+    let all = explain(powered, speeds, holds, view);
+    if answer.is_ok() {
+        all
+    } else {
+        uncorrected(all)
+    }
+}
+
+// 10, and what is said with its answer, where the early checks pass.
+fn explained(car: &Vehicle, speeds: &[u16], holds: &[u8], view: View) -> Explained
+    requires { Passed car.now speeds.now holds.now view }
+    ensures answer { said result.answer ≡ why_fault car.now speeds.now holds.now view.second }
+    ensures reasons { result.reasons ≡ why car.now speeds.now holds.now view.second }
+{
+    let mut powers = [0u32; 64];
+    derate(car, &mut powers);
+    let powered = Powered {
+        car,
+        powers: &powers,
+    };
+    let answer = check_gears(
+        powered,
+        Trace::written(speeds, holds),
+        view.checked,
+        FASTEST,
+    );
+    let reasons = reasons_with(powered, speeds, holds, view, answer);
+    Explained { answer, reasons }
 }
 
 // Why the byte of a second is what it is. It looks at the second's trip alone.
-pub fn why<'a>(vehicle: Vehicle, speeds: &'a [u16], holds: &'a [u8], second: usize) -> Explained
+pub fn why(vehicle: Vehicle, speeds: &[u16], holds: &[u8], second: usize) -> Explained
     ensures answer { said result.answer ≡ why_fault vehicle speeds.now holds.now second }
     ensures reasons { result.reasons ≡ why vehicle speeds.now holds.now second }
 {
-    let seconds = speeds.len();
-    let k = numbers_of(vehicle);
-    let opening = check_opening(
-        k,
-        &vehicle.ratio,
-        &vehicle.n,
-        &vehicle.p,
-        &vehicle.m,
-        vehicle.margin,
-        seconds,
-        holds.len(),
-        holds.len(),
-    );
-    let Answer::Done = opening else {
-        return refused(opening);
-    };
-    if seconds <= second {
-        return refused(Answer::Refused(Refusal::OutsideTrace(second)));
+    match check_early(&vehicle, speeds, holds, second) {
+        Ok(view) => explained(&vehicle, speeds, holds, view),
+        Err(refusal) => Explained {
+            answer: Err(refusal),
+            reasons: Reasons::default(),
+        },
     }
-    let what = kind_of(speeds, second);
-    let i = about(speeds, second, what);
-    let trip = Span {
-        lo: trip_start(speeds, i),
-        hi: trip_stop(speeds, i),
-    };
-    let looked = hold_span(speeds, i, trip);
-    let mut powers = [0u32; 64];
-    derate(
-        vehicle.margin,
-        &vehicle.p,
-        &vehicle.m,
-        vehicle.points,
-        &mut powers,
-    );
-    // nothing is asked for: the second lies past the trace
-    let none = Asked {
-        second: seconds,
-        speed: 0,
-        gear: 0,
-    };
-    let early = check_seconds(k, &vehicle.ratio, speeds, holds, none, looked);
-    let Answer::Done = early else {
-        return refused(early);
-    };
-    let answer = check_gears(
-        k,
-        &vehicle.ratio,
-        &vehicle.n,
-        &powers,
-        speeds,
-        holds,
-        none,
-        looked,
-        FASTEST,
-    );
-    if what == 0 {
-        return Explained {
-            answer,
-            reasons: nothing(),
-        };
-    }
-    let reasons = explain(
-        k,
-        &vehicle.ratio,
-        &vehicle.n,
-        &powers,
-        speeds,
-        holds,
-        second,
-        what,
-        trip,
-        i,
-    );
-    let Answer::Done = answer else {
-        return Explained {
-            answer,
-            reasons: uncorrected(reasons),
-        };
-    };
-    Explained { answer, reasons }
 }

@@ -42,8 +42,7 @@ pub use native.Mathlib.Nat.{mul_comm, mul-div-mul_left, mul-le-mul, mul-le-mul_l
 pub use native.Mathlib.Nat.{sub_self, sub-zero, suc-add, suc-mul, zero-add, zero-mul}
 pub use native.Mathlib.Numerals.{add-one, one-add}
 pub use native.Mathlib.Omega.{arith}
-pub use Rattle.rules.specs.declared.Answer.{Answer}
-pub use Rattle.rules.specs.declared.Answer.TheVariants.{Done, Refused}
+pub use Rattle.std.specs.Prelude.{Result, Ok, Err}
 pub use Rattle.rules.specs.declared.Edit.{Edit}
 pub use Rattle.rules.specs.declared.Edit.TheVariants.{Hold, Mend, Release}
 pub use Rattle.rules.specs.declared.Refusal.{Refusal}
@@ -55,3 +54,4 @@ pub use Rattle.rules.specs.declared.Role.{Role}
 pub use Rattle.rules.specs.declared.Role.TheVariants.{AfterLow, Closing, First, Inner}
 pub use Rattle.rules.specs.declared.Summary.{Summary}
 pub use Rattle.rules.specs.declared.Vehicle.{Vehicle}
+pub use Rattle.rules.specs.Refusals.{Answer}

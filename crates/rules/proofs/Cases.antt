@@ -2,7 +2,7 @@
 pub mod Rows
 pub mod Cars
 use Rattle.rules.proofs.Base.{◌≡◌, refl, true, false, none, some, List, [], ◌∷◌, pos, neg_ℤ, ◌*ℤ◌, replicate, drop, set, take, First, Closing, AfterLow}
-use Rattle.rules.proofs.Base.{Inner, Hold, Release, Mend, ◌++◌, Done, Refused, TraceLength, RoomLength, VehicleField, OutsideTrace, SpeedOver}
+use Rattle.rules.proofs.Base.{Inner, Hold, Release, Mend, ◌++◌, Ok, Err, TraceLength, RoomLength, VehicleField, OutsideTrace, SpeedOver}
 use Rattle.rules.proofs.Base.{StepOver, EndMoving, HoldNotDriven, HoldStanding, HoldOverRev, NoGear, JobEndsEarly, BadGroup, BadVersion, BadHold}
 use Rattle.rules.proofs.Base.{BytesAfter, RoomShort, BadPart, BadKind, NotFinite, OutOfBounds, KindMissing, BadFactor}
 use Rattle.rules.specs.Vocabulary.{bytes_of, shows_gears, first_gear_everywhere, one_trip_worked, first_trip_worked}
@@ -259,10 +259,10 @@ rows =
     ∷ row (test (said_of_gear trace 1 1).over_minimum) (test false)
     ∷ row (test (said_of_gear trace 1 1).fits) (test true)
     -- document 01's table, and the numbers of document 02: each refusal with its number and its place; accepted is 0 at 0
-    ∷ row (numbers (told_all (Done ∷ Refused TraceLength ∷ Refused RoomLength ∷ Refused (VehicleField 7) ∷ Refused (OutsideTrace 7) ∷ Refused (SpeedOver 7) ∷
-    Refused (StepOver 7) ∷ Refused (EndMoving 7) ∷ Refused (HoldNotDriven 7) ∷ Refused (HoldStanding 7) ∷ Refused (HoldOverRev 7) ∷ Refused (NoGear 7) ∷
-    Refused (JobEndsEarly 7) ∷ Refused (BadGroup 7) ∷ Refused BadVersion ∷ Refused (BadHold 7) ∷ Refused (BytesAfter 7) ∷ Refused (RoomShort 7) ∷ Refused
-    BadPart ∷ Refused (BadKind 7) ∷ Refused (NotFinite 7) ∷ Refused (OutOfBounds 7) ∷ Refused (KindMissing 7) ∷ Refused BadFactor ∷ [])))
+    ∷ row (numbers (told_all (Ok tt ∷ Err TraceLength ∷ Err RoomLength ∷ Err (VehicleField 7) ∷ Err (OutsideTrace 7) ∷ Err (SpeedOver 7) ∷
+    Err (StepOver 7) ∷ Err (EndMoving 7) ∷ Err (HoldNotDriven 7) ∷ Err (HoldStanding 7) ∷ Err (HoldOverRev 7) ∷ Err (NoGear 7) ∷
+    Err (JobEndsEarly 7) ∷ Err (BadGroup 7) ∷ Err BadVersion ∷ Err (BadHold 7) ∷ Err (BytesAfter 7) ∷ Err (RoomShort 7) ∷ Err
+    BadPart ∷ Err (BadKind 7) ∷ Err (NotFinite 7) ∷ Err (OutOfBounds 7) ∷ Err (KindMissing 7) ∷ Err BadFactor ∷ [])))
     (numbers (0 ∷ 0 ∷ 1 ∷ 0 ∷ 2 ∷ 0 ∷ 3 ∷ 7 ∷ 11 ∷ 7 ∷ 4 ∷ 7 ∷ 5 ∷ 7 ∷ 6 ∷ 7 ∷ 7 ∷ 7 ∷ 8 ∷ 7 ∷ 9 ∷ 7 ∷ 10 ∷ 7 ∷ 12 ∷ 7 ∷ 13 ∷ 7 ∷ 14 ∷ 0 ∷ 15 ∷ 7 ∷ 16 ∷ 7 ∷
     17 ∷ 7 ∷ 18 ∷ 0 ∷ 19 ∷ 7 ∷ 20 ∷ 7 ∷ 21 ∷ 7 ∷ 22 ∷ 7 ∷ 23 ∷ 0 ∷ []))
     -- what a second is goes by the first choice before it: after gear 1, though gear 2 is chosen at the second itself

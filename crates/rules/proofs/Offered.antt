@@ -83,7 +83,7 @@ pub use Rattle.rules.proofs.Laws.Power.{segment-holds, segment_unique}
 pub use Rattle.rules.proofs.Laws.Range.{E, ◌⊕◌, ◌⊖◌, ◌⊗◌, from_i32_fits, is, le_read, lit, lt_read, natAbs_gap, product, rd, read, result, small_i32}
 pub use Rattle.rules.proofs.Laws.Range.{var}
 pub use Rattle.rules.proofs.Laws.Reading.{ends_first, ends_second, ends_third, good, one, three, three_bad, three_if, three_of, two, two_bad, two_of}
-pub use Rattle.rules.proofs.Laws.Refusals.{refusal_once, said_once}
+pub use Rattle.rules.proofs.Laws.Refusals.{brought_once, handed_up, refusal_once, said_once}
 pub use Rattle.rules.proofs.Laws.Rooms.{filled_beyond, left_beyond}
 pub use Rattle.rules.proofs.Laws.Searches.{Found, first_found, first_none, highest-holds, highest_none, none_first}
 pub use Rattle.rules.proofs.Laws.Sizes.{Q_size, derated_is, required_size, w_size}

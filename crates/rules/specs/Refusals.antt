@@ -1,5 +1,5 @@
 -- Document 01, "Numbers of refusal": number and place of each, and those of the whole working.
-use Rattle.std.specs.Prelude.{ℕ, suc, ◌+◌, ◌-◌, Bool, not, List, [], ◌∷◌, ◌++◌, length, ltb, eqb, if◌then◌else◌}
+use Rattle.std.specs.Prelude.{ℕ, suc, ◌+◌, ◌-◌, Bool, not, List, [], ◌∷◌, ◌++◌, length, ltb, eqb, if◌then◌else◌, Result, Ok, Err}
 use Rattle.rules.specs.Words.{Option, none, some, ◌and◌, ◌or◌, within}
 use Rattle.rules.specs.Words.{at, first}
 use Rattle.rules.specs.declared.Vehicle.{Vehicle}
@@ -7,8 +7,6 @@ use Rattle.rules.specs.declared.Refusal.{Refusal}
 use Rattle.rules.specs.declared.Refusal.TheVariants.{TraceLength, RoomLength, VehicleField, OutsideTrace, SpeedOver, StepOver, EndMoving, HoldNotDriven}
 use Rattle.rules.specs.declared.Refusal.TheVariants.{HoldStanding, HoldOverRev, NoGear, JobEndsEarly, BadGroup, BadVersion, BadHold, BytesAfter}
 use Rattle.rules.specs.declared.Refusal.TheVariants.{RoomShort, BadPart, BadKind, NotFinite, OutOfBounds, KindMissing, BadFactor}
-use Rattle.rules.specs.declared.Answer.{Answer}
-use Rattle.rules.specs.declared.Answer.TheVariants.{Done, Refused}
 use Rattle.rules.specs.Units.{bad_field, low, longest, fastest, steepest, moving}
 use Rattle.rules.specs.Gears.{is_under_nmax}
 use Rattle.rules.specs.Corrections.{first_at, card}
@@ -53,15 +51,19 @@ fault (KindMissing b) = numbered 22 b
 -- document 02, request Eleven
 fault BadFactor = numbered 23 0
 
--- what an answer says: nothing, or the refusal's number and place
-unfoldable pub said : Answer → Option Fault
-said Done = none
-said (Refused r) = some (fault r)
+-- what a check answers: nothing, or the refusal
+abbrev pub Answer : Type 0
+Answer = Result (Unit {0}) Refusal
+
+-- what an answer says: nothing, whatever it brings, or the refusal's number and place
+unfoldable pub said : {A : Type 0} → Result A Refusal → Option Fault
+said (Ok x) = none
+said (Err r) = some (fault r)
 
 -- the same as two numbers: 0 and 0 where nothing is refused
-abbrev pub told : Answer → Fault
-told Done = numbered 0 0
-told (Refused r) = fault r
+abbrev pub told : {A : Type 0} → Result A Refusal → Fault
+told (Ok x) = numbered 0 0
+told (Err r) = fault r
 
 -- ---- checks in a row
 

@@ -1,9 +1,10 @@
 // The functions of the other crates, each called for a line.
-use crate::lines::{Draft, Line, at_most, begun, wide};
+use crate::lines::{Draft, Line, begun};
 use crate::says::{say, say_answer, say_bytes, say_number, say_summary, say_value, say_values};
-use rules::Vehicle;
-use std::io::Result;
-use summaries::Summarized;
+use exports::Export;
+use reading::{Reading, blank};
+use rules::{Refusal, Summary, Vehicle};
+use std::io;
 
 // What a line asks for: its first letter and its first two numbers.
 #[derive(Clone, Copy)]
@@ -13,20 +14,19 @@ struct Asked {
     two: u16,
 }
 
-// The edit that is asked for; none where only the working is.
+// The edit that is asked for; where only the working is, what that answered.
 fn edited(
     asked: Asked,
     car: Vehicle,
     speeds: &mut [u16],
     holds: &mut [u8],
     card: &mut [u8],
-    worked: Summarized,
-) -> Summarized {
-    let second = wide(asked.one);
+    worked: Result<Summary, Refusal>,
+    was: Summary,
+) -> Result<Summary, Refusal> {
+    let second = usize::from(asked.one);
     let value = asked.two;
-    let was = worked.summary;
-    let verb = asked.verb;
-    match verb {
+    match asked.verb {
         b'h' => edits::hold(car, speeds, holds, card, second, (value % 256) as u8, was),
         b'r' => edits::release(car, speeds, holds, card, second, was),
         b'm' => edits::mend(car, speeds, holds, card, second, value, was),
@@ -42,25 +42,16 @@ fn screen(
     speeds: &mut [u16],
     holds: &mut [u8],
     card: &mut [u8],
-) -> Result<()> {
+) -> io::Result<()> {
     let answer = cards::work(car, speeds, holds, card);
-    let counted = summaries::summary_of(speeds, card);
-    let summary = counted.summary;
-    let now = edited(
-        asked,
-        car,
-        speeds,
-        holds,
-        card,
-        Summarized { answer, summary },
-    );
-    let told = now.answer;
-    let counts = now.summary;
-    say_answer(to, told)?;
+    let summary = summaries::summary_of(speeds, card).unwrap_or_default();
+    let worked = answer.map(|_| summary);
+    let now = edited(asked, car, speeds, holds, card, worked, summary);
+    say_answer(to, now.map(|_| ()))?;
     say_values(to, speeds)?;
     say_bytes(to, holds)?;
     say_bytes(to, card)?;
-    say_summary(to, counts)
+    say_summary(to, now.unwrap_or(summary))
 }
 
 // The job written into a room, and that room.
@@ -71,10 +62,9 @@ fn save<'a>(
     speeds: &'a [u16],
     holds: &'a [u8],
     room: &mut [u8],
-) -> Result<()> {
+) -> io::Result<()> {
     let written = writing::write(version, car, speeds, holds, room);
-    let told = written.answer;
-    say_answer(to, told)?;
+    say_answer(to, written.map(|_| ()))?;
     say_bytes(to, room)
 }
 
@@ -85,34 +75,36 @@ fn save_in<'a>(
     car: Vehicle,
     speeds: &'a [u16],
     holds: &'a [u8],
-) -> Result<()> {
+) -> io::Result<()> {
     let mut room = [7u8; 256];
-    let m = at_most(wide(asked.two), 256);
+    let m = usize::from(asked.two).min(256);
     save(to, asked.one, car, speeds, holds, &mut room[..m])
 }
 
-// The job read, and what is asked of it then.
-fn of_job(to: &impl Print, asked: Asked, job: &[u8]) -> Result<()> {
+// The job read, and what is asked of it then; where it was refused, it is asked of a vehicle of zeros and a trace of no seconds.
+fn of_job(to: &impl Print, asked: Asked, job: &[u8]) -> io::Result<()> {
     let mut speeds = [7u16; 24];
     let mut holds = [7u8; 24];
     let read = reading::read(job, &mut speeds, &mut holds);
-    let n = at_most(read.count, 24);
-    let car = read.vehicle;
-    let verb = asked.verb;
-    match verb {
+    let Reading { vehicle, count, .. } = read.unwrap_or(Reading {
+        version: 0,
+        vehicle: blank(),
+        count: 0,
+    });
+    let n = count.min(24);
+    match asked.verb {
         b'j' => {
-            let told = read.answer;
-            say_answer(to, told)?;
+            say_answer(to, read.map(|_| ()))?;
             say_values(to, &speeds)?;
             say_bytes(to, &holds)
         }
-        b's' => save_in(to, asked, car, &speeds[..n], &holds[..n]),
+        b's' => save_in(to, asked, vehicle, &speeds[..n], &holds[..n]),
         _ => {
             let mut card = [99u8; 24];
             screen(
                 to,
                 asked,
-                car,
+                vehicle,
                 &mut speeds[..n],
                 &mut holds[..n],
                 &mut card[..n],
@@ -122,7 +114,7 @@ fn of_job(to: &impl Print, asked: Asked, job: &[u8]) -> Result<()> {
 }
 
 // F1 may be negative: its sign.
-fn say_sign(to: &impl Print, f1: i32) -> Result<()> {
+fn say_sign(to: &impl Print, f1: i32) -> io::Result<()> {
     if f1 < 0 {
         say(to, b" -")
     } else if 0 < f1 {
@@ -132,52 +124,46 @@ fn say_sign(to: &impl Print, f1: i32) -> Result<()> {
     }
 }
 
-fn of_export(to: &impl Print, bytes: &[u8]) -> Result<()> {
+fn of_export(to: &impl Print, bytes: &[u8]) -> io::Result<()> {
     let read = exports::read_export(bytes);
-    let told = read.answer;
-    say_answer(to, told)?;
+    say_answer(to, read.map(|_| ()))?;
+    let Export { f0, f1, f2, tm } = read.unwrap_or_default();
     say(to, b",")?;
-    say_value(to, read.f0)?;
-    say_sign(to, read.f1)?;
-    say_value(to, read.f2)?;
-    say_value(to, read.tm)
+    say_value(to, f0)?;
+    say_sign(to, f1)?;
+    say_value(to, f2)?;
+    say_value(to, tm)
 }
 
-fn fill(to: &impl Print, asked: Asked, room: &mut [u16]) -> Result<()> {
-    let number = asked.one as u32;
+fn fill(to: &impl Print, asked: Asked, room: &mut [u16]) -> io::Result<()> {
+    let number = u32::from(asked.one);
     if asked.verb == b'f' {
-        let told = cycles::fill(number, room);
-        say_answer(to, told)?;
+        say_answer(to, cycles::fill(number, room))?;
         return say_number(to, cycles::part_of(room, number).len() as u64);
     }
-    let told = downscale::downscale(number, room);
-    say_answer(to, told)
+    say_answer(to, downscale::downscale(number, room))
 }
 
 // The speeds at the places that the line names.
-fn say_places(to: &impl Print, line: Line, room: [u16; 2048]) -> Result<()> {
+fn say_places(to: &impl Print, line: Line, room: [u16; 2048]) -> io::Result<()> {
     say(to, b",")?;
-    let last = at_most(line.last, 127);
-    let mut i = 3;
-    while i <= last {
-        let at = wide(line.numbers[i]);
-        if at < 2048 {
-            say_value(to, room[at])?;
+    for i in 3..line.last.min(127) + 1 {
+        if let Some(speed) = room.get(usize::from(line.numbers[i])) {
+            say_value(to, *speed)?;
         }
-        i += 1;
     }
     Ok(())
 }
 
 // In a room's first places.
-fn of_cycle(to: &impl Print, asked: Asked, line: Line) -> Result<()> {
+fn of_cycle(to: &impl Print, asked: Asked, line: Line) -> io::Result<()> {
     let mut room = [9999u16; 2048];
-    let n = at_most(wide(asked.two), 2048);
+    let n = usize::from(asked.two).min(2048);
     fill(to, asked, &mut room[..n])?;
     say_places(to, line, room)
 }
 
-pub fn run_line(to: &impl Print, line: Line, job: Draft) -> Result<()> {
+pub fn run_line(to: &impl Print, line: Line, job: Draft) -> io::Result<()> {
     let bytes = job.bytes;
     let part = begun(&bytes, job.end);
     let verb = line.verb;

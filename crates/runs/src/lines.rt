@@ -1,7 +1,7 @@
-// A line of cases: its first letter and its numbers; and the job that lines put together.
-ghost use Rattle.std.specs.Prelude.{◌≤◌};
+// A line of cases, and the job that lines put together. Their arrays have a count beside them: nothing here has a heap. An
+// `as` fits: the remainder is a byte.
 
-// The numbers stand from 1 to `last`.
+// A line: its first letter, by which the file of cases tells what to do, and its numbers, from place 1 to `last`.
 #[derive(Clone, Copy)]
 pub struct Line {
     pub verb: u8,
@@ -16,29 +16,13 @@ pub struct Draft {
     pub end: usize,
 }
 
-pub fn at_most(n: usize, most: usize) -> usize
-    ensures { result ≤ most }
-{
-    if n < most {
-        return n;
-    }
-    most
-}
-
-pub fn wide(n: u16) -> usize {
-    n as usize
-}
-
 // The first n bytes, or all that there are.
 pub fn begun(bytes: &[u8], n: usize) -> &[u8] {
-    if bytes.len() < n {
-        return bytes;
-    }
-    &bytes[..n]
+    &bytes[..n.min(bytes.len())]
 }
 
 fn with_digit(number: u16, digit: u8) -> u16 {
-    ((number as u32 * 10 + (digit % 16) as u32) % 65536) as u16
+    number.wrapping_mul(10).wrapping_add(u16::from(digit % 16))
 }
 
 impl Line {
@@ -59,17 +43,12 @@ impl Line {
 
 pub fn parse(text: &[u8]) -> Line {
     let mut line = Line {
-        verb: b'#',
+        verb: *text.first().unwrap_or(&b'#'),
         numbers: [0u16; 128],
         last: 0,
     };
-    if 0 < text.len() {
-        line.verb = text[0];
-    }
-    let mut i = 0;
-    while i < text.len() {
-        line = line.and(text[i]);
-        i += 1;
+    for byte in text {
+        line = line.and(*byte);
     }
     line
 }
@@ -88,6 +67,7 @@ impl Draft {
     fn with_group(self, number: u16) -> Draft {
         let mut job = self;
         let mut left = number;
+        // It goes on while there are bits above the last seven: how many groups there are is found out by this.
         while 128 <= left {
             job = job.with_byte((128 + left % 128) as u8);
             left /= 128;
@@ -107,11 +87,8 @@ impl Draft {
     pub fn with_rest(self, line: Line) -> Draft {
         let mut job = self;
         job.end = job.car;
-        let last = at_most(line.last, 127);
-        let mut i = 1;
-        while i <= last {
-            job = job.with_number(line.verb, line.numbers[i]);
-            i += 1;
+        for number in &line.numbers[1..line.last.min(127) + 1] {
+            job = job.with_number(line.verb, *number);
         }
         job
     }

@@ -11,9 +11,8 @@
 //   downscale FACTOR N PLACES         the scaled cycle
 #![tactic(auto)]
 
-ghost use Rattle.std.specs.Prelude.{◌≤◌, length, IfOk};
-
-use std::io::{Read, Result};
+use inputs::read_full;
+use std::io;
 
 mod cases;
 mod lines;
@@ -24,11 +23,10 @@ use lines::{Draft, begun, parse};
 use says::say;
 
 // The job after this line, and what was answered.
-fn after(to: &impl Print, text: &[u8], job: Draft) -> Result<Draft> {
+fn after(to: &impl Print, text: &[u8], job: Draft) -> io::Result<Draft> {
     say(to, text)?;
     let line = parse(text);
-    let verb = line.verb;
-    let next = match verb {
+    let next = match line.verb {
         b'c' => job.with_car(line),
         b't' | b'b' => job.with_rest(line),
         _ => job,
@@ -39,41 +37,24 @@ fn after(to: &impl Print, text: &[u8], job: Draft) -> Result<Draft> {
 }
 
 // Line by line.
-fn run_all(to: &impl Print, text: &[u8]) -> Result<()> {
+fn run_all(to: &impl Print, text: &[u8]) -> io::Result<()> {
     let mut job = Draft {
         bytes: [0u8; 256],
         car: 0,
         end: 0,
     };
+    // where the line begins that ends at the next line feed
     let mut start = 0;
-    let mut i = 0;
-    while i < text.len() {
-        let end = i;
-        i += 1;
+    for end in 0..text.len() {
         if text[end] == b'\n' {
             job = after(to, &text[start..end], job)?;
-            start = i;
+            start = end + 1;
         }
     }
     Ok(())
 }
 
-// Reads until the memory is full or the input ends, and answers how many bytes came.
-fn read_full(input: &mut impl Read, text: &mut [u8]) -> Result<usize>
-    ensures { IfOk result (λ n. n ≤ length text.new) }
-{
-    let mut done = 0;
-    while done < text.len() {
-        let n = input.read(&mut text[done..])?;
-        if n == 0 {
-            break;
-        }
-        done += n;
-    }
-    Ok(done)
-}
-
-fn main(rt: HostRuntime) -> Result<()> {
+fn main(rt: HostRuntime) -> io::Result<()> {
     let mut text = [0u8; 8192];
     let n = read_full(&mut rt.stdin(), &mut text)?;
     run_all(&rt, begun(&text, n))

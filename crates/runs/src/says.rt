@@ -1,62 +1,54 @@
 // What was answered, as text.
-use rules::{Answer, Summary};
-use std::io::Result;
+use rules::{Refusal, Summary};
+use std::io;
 
-pub fn say(to: &impl Print, text: &[u8]) -> Result<()> {
+pub fn say(to: &impl Print, text: &[u8]) -> io::Result<()> {
     to.write_all(text)
 }
 
-pub fn say_number(to: &impl Print, n: u64) -> Result<()> {
+pub fn say_number(to: &impl Print, n: u64) -> io::Result<()> {
     say(to, b" ")?;
     to.print(n)
 }
 
-pub fn say_answer(to: &impl Print, answer: Answer) -> Result<()> {
+pub fn say_answer(to: &impl Print, answer: Result<(), Refusal>) -> io::Result<()> {
     match answer {
-        Answer::Done => say(to, b": done"),
-        Answer::Refused(refusal) => {
+        Ok(()) => say(to, b": done"),
+        Err(refusal) => {
             say(to, b": refused")?;
-            say_number(to, refusal.number() as u64)?;
+            say_number(to, u64::from(refusal.number()))?;
             say(to, b" at")?;
+            // `as`: From has none from usize
             say_number(to, refusal.place() as u64)
         }
     }
 }
 
-pub fn say_value(to: &impl Print, value: u16) -> Result<()> {
-    say_number(to, value as u64)
+pub fn say_value(to: &impl Print, value: u16) -> io::Result<()> {
+    say_number(to, u64::from(value))
 }
 
-fn say_byte(to: &impl Print, byte: u8) -> Result<()> {
-    say_number(to, byte as u64)
-}
-
-pub fn say_values(to: &impl Print, values: &[u16]) -> Result<()> {
+pub fn say_values(to: &impl Print, values: &[u16]) -> io::Result<()> {
     say(to, b",")?;
-    let mut i = 0;
-    while i < values.len() {
-        say_value(to, values[i])?;
-        i += 1;
+    for value in values {
+        say_value(to, *value)?;
     }
     Ok(())
 }
 
-pub fn say_bytes(to: &impl Print, bytes: &[u8]) -> Result<()> {
+pub fn say_bytes(to: &impl Print, bytes: &[u8]) -> io::Result<()> {
     say(to, b",")?;
-    let mut i = 0;
-    while i < bytes.len() {
-        say_byte(to, bytes[i])?;
-        i += 1;
+    for byte in bytes {
+        say_value(to, u16::from(*byte))?;
     }
     Ok(())
 }
 
 // Standing seconds, seconds in each gear, gear changes.
-pub fn say_summary(to: &impl Print, summary: Summary) -> Result<()> {
-    let gears = summary.gears;
+pub fn say_summary(to: &impl Print, summary: Summary) -> io::Result<()> {
     say(to, b",")?;
     say_value(to, summary.standing)?;
-    say_values(to, &gears)?;
+    say_values(to, &summary.gears)?;
     say(to, b",")?;
     say_value(to, summary.changes)
 }

@@ -1,7 +1,6 @@
 -- Each public function's contract allows one outcome. `Reads` is the contract's own reading, which the check makes of the clauses.
-use Rattle.rules.proofs.Offered.{◌≡◌, refl, sym, ◌∙◌, said, said_once}
+use Rattle.rules.proofs.Offered.{refl, sym, ◌∙◌, brought_once}
 use Rattle.rules.specs.Determined.{Determined}
-use Rattle.summaries.specs.declared.Summarized.{Summarized}
 use Rattle.summaries.proofs.whole.summary_of.Kinds as summary-of-kinds
 use Rattle.summaries.proofs.whole.summary_of.Reads as summary-of-reads
 use Rattle.summaries.proofs.stretch.count.Kinds as count-kinds
@@ -11,12 +10,8 @@ use Rattle.summaries.proofs.stretch.none_counted.Reads as none-counted-reads
 use Rattle.summaries.proofs.settle.updated.Kinds as updated-kinds
 use Rattle.summaries.proofs.settle.updated.Reads as updated-reads
 
--- an answer that says the same, with the same summary
-pub counted_once : (z z' : Summarized) → said z.answer ≡ said z'.answer → z.summary ≡ z'.summary → z ≡ z'
-counted_once z z' e f i = record { answer = said_once z.answer z'.answer e i; summary = f i }
-
 pub summary_of : Determined summary-of-kinds.ps summary-of-kinds.r summary-of-reads.Asked summary-of-reads.Learnt
-summary_of κs a asked z z' ws ws' p q = (counted_once z z' (p.0 ∙ sym q.0) (p.1 ∙ sym q.1), refl)
+summary_of κs a asked z z' ws ws' p q = (brought_once z z' _ (p.0 ∙ sym q.0) (p.1 ∙ sym q.1), refl)
 
 pub count : Determined count-kinds.ps count-kinds.r count-reads.Asked count-reads.Learnt
 count κs a asked z z' ws ws' p q = (p ∙ sym q, refl)

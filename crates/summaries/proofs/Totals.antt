@@ -1,17 +1,23 @@
 -- A whole card counted: what counting it asks, and that the counts are its summary.
-use Rattle.rules.proofs.Offered.{ℕ, ◌-◌, ◌≤◌, arith, ◌≡◌, sym, ap, ◌∙◌, Option, none, List, [], length, moving, longest, Fault, said, trace_fault}
+use Rattle.rules.proofs.Offered.{ℕ, ◌-◌, ◌≤◌, arith, ◌≡◌, none, List, [], length, moving, longest, trace_fault}
 use Rattle.rules.proofs.Offered.{room_fault, summary, summary_fault, counted_summary, updated, standing_past, trace_in, rooms_in, left_none, orelse_none}
 use Rattle.rules.proofs.Offered.{counts, updated_right}
 use Rattle.rules.specs.declared.Summary.{Summary}
-use Rattle.rules.specs.declared.Answer.{Answer}
-use Rattle.rules.specs.declared.Answer.TheVariants.{Done}
+use Rattle.std.specs.List.{range_with_len}
+use Rattle.std.specs.Array.{AllOfLen}
+use Rattle.std.proofs.lemmas.List.FromFn.{fill_by_all}
+use Rattle.rules.proofs.Offered.{map, same_counts, table, tally}
 use Rattle.summaries.specs.declared.Tally.{Tally}
 use Rattle.summaries.specs.Tallies.{tallied, in_ten, Countable}
 use Rattle.summaries.proofs.Counting.{ten_of}
 
--- an answer that refuses nothing
-pub said_done : {x : Answer} {f : Option Fault} → said x ≡ f → x ≡ Done → said Done ≡ f
-said_done e h = sym (ap said h) ∙ e
+-- what `Default` makes of a summary is that of no seconds
+pub default_is : (n : Summary) → (n.standing ≡ 0) × (AllOfLen (λ x. x ≡ 0) n.gears 10 × (n.changes ≡ 0)) → n ≡ summary [] []
+unfolding summary tally table counts
+default_is n h =
+    let A = h.1.0 in
+    let e : n.gears ≡ map (λ k. 0) (range_with_len 0 10) = fill_by_all (λ k. 0) n.gears 10 0 A.long (λ k l. A.at k 0 l) in
+    same_counts h.0 e h.1.1
 
 module _ (vs bs : List ℕ) (ok : summary_fault vs bs ≡ none) where
   lengths : (length vs ≤ 16384) × (length bs ≡ length vs)

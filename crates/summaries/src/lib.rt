@@ -5,19 +5,12 @@ mod settle;
 mod stretch;
 mod whole;
 
-use rules::{Answer, Summary};
 pub use settle::updated;
 pub use stretch::{count, none_counted};
 pub use whole::summary_of;
 
-// An answer, and the summary that goes with it.
-#[derive(Clone, Copy)]
-pub struct Summarized {
-    pub answer: Answer,
-    pub summary: Summary,
-}
-
-// What has been counted so far: moving seconds in each gear that a byte can show, 0 to 15, at place 16 standing seconds; and gear changes.
+// What has been counted so far: moving seconds in each gear that a byte can show, 0 to 15, at place 16 standing seconds, so that a second is counted without
+// a branch; and gear changes.
 #[derive(Clone, Copy)]
 pub struct Tally {
     pub counts: [u16; 17],

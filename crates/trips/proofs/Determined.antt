@@ -1,6 +1,5 @@
 -- Each public function's contract allows one outcome. `Reads` is the contract's own reading, which the check makes of the clauses.
-use Rattle.rules.proofs.Offered.{ℕ, refl, sym, ap, ◌∙◌, List, []}
-use Rattle.gears.proofs.Parts.{built_has}
+use Rattle.rules.proofs.Offered.{ℕ, refl, sym, ap, ◌∙◌, List}
 use Rattle.rules.specs.Determined.{Determined}
 use Rattle.trips.proofs.Closing.{run_once}
 use Rattle.trips.proofs.byte.bytes.Kinds as bytes-kinds
@@ -26,38 +25,29 @@ turning κs a asked z z' ws ws' p q = (p ∙ sym q, refl)
 
 -- the bytes of a trip's gears
 pub bytes : Determined bytes-kinds.ps bytes-kinds.r bytes-reads.Asked bytes-reads.Learnt
-bytes κs a asked z z' ws ws' p q = let H = built_has a.0 (a.1.0.now) in (refl, ap (λ (x : List ℕ). (tt, (tt, (tt, (x, tt))))) (p _ H ∙ sym (q _ H)))
+bytes κs a asked z z' ws ws' p q = (refl, ap (λ (x : List ℕ). (tt, (tt, (x, tt)))) (p ∙ sym q))
 
 -- pass A
 pub pass_a : Determined pass-a-kinds.ps pass-a-kinds.r pass-a-reads.Asked pass-a-reads.Learnt
-pass_a κs a asked z z' ws ws' p q =
-    let H = built_has a.0 (a.1.0.now) in (refl, ap (λ (x : List ℕ). (tt, (tt, (tt, (tt, (x, tt)))))) (p _ H ∙ sym (q _ H)))
+pass_a κs a asked z z' ws ws' p q = (refl, ap (λ (x : List ℕ). (tt, (tt, (tt, (x, tt))))) (p ∙ sym q))
 
 -- pass B
 pub pass_b : Determined pass-b-kinds.ps pass-b-kinds.r pass-b-reads.Asked pass-b-reads.Learnt
-pass_b κs a asked z z' ws ws' p q =
-    let H = built_has a.0 (a.1.0.now) in (refl, ap (λ (x : List ℕ). (tt, (tt, (tt, (tt, (x, tt)))))) (p _ H ∙ sym (q _ H)))
+pass_b κs a asked z z' ws ws' p q = (refl, ap (λ (x : List ℕ). (tt, (tt, (tt, (x, tt))))) (p ∙ sym q))
 
 -- where the closing run begins
 pub closing_from : Determined closing-from-kinds.ps closing-from-kinds.r closing-from-reads.Asked closing-from-reads.Learnt
 closing_from κs a asked z z' ws ws' p q = (run_once (a.0.now) z z' p q, refl)
 
--- pass C, which does not look at the speeds: those that are asked for will do, and some vehicle of these numbers
+-- pass C, which does not look at the speeds: those that are asked for will do
 pub pass_c : Determined pass-c-kinds.ps pass-c-kinds.r pass-c-reads.Asked pass-c-reads.Learnt
 pass_c κs a asked z z' ws ws' p q =
-    let H = built_has a.0 [] in
-    let s = asked.1.speeds in
-    let r = asked.1.run in
-    (refl, ap (λ (x : List ℕ). (tt, (tt, (tt, (x, tt))))) (p _ _ H.counts s r ∙ sym (q _ _ H.counts s r)))
+    let s = asked.1.speeds in let r = asked.1.run in (refl, ap (λ (x : List ℕ). (tt, (tt, (tt, (x, tt))))) (p _ s r ∙ sym (q _ s r)))
 
 -- the first choices of a trip
 pub first_choices : Determined first-choices-kinds.ps first-choices-kinds.r first-choices-reads.Asked first-choices-reads.Learnt
-first_choices κs a asked z z' ws ws' p q =
-    let car = asked.0.car in
-    let L = asked.0.lent in
-    (refl, ap (λ (x : List ℕ). (tt, (tt, (tt, (tt, (tt, (tt, (tt, (tt, (tt, (x, tt))))))))))) (p car L ∙ sym (q car L)))
+first_choices κs a asked z z' ws ws' p q = (refl, ap (λ (x : List ℕ). (tt, (tt, (tt, (tt, (tt, (tt, (x, tt)))))))) (p ∙ sym q))
 
 -- the work on a trip
 pub work_trip : Determined work-trip-kinds.ps work-trip-kinds.r work-trip-reads.Asked work-trip-reads.Learnt
-work_trip κs a asked z z' ws ws' p q =
-    let car = asked.0.car in let L = asked.0.lent in (refl, ap (λ (x : List ℕ). (tt, (tt, (tt, (tt, (tt, (tt, (x, tt)))))))) (p car L ∙ sym (q car L)))
+work_trip κs a asked z z' ws ws' p q = (refl, ap (λ (x : List ℕ). (tt, (tt, (tt, (x, tt))))) (p ∙ sym q))

@@ -2,14 +2,12 @@
 -- And no gear of a trip is above ng + 1.
 use Rattle.rules.proofs.Offered.{ℕ, zero, suc, ◌+◌, ◌-◌, ◌≤◌, ◌<◌, zero-add, le_refl, not-suc-le-zero, add-one, arith, ◌≡◌, refl, sym, ap, ◌∙◌, Option, none}
 use Rattle.rules.proofs.Offered.{some, option_get_or, List, eqb, length, set, replicate, length-replicate, get_or-set_same, get_or-set_other}
-use Rattle.rules.proofs.Offered.{set-get_or, ext_get_or}
+use Rattle.rules.proofs.Offered.{set-get_or, set_out, ext_get_or}
 use Rattle.rules.proofs.Offered.{ltb-true, at, first, pass, table, low, rise, is_under_nmax, floor, ceiling, role_of, here, first_choice, is_peak}
 use Rattle.rules.proofs.Offered.{peak, too_high}
 use Rattle.rules.proofs.Offered.{rising, too_low, slowing, firsts, after_A, after_B, gears, InBounds, by_eq, by_order, if_ind, and_right, length-pass, pass-at}
 use Rattle.rules.proofs.Offered.{pass_later, pass-holds, length-table, at_table, Found, first_found, length-firsts, length_A, length_B, first_is, choose_to}
 use Rattle.rules.specs.declared.Vehicle.{Vehicle}
-use Rattle.gears.specs.declared.Numbers.{Numbers}
-use Rattle.gears.proofs.Parts.{built}
 
 -- ---- one turn further
 
@@ -33,6 +31,15 @@ pub pass_skip : (f : ℕ → List ℕ → ℕ) (gs : List ℕ) (k : ℕ) → ((j
 unfolding pass
 pass_skip f gs zero h = refl
 pass_skip f gs (suc k) h = rw (pass_skip f gs k (λ j l. h j (omega arith)), h k (omega arith)) (set-get_or gs k 0)
+
+-- past the list's end there is no place to write
+pub pass_over : (f : ℕ → List ℕ → ℕ) (gs : List ℕ) {n : ℕ} → length gs ≡ n → (k : ℕ) → n ≤ k → pass f k gs ≡ pass f n gs
+unfolding pass
+pass_over f gs {n} e zero h = let z : 0 ≡ n = omega arith in ap (λ (i : ℕ). pass f i gs) z
+pass_over f gs {n} e (suc k) h =
+    by_eq h
+    (λ z. ap (λ (i : ℕ). pass f i gs) (sym z))
+    (λ l. set_out (pass f k gs) k (f k (pass f k gs)) (simp length-pass (omega (arith, e))) ∙ pass_over f gs e k (omega arith))
 
 -- a list of one place, or the first place of more, if the rule leaves the first alone
 pub pass-first : (f : ℕ → List ℕ → ℕ) (gs : List ℕ) (k : ℕ) → k ≤ 1 → at gs 0 ≡ f 0 gs → gs ≡ pass f k gs
@@ -113,11 +120,6 @@ floor_to car v = go (first (is_under_nmax car v) (low car) (suc car.ng - low car
         let n = suc car.ng - low car in
         let f : Found (is_under_nmax car v) (low car) (low car + n) i = first_found (is_under_nmax car v) n (low car) i e in
         omega (arith, f.from, f.below)
-
--- of a vehicle of these parts
-pub floor_few : (k : Numbers) (ratio : List ℕ) (v : ℕ) → floor (built k ratio) v ≤ suc k.ng
-unfolding built
-floor_few k ratio v = floor_to (built k ratio) v
 
 module _ (car : Vehicle) (C : InBounds car) where
   module _ (us hs : List ℕ) where

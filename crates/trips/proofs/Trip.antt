@@ -1,35 +1,42 @@
 -- What the calls of one trip's work come to, one after the other.
-use Rattle.rules.proofs.Offered.{ℕ, suc, ◌+◌, ◌-◌, ◌*◌, ◌≤◌, ◌<◌, arith, ◌≡◌, sym, ap, ◌∙◌, Bool, true, false, List, leb, eqb, ℤ, length, drop, eq-eqb, ne_eqb}
-use Rattle.rules.proofs.Offered.{InBounds, if◌then◌else◌, ◌and◌, at, pass, table, rise, closing, role_of, here, first_choice, peak, rising, slowing, firsts}
-use Rattle.rules.proofs.Offered.{after_A, after_B, gears, byte, by_order}
+use Rattle.rules.proofs.Offered.{ℕ, suc, ◌-◌, ◌*◌, ◌≤◌, ◌<◌, arith, ◌≡◌, refl, sym, ap, ◌∙◌, Bool, true, false, List, leb, eqb, ℤ, length, drop, eq-eqb, ne_eqb}
+use Rattle.rules.proofs.Offered.{InBounds, if◌then◌else◌, ◌and◌, ◌or◌, at, pass, table, rise, closing, role_of, here, first_choice, peak, rising, slowing}
+use Rattle.rules.proofs.Offered.{firsts, after_A, after_B, gears, byte, by_order, by_test, clash, and_left, and_no, low, engine, choose, fits, suits, allowed}
+use Rattle.rules.proofs.Offered.{is_first, is_under_nmax, le-leb, lt-leb, eqb-true, both, first_choice_plainly}
+use Rattle.std.proofs.lemmas.Bool.Decides.{nat_tests}
 use Rattle.rules.specs.declared.Vehicle.{Vehicle}
 use Rattle.rules.specs.declared.Role.TheVariants.{First}
 use Rattle.trips.proofs.Passes.{pass_same, firsts_fresh}
-use Rattle.gears.specs.declared.Numbers.{Numbers}
-use Rattle.gears.specs.Parts.{low_in, Has, Parts}
-use Rattle.gears.specs.Second.{Driven}
-use Rattle.gears.proofs.Parts.{low_of, ng_of, points_of}
-use Rattle.gears.specs.Choosing.{only_lowest, first_of, first_parts}
-use Rattle.gears.proofs.Speeds.{fits-over, fits_one}
-use Rattle.gears.proofs.Choices.{choice_first}
-use Rattle.trips.specs.Ready.{WithGears, ReadyTrip}
-use Rattle.trips.specs.Trip.{AllMoving, RunFrom, AllGeared, on_way, trip_bytes}
+use Rattle.gears.specs.Choosing.{first_of, first_parts}
+use Rattle.trips.specs.Ready.{WithGears}
+use Rattle.trips.specs.Trip.{RunFrom, AllGeared, on_way, trip_bytes}
 
--- the first choice of a trip's first second with no hold: the lowest gear where it turns at most at nmax, otherwise none
-module _ {car : Vehicle} {k : Numbers} {ratio : List ℕ} (H : Has car k ratio) (b : InBounds car) (v : ℕ) (d : ℤ) (hold : ℕ) (free : hold ≡ 0) {g : ℕ}
-    (e : g ≡ low_in k) where
-  pub first_none : 1000 * k.nmax < at ratio (g - 1) * v → 0 ≡ first_of car First v d hold
-  unfolding first_of only_lowest
-  first_none h = rw (eq-eqb hold 0 free, ← choice_first car b v d, low_of H.counts, ← e, ← fits-over H First v g h)
+module _ (car : Vehicle) (v : ℕ) where
+  -- at a trip's first second the lowest gear fits where it turns at most at nmax, and no other one
+  fits_first : (g : ℕ) → fits car First v g ≡ (eqb g (low car) and leb (engine car (low car) v) (1000 * car.nmax))
+  unfolding fits allowed is_first is_under_nmax ◌and◌ ◌or◌
+  fits_first g = grind (arith, nat_tests)
 
-  pub first_one : at ratio (g - 1) * v ≤ 1000 * k.nmax → g ≡ first_of car First v d hold
-  unfolding first_of only_lowest
-  first_one h = rw (eq-eqb hold 0 free, ← choice_first car b v d, low_of H.counts, ← e, ← fits_one H First v g (omega (arith, e)) h, eq-eqb g (low_in k) e)
+  module _ (b : InBounds car) (d : ℤ) {hold lowest : ℕ} (free : hold ≡ 0) (e : lowest ≡ low car) where
+    -- so with no hold it is the first choice there
+    pub first_one : engine car lowest v ≤ 1000 * car.nmax → lowest ≡ first_of car First v d hold
+    unfolding first_of suits
+    first_one h =
+        let f : fits car First v (low car) ≡ true = rw fits_first (both (eq-eqb (low car) (low car) refl) (le-leb _ _ (rw e at h))) in
+        let only : (g : ℕ) → fits car First v g ≡ true → g ≡ low car = λ g t. eqb-true g (low car) (and_left _ _ (rw fits_first at t)) in
+        let C = first_choice_plainly car First v d b in
+        let l : low car ≤ car.ng = omega (arith, b.low_ng) in
+        rw (eq-eqb hold 0 free) (e ∙ sym (only (choose car First v d)
+        (by_test (suits car First v d (low car))
+        (λ s. (C.choice_enough (low car) l s).fitting)
+        (λ s. (C.choice_most (λ g m. by_test (suits car First v d g) (λ t. clash (rw (only g (and_left _ _ t)) at t) s) (λ t. t)) (low car) l f).fitting))))
 
--- and with one: the held gear
-pub first_held : (car : Vehicle) (v : ℕ) (d : ℤ) (hold : ℕ) → (hold ≡ 0 → ⊥) → hold ≡ first_of car First v d hold
-unfolding first_of
-first_held car v d hold n = rw (ne_eqb hold 0 n)
+    -- otherwise there is none
+    pub first_none : 1000 * car.nmax < engine car lowest v → 0 ≡ first_of car First v d hold
+    unfolding first_of
+    first_none h =
+        let C = first_choice_plainly car First v d b in
+        rw (eq-eqb hold 0 free) (sym (C.choice_none (λ g l. rw fits_first (and_no _ _ (lt-leb _ _ (rw e at h))))))
 
 module _ (car : Vehicle) (us hs : List ℕ) where
   -- a trip's seconds in a row, from its first on: what second j is, and its first choice
@@ -79,18 +86,3 @@ module _ (car : Vehicle) (us hs : List ℕ) where
   pub bytes_is : {g t : List ℕ} → g ≡ gears car us hs → length g ≡ length hs → t ≡ table (λ j. byte car us j (at g j)) 0 (length g) → t ≡ trip_bytes car us hs
   unfolding trip_bytes
   bytes_is e n q = q ∙ rw (n, e)
-
--- the gears are no more than the ratios have places, and the lowest is one of them
-pub gears_few : {k : Numbers} {ratio n p : List ℕ} → Parts k ratio n p → Driven k
-gears_few P = record {
-  ng_to = omega (arith, ng_of P.lent.has.counts, P.lent.bounds.ng_to);
-  low_to = omega (arith, ng_of P.lent.has.counts, low_of P.lent.has.counts, P.lent.bounds.low_ng);
-}
-
--- a search may start from the curve's first segment
-pub first-segment : {k : Numbers} {ratio n p : List ℕ} → Parts k ratio n p → 0 + 1 < k.points
-first-segment P = omega (arith, points_of P.lent.has.counts, P.lent.bounds.points_from)
-
--- every second of a trip that is ready is moving
-pub moves_on : {k : Numbers} {us hs gs : List ℕ} → ReadyTrip k us hs gs → AllMoving us
-moves_on R = record { second = λ i h. R.moves i (omega (arith, R.lists.speeds)) }

@@ -2,80 +2,45 @@
 ghost use Rattle.std.specs.Prelude.{◌≡◌, ◌≤◌, ◌<◌, length};
 ghost use Rattle.rules.specs.Words.{pass};
 ghost use Rattle.rules.specs.Corrections.{ceiling, rising};
-ghost use Rattle.rules.specs.declared.Vehicle.{Vehicle};
-ghost use Rattle.gears.specs.Parts.{Has};
 ghost use Rattle.gears.specs.Second.{Driven};
-ghost use Rattle.trips.specs.Ready.{Aligned, Later, TripSecond};
-ghost use Rattle.trips.specs.Second.{risen};
+ghost use Rattle.trips.specs.Ready.{Aligned};
 
-use gears::{Numbers, floor};
+use gears::floor;
+use rules::Vehicle;
 
-// The ceiling of second j after gear last, as corrected: one more where the two seconds before lie in the trip with equal gears.
-fn ceiling_after(gs: &[u8], j: usize, last: u8) -> usize
-    requires { Later gs.now j last × (j < length gs.now) }
+// The ceiling of second j, from the gears before it, as corrected: one more where the two seconds before lie in the trip with equal gears.
+fn ceiling(gs: &[u8], j: usize) -> usize
+    requires { (1 ≤ j) × (j < length gs.now) }
     ensures { result ≡ ceiling j gs.now }
 {
-    if j < 2 {
-        return last as usize;
+    let last = gs[j - 1];
+    if 2 <= j && last == gs[j - 2] {
+        usize::from(last) + 1
+    } else {
+        usize::from(last)
     }
-    if last == gs[j - 2] {
-        return last as usize + 1;
-    }
-    last as usize
 }
 
-// What pass B makes of second j, whose gear is g, after gear last, as corrected. Most gears are no higher than the one before, so no higher than the ceiling,
-// and stay.
-fn risen(
-    k: Numbers,
-    ratio: &[u16; 10],
-    us: &[u16],
-    hs: &[u8],
-    gs: &[u8],
-    j: usize,
-    g: u8,
-    last: u8,
-) -> u8
-    requires { Driven k × TripSecond us.now hs.now j × Later gs.now j last × (1 ≤ j) × (j < length gs.now) }
-    ensures { (car : Vehicle) → Has car k ratio.now
-        → result ≡ risen car us.now hs.now j (ceiling j gs.now) g }
+// What pass B makes of second j. Most gears are no higher than the one before, so no higher than the ceiling, and stay.
+fn risen(car: &Vehicle, us: &[u16], hs: &[u8], gs: &[u8], j: usize) -> u8
+    requires { Driven car.now × Aligned us.now hs.now gs.now × (1 ≤ j) × (j < length gs.now) }
+    ensures { result ≡ rising car.now us.now hs.now j gs.now }
 {
-    if g <= last {
-        return g;
+    let g = gs[j];
+    if gs[j - 1] < g && hs[j] == 0 && us[j - 1] < us[j] && ceiling(gs, j) < usize::from(g) {
+        // `as` fits: a gear is small
+        ceiling(gs, j).max(floor(car, us[j])) as u8
+    } else {
+        g
     }
-    if hs[j] != 0 {
-        return g;
-    }
-    let v = us[j];
-    if v <= us[j - 1] {
-        return g;
-    }
-    let ceiling = ceiling_after(gs, j, last);
-    if g as usize <= ceiling {
-        return g;
-    }
-    let least = floor(k, ratio, v);
-    if ceiling < least {
-        return least as u8;
-    }
-    ceiling as u8
 }
 
-// Pass B, rising speed. The trip's first second stays, and the gear before goes along, as corrected.
-pub fn pass_b(k: Numbers, ratio: &[u16; 10], us: &[u16], hs: &[u8], gs: &mut [u8])
-    requires { Driven k × Aligned us.now hs.now gs.old }
-    ensures { (car : Vehicle) → Has car k ratio.now
-        → gs.new ≡ pass (rising car us.now hs.now) (length hs.now) gs.old }
+// Pass B, rising speed. The trip's first second stays.
+pub fn pass_b(car: &Vehicle, us: &[u16], hs: &[u8], gs: &mut [u8])
+    requires { Driven car.now × Aligned us.now hs.now gs.old }
+    ensures { gs.new ≡ pass (rising car.now us.now hs.now) (length hs.now) gs.old }
 {
-    if gs.len() < 2 {
-        return;
-    }
-    let mut j = 1;
-    let mut last = gs[0];
-    while j < gs.len() {
-        let g = gs[j];
-        last = risen(k, ratio, us, hs, gs, j, g, last);
-        gs[j] = last;
-        j += 1;
+    for j in 1..gs.len() {
+        gs[j] = risen(car, us, hs, gs, j);
     }
 }

@@ -1,18 +1,22 @@
 -- What the writer promises, and what its own functions do: bytes put into the lent room one after another.
-use Rattle.std.specs.Prelude.{ℕ, ◌≤◌, ◌<◌, ◌≡◌, not, List, [], ◌++◌, length, leb, ltb, eqb, if◌then◌else◌}
-use Rattle.rules.specs.Words.{Option, within, at, table}
+use Rattle.std.specs.Prelude.{ℕ, ◌≤◌, ◌<◌, ◌≡◌, not, List, [], ◌++◌, length, leb, eqb, if◌then◌else◌, Result}
+use Rattle.std.specs.Result.{result_unwrap_or}
+use Rattle.rules.specs.Words.{Option, within, at}
 use Rattle.rules.specs.declared.Vehicle.{Vehicle}
+use Rattle.rules.specs.declared.Refusal.{Refusal}
 use Rattle.rules.specs.Units.{newest, bounds, first_failed}
 use Rattle.rules.specs.Refusals.{Fault, said, refuse_at, ◌orelse◌, when, trace_fault, room_fault, left}
 use Rattle.rules.specs.Groups.{form}
 use Rattle.rules.specs.Forms.{Form, value, only_if, ◌then◌, many}
-use Rattle.rules.specs.Job.{point, filled}
+use Rattle.rules.specs.Job.{point}
 use Rattle.rules.specs.Write.{job_bytes, write_fault, write_room}
-use Rattle.writing.specs.declared.Written.{Written}
 
--- the first k values, and pairs of values in a row, as bytes
-abbrev pub values_bytes : List ℕ → ℕ → List ℕ
-values_bytes vs k = (many value k).write (table (at vs) 0 k)
+-- values in a row, alone and behind their count, and pairs of values, as bytes
+abbrev pub values_bytes : List ℕ → List ℕ
+values_bytes vs = (many value (length vs)).write vs
+
+abbrev pub counted_bytes : List ℕ → List ℕ
+counted_bytes vs = form (length vs) ++ values_bytes vs
 
 unfoldable pub pair : Form (ℕ × ℕ)
 pair = value then λ a. value
@@ -24,22 +28,19 @@ pairs_bytes l = (many pair (length l)).write l
 abbrev pub since : ℕ → ℕ → Form ℕ
 since first v = only_if (leb first v) 0 value
 
--- the first k margins, from version 2 on; and points in a row
+-- margins in a row, from version 2 on; and points in a row
 abbrev pub margin : ℕ → Form ℕ
 margin v = since 2 v
 
-abbrev pub margins_bytes : ℕ → List ℕ → ℕ → List ℕ
-margins_bytes v ms k = (many (margin v) k).write (table (at ms) 0 k)
+abbrev pub margins_bytes : ℕ → List ℕ → List ℕ
+margins_bytes v ms = (many (margin v) (length ms)).write ms
 
 abbrev pub points_bytes : ℕ → List (ℕ × (ℕ × ℕ)) → List ℕ
 points_bytes v l = (many (point v) (length l)).write l
 
--- second and gear of a hold, nothing where there is none; and how many holds that is
+-- second and gear of a hold, nothing where there is none
 unfoldable pub hold_bytes : ℕ → ℕ → List ℕ
 hold_bytes s g = if eqb g 0 then [] else form s ++ form g
-
-unfoldable pub held_one : ℕ → ℕ
-held_one g = if eqb g 0 then 0 else 1
 
 -- holds whose gears have one byte each, at seconds of at most two
 pub record Light (hs : List ℕ) : Type 0 where
@@ -55,18 +56,8 @@ unfoldable pub told_fault : ℕ → Vehicle → List ℕ → List ℕ → Option
 told_fault v car vs hs =
     refuse_at 14 (when (not (within 1 newest v)) 0) orelse trace_fault vs orelse room_fault vs hs hs orelse refuse_at 3 (first_failed 1 (bounds v car))
 
--- 17 alone: the room is too short for these bytes, by the length needed
-unfoldable pub short_fault : List ℕ → List ℕ → Option Fault
-short_fault bytes room = refuse_at 17 (when (ltb (length room) (length bytes)) (length bytes))
-
--- these bytes, which passed the checks before, are written, or the room is too short for them
-pub record BytesAs (bytes room : List ℕ) (r : Written) (room' : List ℕ) : Type 0 where
-  pub answered : said r.answer ≡ short_fault bytes room
-  pub the_length : r.length ≡ left (short_fault bytes room) 0 (length bytes)
-  pub room_left : room' ≡ left (short_fault bytes room) room (filled room bytes)
-
 -- the answer r, and the room as it is left, are what is written: in a refusal no bytes, and the room as it was
-pub record WriteAs (v : ℕ) (car : Vehicle) (vs hs room : List ℕ) (r : Written) (room' : List ℕ) : Type 0 where
-  pub answered : said r.answer ≡ write_fault v car vs hs room
-  pub the_length : r.length ≡ left (write_fault v car vs hs room) 0 (length (job_bytes v car vs hs))
+pub record WriteAs (v : ℕ) (car : Vehicle) (vs hs room : List ℕ) (r : Result ℕ Refusal) (room' : List ℕ) : Type 0 where
+  pub answered : said r ≡ write_fault v car vs hs room
+  pub the_length : result_unwrap_or r 0 ≡ left (write_fault v car vs hs room) 0 (length (job_bytes v car vs hs))
   pub room_left : room' ≡ write_room v car vs hs room

@@ -6,7 +6,6 @@ mod put_groups;
 mod sizes;
 mod writer;
 
-use rules::Answer;
 pub use writer::write;
 
 // How many holds a trace has, and the bytes of their seconds and gears.
@@ -14,11 +13,4 @@ pub use writer::write;
 struct HoldSizes {
     count: u16,
     bytes: usize,
-}
-
-// What the writer answers: how many bytes it wrote, 0 where it refuses.
-#[derive(Clone, Copy)]
-pub struct Written {
-    pub answer: Answer,
-    pub length: usize,
 }

@@ -9,13 +9,14 @@ fn unsigned(f1: i32) -> u16
     requires { nat_abs f1 ≤ 5000 }
     ensures { result ≡ nat_abs (f1 +ℤ pos 5000) }
 {
+    // `as` fits: from 0 to 10,000
     (f1 + 5000) as u16
 }
 
 // Idle, rated, nmax, F0, F1 plus 5,000, F2, TM and M.
-pub fn numbers_between(car: Vehicle) -> [u16; 8]
-    requires { nat_abs car.f1 ≤ 5000 }
-    ensures { result ≡ (parts_of car).1.1.0 }
+pub fn numbers_between(car: &Vehicle) -> [u16; 8]
+    requires { nat_abs car.now.f1 ≤ 5000 }
+    ensures { result ≡ (parts_of car.now).1.1.0 }
 {
     let f1 = unsigned(car.f1);
     [

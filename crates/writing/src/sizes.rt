@@ -1,9 +1,9 @@
-// How long a job is: measured before the first byte is put.
-ghost use Rattle.std.specs.Prelude.{◌≡◌, ◌+◌, ◌≤◌, length, drop};
+// How long a job is: measured before the first byte is put. Each size has a bound, so that no sum of sizes is too large.
+ghost use Rattle.std.specs.Prelude.{◌≡◌, ◌+◌, ◌*◌, ◌≤◌, length, drop};
 ghost use Rattle.rules.specs.Groups.{form};
 ghost use Rattle.rules.specs.Job.{gather, vehicle};
 ghost use Rattle.rules.specs.Inside.{InBounds};
-ghost use Rattle.writing.specs.Writing.{values_bytes, pairs_bytes, since, margins_bytes, held_one, Light};
+ghost use Rattle.writing.specs.Writing.{values_bytes, counted_bytes, pairs_bytes, since, margins_bytes, Light};
 
 use crate::HoldSizes;
 use crate::numbers::numbers_between;
@@ -11,46 +11,45 @@ use rules::Vehicle;
 
 // The bytes of a value's group after its first.
 fn more(v: u16) -> u16
-    ensures { 1 + result ≡ length (form v) }
+    ensures size { 1 + result ≡ length (form v) }
+    ensures few { result ≤ 2 }
 {
-    if v < 128 {
-        return 0;
+    match v {
+        0..=127 => 0,
+        128..=16383 => 1,
+        _ => 2,
     }
-    if v < 16384 {
-        return 1;
-    }
-    2
 }
 
 // The bytes of a value's group.
 pub fn group_size(v: u16) -> usize
-    ensures { result ≡ length (form v) }
+    ensures size { result ≡ length (form v) }
+    ensures few { result ≤ 3 }
 {
-    1 + more(v) as usize
+    1 + usize::from(more(v))
 }
 
-// The bytes of the first so many values. Those after the first of each group are summed up in sixteen bits, so that many values are looked at at once.
-pub fn values_size(values: &[u16], count: usize) -> usize
-    requires { (count ≤ length values.now) × (count ≤ 16384) }
-    ensures { result ≡ length (values_bytes values.now count) }
+// The bytes of values in a row. Those after the first of each group are summed up in sixteen bits, so that many values are looked at at once.
+fn values_size(values: &[u16]) -> usize
+    requires { length values.now ≤ 16384 }
+    ensures size { result ≡ length (values_bytes values.now) }
+    ensures few { result ≤ 3 * length values.now }
 {
     let mut extra: u16 = 0;
-    let mut i = 0;
-    while i < count {
-        extra += more(values[i]);
-        i += 1;
+    for v in values {
+        extra += more(*v);
     }
-    count + extra as usize
+    values.len() + usize::from(extra)
 }
 
-// One where there is a hold.
-fn one(gear: u8) -> u16
-    ensures { result ≡ held_one gear }
+// The bytes of how many there are, and of the values.
+pub fn counted_size(values: &[u16]) -> usize
+    requires { length values.now ≤ 16384 }
+    ensures size { result ≡ length (counted_bytes values.now) }
+    ensures few { result ≤ 3 + 3 * length values.now }
 {
-    if gear == 0 {
-        return 0;
-    }
-    1
+    // `as` fits: what is asked of the length
+    group_size(values.len() as u16) + values_size(values)
 }
 
 // How many holds there are from a second on.
@@ -58,52 +57,55 @@ fn held_from(holds: &[u8], from: usize) -> u16
     requires { length holds.now ≤ 65535 }
     ensures { result ≡ length (gather from (drop from holds.now)) }
 {
-    let mut count: u16 = 0;
-    let mut i = from;
-    while i < holds.len() {
-        count += one(holds[i]);
-        i += 1;
+    let mut count = 0;
+    for i in from..holds.len() {
+        count += u16::from(holds[i] != 0);
     }
     count
 }
 
-// The bytes of their seconds and gears, of which the checks have shown that each gear has one, and each second one, or two from 128 on. Most traces have no
-// hold.
+// The bytes of their seconds and gears: a gear has one byte, a second one, or two from 128 on, as the checks before have shown. Most traces have no hold.
 fn held_size(holds: &[u8], count: u16) -> usize
     requires { Light holds.now × (count ≡ length (gather 0 holds.now)) }
-    ensures { result ≡ length (pairs_bytes (gather 0 holds.now)) }
+    ensures size { result ≡ length (pairs_bytes (gather 0 holds.now)) }
+    ensures few { result ≤ 3 * 65535 }
 {
     if count == 0 {
         return 0;
     }
-    let far = held_from(holds, 128);
-    2 * (count as usize) + far as usize
+    2 * usize::from(count) + usize::from(held_from(holds, 128))
 }
 
 // How many holds there are, and the bytes of their seconds and gears.
 pub fn hold_sizes(holds: &[u8]) -> HoldSizes
     requires { Light holds.now }
-    ensures { (result.count ≡ length (gather 0 holds.now)) × (result.bytes ≡ length (pairs_bytes (gather 0 holds.now))) }
+    ensures count { result.count ≡ length (gather 0 holds.now) }
+    ensures size { result.bytes ≡ length (pairs_bytes (gather 0 holds.now)) }
+    ensures few { result.bytes ≤ 3 * 65535 }
 {
     let count = held_from(holds, 0);
-    let bytes = held_size(holds, count);
-    HoldSizes { count, bytes }
+    HoldSizes {
+        count,
+        bytes: held_size(holds, count),
+    }
 }
 
-// The bytes of the first so many margins, from version 2 on; none before.
-fn margins_size(version: u16, margins: &[u16], count: usize) -> usize
-    requires { (count ≤ length margins.now) × (count ≤ 16384) }
-    ensures { result ≡ length (margins_bytes version margins.now count) }
+// The bytes of margins in a row, from version 2 on; none before.
+fn margins_size(version: u16, margins: &[u16]) -> usize
+    requires { length margins.now ≤ 16384 }
+    ensures size { result ≡ length (margins_bytes version margins.now) }
+    ensures few { result ≤ 3 * length margins.now }
 {
     if version < 2 {
         return 0;
     }
-    values_size(margins, count)
+    values_size(margins)
 }
 
 // The bytes of a value that versions have from the first so numbered on; none before.
 fn since_size(first: u16, version: u16, v: u16) -> usize
-    ensures { result ≡ length ((since first version).write v) }
+    ensures size { result ≡ length ((since first version).write v) }
+    ensures few { result ≤ 3 }
 {
     if version < first {
         return 0;
@@ -112,16 +114,18 @@ fn since_size(first: u16, version: u16, v: u16) -> usize
 }
 
 // The bytes of the vehicle.
-pub fn vehicle_size(version: u16, car: Vehicle) -> usize
-    requires { InBounds car }
-    ensures { result ≡ length ((vehicle version).write car) }
+pub fn vehicle_size(version: u16, car: &Vehicle) -> usize
+    requires { InBounds car.now }
+    ensures size { result ≡ length ((vehicle version).write car.now) }
+    ensures few { result ≤ 639 }
 {
-    let numbers = numbers_between(car);
-    let gears = car.ng as usize;
-    let points = car.points as usize;
-    let gearbox = group_size(car.ng) + values_size(&car.ratio, gears);
-    let curve = group_size(car.points) + values_size(&car.n, points) + values_size(&car.p, points);
-    let margins = margins_size(version, &car.m, points);
+    let points = usize::from(car.points);
     let profile = since_size(3, version, car.profile);
-    profile + gearbox + values_size(&numbers, 8) + curve + margins
+    let gearbox = counted_size(&car.ratio[..usize::from(car.ng)]);
+    let between = values_size(&numbers_between(car));
+    let curve = group_size(car.points)
+        + values_size(&car.n[..points])
+        + values_size(&car.p[..points]);
+    let margins = margins_size(version, &car.m[..points]);
+    profile + gearbox + between + curve + margins
 }

@@ -2,7 +2,7 @@
 use Rattle.rules.proofs.Base.{ℕ, arith, ◌≡◌, refl, ap, ◌∙◌, ◌≢◌, Bool, true, false, Option, none, some, List, [], ◌∷◌, Vehicle, Refusal, TraceLength}
 use Rattle.rules.proofs.Base.{RoomLength, VehicleField, OutsideTrace, SpeedOver, StepOver, EndMoving, HoldNotDriven, HoldStanding, HoldOverRev, NoGear}
 use Rattle.rules.proofs.Base.{JobEndsEarly, BadGroup, BadVersion, BadHold, BytesAfter, RoomShort, BadPart, BadKind, NotFinite, OutOfBounds, KindMissing}
-use Rattle.rules.proofs.Base.{BadFactor, Answer, Done, Refused, Edit}
+use Rattle.rules.proofs.Base.{BadFactor, Answer, Ok, Err, Edit}
 use Rattle.rules.specs.Refusals.{Fault, fault, numbered, said, refuse_at, ◌orelse◌, when, trace_fault, room_fault, vehicle_fault, Check, speed, step}
 use Rattle.rules.specs.Refusals.{ends, over-ng, at_rest, over-rev, no-gear, check_number, fault_of, seconds_fault, span_fault, work_fault}
 use Rattle.rules.specs.Edit.{Screen, asked_fault, edit_fault}
@@ -48,8 +48,8 @@ from_1 BadFactor e = absurd (omega arith)
 
 said_from_1 : (a : Answer) {f : Fault} → said a ≡ some f → f.no ≢ 0
 unfolding said
-said_from_1 Done e n = let z : ◌≡◌ {A = ℕ} 0 1 = cc in absurd (omega arith)
-said_from_1 (Refused r) {f} e n = let h : fault r ≡ f = cc in from_1 r (ap (λ (x : Fault). x.no) h ∙ n)
+said_from_1 (Ok x) e n = let z : ◌≡◌ {A = ℕ} 0 1 = cc in absurd (omega arith)
+said_from_1 (Err r) {f} e n = let h : fault r ≡ f = cc in from_1 r (ap (λ (x : Fault). x.no) h ∙ n)
 
 pub told_from_1 : {f : Fault} → Told (some f) → f.no ≢ 0
 told_from_1 t = said_from_1 t.answer t.says
@@ -58,11 +58,11 @@ told_from_1 t = said_from_1 t.answer t.says
 
 pub told_none : Told none
 unfolding said
-told_none = record { answer = Done; says = refl }
+told_none = record { answer = Ok tt; says = refl }
 
 pub told-row : {n place : ℕ} → TableRow n place → Told (some (numbered n place))
 unfolding said
-told-row r = record { answer = Refused r.0; says = ap some r.1 }
+told-row r = record { answer = Err r.0; says = ap some r.1 }
 
 -- a check that finds a place, and one whose place is known
 pub told_at : (n : ℕ) → ((i : ℕ) → TableRow n i) → (o : Option ℕ) → Told (refuse_at n o)

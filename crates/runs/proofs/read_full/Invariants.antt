@@ -1,9 +1,0 @@
--- What was read so far is inside the memory, and each turn reads more.
-use Rattle.std.proofs.Common.{◌-◌, ◌≤◌, length}
-use Rattle.runs.proofs.read_full.Given as goal
-
-abbrev pub invariant-loop-done : goal.invariant-loop-done
-invariant-loop-done g l = l.done ≤ length l.text
-
-abbrev pub decreases-loop-done : goal.decreases-loop-done
-decreases-loop-done g l = length l.text - l.done

@@ -1,9 +1,0 @@
--- Each turn says a value.
-use Rattle.std.proofs.Common.{◌-◌, ◌≤◌, length}
-use Rattle.runs.proofs.says.say_values.Given as goal
-
-abbrev pub invariant-loop-i : goal.invariant-loop-i
-invariant-loop-i g l = l.i ≤ length l.values
-
-abbrev pub decreases-loop-i : goal.decreases-loop-i
-decreases-loop-i g l = length l.values - l.i

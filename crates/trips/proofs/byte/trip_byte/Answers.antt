@@ -1,0 +1,12 @@
+use Rattle.rules.proofs.Offered.{arith, ◌and◌, byte, clutch}
+use Rattle.std.proofs.lemmas.Bool.Decides.{nat_tests}
+use Rattle.trips.proofs.Clutch.{falls}
+use Rattle.trips.proofs.byte.trip_byte.Goals as goal
+
+pub returns-then-engine-from : goal.returns-then-engine-from
+unfolding byte clutch ◌and◌
+returns-then-engine-from c = grind (arith, nat_tests, falls)
+
+pub returns-else-us-j : goal.returns-else-us-j
+unfolding byte clutch ◌and◌
+returns-else-us-j c = grind (arith, nat_tests, falls)
