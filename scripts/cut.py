@@ -23,6 +23,7 @@ def _types(taken: re.Match[str]) -> str:
 def bare(text: str) -> str:
     """A source without its functions, and without what it takes from other modules but types and constants."""
     text = edits.FUNCTION.sub("", text)
+    text = re.sub(r"^ *#\[tactic\b.*\]\n", "", text, flags=re.M)
     text = re.sub(r"^impl \w+ \{\n(?:\s*(?://.*)?\n)*\}\n", "", text, flags=re.M)
     return TAKEN.sub(_types, text)
 
