@@ -260,18 +260,18 @@ struct gearcard_coefficients gearcard_export(const uint8_t *bytes, size_t length
 /* Bytes of stack that a call takes below its arguments and its return address, on x86-64: the most that was measured over the benchmark's inputs and 6,000
    random cars and traces, of up to 16,384 seconds (./bench --stack).
 
-     gearcard_read        2,008
-     gearcard_write       1,232
-     gearcard_work        1,680
+     gearcard_read        2,576
+     gearcard_write         864
+     gearcard_work        1,552
      gearcard_summary_of     88
-     gearcard_hold        2,128
-     gearcard_release     2,128
-     gearcard_mend        2,128
-     gearcard_why        19,696
-     gearcard_cycle           0
+     gearcard_hold        1,520
+     gearcard_release     1,504
+     gearcard_mend        1,520
+     gearcard_why        18,832
+     gearcard_cycle          16
      gearcard_cycle_part      0
-     gearcard_downscale       0
-     gearcard_export        272 */
+     gearcard_downscale      48
+     gearcard_export        200 */
 
 #ifdef __cplusplus
 }
