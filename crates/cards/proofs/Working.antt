@@ -34,7 +34,7 @@ module _ {car : Vehicle} {vs hs old : List ℕ} (O : Opened car vs hs old) where
   work-span q e = let f = e ∙ sym work_is in (f, left_old old (card car vs hs) f refl)
 
   -- the whole card
-  whole-card : patch old 0 (length vs) (card_at car vs hs) ≡ card car vs hs
+  pub whole-card : patch old 0 (length vs) (card_at car vs hs) ≡ card car vs hs
   unfolding card
   whole-card = let e = O.card_long in rw (← e) (patch_all (card_at car vs hs) old)
 

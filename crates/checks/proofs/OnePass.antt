@@ -2,7 +2,7 @@
 use Rattle.rules.proofs.Offered.{ℕ, zero, suc, ◌+◌, ◌-◌, ◌≤◌, ◌<◌, suc-add, add-suc, add-zero, sub_self, add-one, arith, ◌≡◌, refl, sym, Bool, true, false}
 use Rattle.rules.proofs.Offered.{Option, none, some, List, [], ◌∷◌, ltb, ltb-true, lt-ltb, le-leb, lt-leb, if◌then◌else◌, ◌and◌, first, Fault, refuse_at}
 use Rattle.rules.proofs.Offered.{◌orelse◌, when, Check, check_number, checks, bad, fault_of, seconds_fault, by_test, if_ind, and_left, and_right}
-use Rattle.rules.proofs.Offered.{ltb-false, said}
+use Rattle.rules.proofs.Offered.{ltb-false, said, ap}
 use Rattle.std.specs.Prelude.{Ok, Err}
 use Rattle.std.specs.Result.{is_err}
 use Rattle.rules.specs.Refusals.{Answer}
@@ -12,7 +12,7 @@ use Rattle.checks.specs.Checks.{fault_no, kept, lower, hold_checks}
 -- ---- numbers that rise
 
 -- the numbers of a list of checks rise from n on and stay below 10: only then is the first check that fails the lowest number
-unfoldable rises : ℕ → List Check → Bool
+unfoldable pub rises : ℕ → List Check → Bool
 rises n [] = ltb n 10
 rises n (c ∷ cs) = ltb n (check_number c) and rises (check_number c) cs
 
@@ -106,8 +106,39 @@ module _ (car : Vehicle) (vs hs : List ℕ) (lo i : ℕ) where
       (row_lower m (fault_no car vs hs lo i cs) i (first (bad c car vs hs lo) lo (i - lo)) (bad c car vs hs lo i) (fault_of (λ c. bad c car vs hs lo) lo i cs)
       (rises_below m cs up) (no_above m cs up) (fault-above m cs up))
 
+-- ---- the refusal that is kept
+
+-- its number, 10 where there is none
+unfoldable pub least_of : Option Fault → ℕ
+least_of none = 10
+least_of (some f) = f.no
+
+-- a refusal with a lower number takes its place; another leaves it, and so does none
+pub lower_than : (x : Option Fault) (f : Fault) → f.no < least_of x → lower x (some f) ≡ some f
+unfolding lower least_of
+lower_than none f l = refl
+lower_than (some g) f l = rw (lt-leb g.no f.no l)
+
+pub lower_not : (x : Option Fault) (f : Fault) → f.no < 10 → least_of x ≤ f.no → lower x (some f) ≡ x
+unfolding lower least_of
+lower_not none f t l = absurd (omega arith)
+lower_not (some g) f t l = rw (le-leb g.no f.no l)
+
+pub lower_none : (x : Option Fault) → lower x none ≡ x
+unfolding lower
+lower_none none = refl
+lower_none (some g) = refl
+
+-- what a number and a place stand for has a number below 10
+pub kept_below : (n i : ℕ) (f : Fault) → kept n i ≡ some f → f.no < 10
+unfolding kept least_of
+kept_below n i f e =
+    by_test (ltb n 10)
+    (λ t. let z : n ≡ f.no = ap least_of (rw t at e) in let l : n < 10 = ltb-true n 10 t in omega arith)
+    (λ t. let z = rw t at e in cc)
+
 -- the numbers of the checks 4 to 9 rise
-table_rises : rises 3 checks ≡ true
+pub table_rises : rises 3 checks ≡ true
 unfolding checks rises check_number ◌and◌
 table_rises = refl
 
@@ -136,6 +167,17 @@ module _ (car : Vehicle) (vs hs : List ℕ) (lo : ℕ) where
   unfolding fault_of first refuse_at ◌orelse◌
   none_of [] = refl
   none_of (c ∷ cs) = rw sub_self (none_of cs)
+
+  -- the pass over k seconds: after each of them the lower of what is refused so far and of what that second fails
+  unfoldable pub one_pass : List Check → ℕ → Option Fault
+  one_pass cs zero = none
+  one_pass cs (suc k) = lower (one_pass cs k) (kept (fault_no car vs hs lo (lo + k) cs) (lo + k))
+
+  -- over any list of checks whose numbers rise it refuses what check after check refuses, each over all seconds
+  pub one_pass_is : (n : ℕ) (cs : List Check) → rises n cs ≡ true → (k : ℕ) → one_pass cs k ≡ fault_of (λ c. bad c car vs hs lo) lo (lo + k) cs
+  unfolding one_pass
+  one_pass_is n cs r zero = rw add-zero (none_of cs)
+  one_pass_is n cs r (suc k) = rw (one_pass_is n cs r k, add-suc) (sym (fault-more car vs hs lo (lo + k) n cs r (omega arith)))
 
   -- of no seconds nothing is refused
   pub seconds_none : none ≡ seconds_fault car vs hs lo lo

@@ -3,7 +3,6 @@ use Rattle.rules.proofs.Offered.{ℕ, zero, suc, ◌+◌, ◌-◌, ◌≤◌, �
 use Rattle.rules.proofs.Offered.{drop, le-leb, lt-leb, eq-eqb, ne_eqb, ◌and◌, at, part, pass, rise, start, closing, role_of, first_at, IsTrip}
 use Rattle.rules.proofs.Offered.{role_at, by_order, and_no, at_part, length_part, pass-at, pass_done, trip_start, closing-part, first_at_is, of₃}
 use Rattle.std.specs.Prelude.{Ok, Err}
-use Rattle.std.specs.List.{AllWithin}
 use Rattle.rules.specs.declared.Vehicle.{Vehicle}
 use Rattle.gears.specs.Choosing.{first_of}
 use Rattle.trips.specs.Ready.{Paced}
@@ -11,6 +10,7 @@ use Rattle.trips.specs.Trip.{on_way}
 use Rattle.trips.proofs.Clutch.{rise-here}
 use Rattle.checks.specs.declared.trace.Asked.{Asked}
 use Rattle.checks.specs.Asked.{speeds_with, holds_with}
+use Rattle.checks.specs.Calm.{Each}
 use Rattle.checks.specs.Want.{OnWay, Firsts, Through}
 use Rattle.checks.proofs.Through.{speed_else, hold_else}
 
@@ -149,20 +149,20 @@ module _ {vs : List ℕ} {a b run i : ℕ} (W : OnWay vs a b run i) {ks us hs : 
 module _ (car : Vehicle) (vs hs : List ℕ) {i to m : ℕ} (gs : List ℕ) (firsts : Firsts car vs hs i m gs) (size : length gs ≡ m) (some : i < to)
     (all : i + m ≡ to) where
   -- a place with a gear is a second with one
-  geared : (n : ℕ) → n ≤ m → AllWithin (λ g. g ≢ 0) gs 0 n → (j : ℕ) → i ≤ j → j < i + n → eqb (first_at car vs hs j) 0 ≡ false
+  geared : (n : ℕ) → n ≤ m → Each (λ j. at gs j ≢ 0) 0 n → (j : ℕ) → i ≤ j → j < i + n → eqb (first_at car vs hs j) 0 ≡ false
   geared n l N j a b =
       let x : i + (j - i) ≡ j = omega arith in
-      ne_eqb _ 0 (rw (firsts (j - i) (omega arith) (omega arith), x) at (N (j - i) 0 (omega arith) (omega arith)))
+      ne_eqb _ 0 (rw (firsts (j - i) (omega arith) (omega arith), x) at (N (j - i) (omega arith) (omega arith)))
 
   -- each has one
-  pub all_geared : AllWithin (λ g. g ≢ 0) gs 0 (length gs) → Through car vs hs i to (Ok (at gs (length gs - 1)))
+  pub all_geared : Each (λ j. at gs j ≢ 0) 0 (length gs) → Through car vs hs i to (Ok (at gs (length gs - 1)))
   all_geared N = record {
     until = λ j a b. geared (length gs) (omega arith) N j a (omega arith);
     last_is = let x : i + (length gs - 1) ≡ to - 1 = omega arith in rw x at (firsts (length gs - 1) (omega arith) (omega arith));
   }
 
   -- the first place without one is the first second without one
-  pub one_wants : {none : ℕ} → none < length gs → at gs none ≡ 0 → AllWithin (λ g. g ≢ 0) gs 0 none → Through car vs hs i to (Err (i + none))
+  pub one_wants : {none : ℕ} → none < length gs → at gs none ≡ 0 → Each (λ j. at gs j ≢ 0) 0 none → Through car vs hs i to (Err (i + none))
   one_wants {none} l z N = record {
     until = record {
       from = omega arith;

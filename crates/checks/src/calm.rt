@@ -10,6 +10,7 @@ ghost use Rattle.checks.specs.Calm.{Seconds, Seen, Around, Each, most_of, Stands
 
 use crate::seconds::{check_held, check_second, step_over};
 use crate::{Span, Trace};
+use gears::top;
 use rules::{FASTEST, STEEPEST, Vehicle, moving};
 
 // What a look at the speeds of a span finds: the highest, and the largest step.
@@ -56,9 +57,10 @@ fn each_passes(car: &Vehicle, trace: Trace, span: Span) -> bool
     requires { Spanned car.now trace.speeds.now span.lo span.hi }
     ensures { result ≡ true → Each (HoldsPass car.now trace.entry.speeds.now trace.entry.holds.now) span.lo span.hi }
 {
+    let most = top(car);
     for i in span.lo..span.hi {
         let held = trace.holds[i];
-        if held != 0 && check_held(car, trace.speeds[i], held, i).is_err() {
+        if held != 0 && check_held(car, most, trace.speeds[i], held, i).is_err() {
             return false;
         }
     }

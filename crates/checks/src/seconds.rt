@@ -1,11 +1,11 @@
 // Checks 4 to 9 of the seconds of a span, in one pass: a trace is as long as it is, and six passes over it would look at each second six times.
-ghost use Rattle.std.specs.Prelude.{◌≡◌, List, ℕ, ◌≤◌, ◌<◌, length};
+ghost use Rattle.std.specs.Prelude.{◌≡◌, List, ℕ, ◌*◌, ◌≤◌, ◌<◌, length};
 ghost use Rattle.rules.specs.Words.{at};
 ghost use Rattle.rules.specs.declared.Vehicle.{Vehicle};
 ghost use Rattle.rules.specs.Refusals.{step, ends, checks, bad, said, seconds_fault};
 ghost use Rattle.checks.specs.Asked.{speeds_in, holds_in};
 ghost use Rattle.checks.specs.Calm.{Seen};
-ghost use Rattle.checks.specs.Checks.{fault_no, kept, lower, hold_checks, HeldGear, TraceSecond, Spanned};
+ghost use Rattle.checks.specs.Checks.{fault_no, kept, hold_checks, HeldGear, TraceSecond, Spanned};
 
 use crate::calm::{Sight, calm, look};
 use crate::{Span, Trace};
@@ -28,9 +28,9 @@ fn end_moving(trace: Trace, i: usize) -> bool
     moving(trace.speed_at(i)) && (i == 0 || i + 1 == trace.speeds.len())
 }
 
-// Checks 7, 8 and 9 of a held second. A gear above ng has no ratio, so 7 is asked before a ratio is read.
-pub fn check_held(car: &Vehicle, v: u16, held: u8, i: usize) -> Result<(), Refusal>
-    requires { HeldGear car.now held }
+// Checks 7, 8 and 9 of a held second, with the engine speed X of nmax. A gear above ng has no ratio, so 7 is asked before a ratio is read.
+pub fn check_held(car: &Vehicle, most: u64, v: u16, held: u8, i: usize) -> Result<(), Refusal>
+    requires { HeldGear car.now held × (most ≡ 1000 * car.now.nmax) }
     ensures { (vs hs : List ℕ) (lo : ℕ) → at vs i ≡ v → at hs i ≡ held → said result ≡ kept (fault_no car.now vs hs lo i hold_checks) i }
 {
     if not_driven(car, held) {
@@ -39,7 +39,7 @@ pub fn check_held(car: &Vehicle, v: u16, held: u8, i: usize) -> Result<(), Refus
     if !moving(v) {
         return Err(Refusal::HoldStanding(i));
     }
-    if top(car) < engine(car, usize::from(held), v) {
+    if most < engine(car, usize::from(held), v) {
         return Err(Refusal::HoldOverRev(i));
     }
     Ok(())
@@ -69,30 +69,25 @@ pub fn check_second(
     if held == 0 {
         return Ok(());
     }
-    check_held(car, v, held, i)
+    check_held(car, top(car), v, held, i)
 }
 
-// Of two answers the refusal with the lower number, the first on a tie.
-#[tactic(auto, unfolding(rules::specs::Refusals::said, crate::specs::Checks::lower))]
-fn lower(first: Result<(), Refusal>, then: Result<(), Refusal>) -> Result<(), Refusal>
-    ensures { said result ≡ lower (said first) (said then) }
-{
-    match (first, then) {
-        (Err(a), Err(b)) if a.number() <= b.number() => first,
-        (Err(_), Ok(())) => first,
-        _ => then,
-    }
-}
-
-// Checks 4 to 9 of each second, one after the other: the lowest number wins, and for one number the lowest second.
+// Checks 4 to 9 of each second, one after the other: the lowest number wins, and for one number the lowest second. The number of the refusal that is kept goes
+// along, so that it is not looked up anew at each second.
 pub fn judge_seconds(car: &Vehicle, trace: Trace, span: Span) -> Result<(), Refusal>
     requires { Spanned car.now trace.speeds.now span.lo span.hi }
     ensures { said result ≡ seconds_fault car.now (speeds_in trace.entry) (holds_in trace.entry) span.lo span.hi }
 {
     let mut first = Ok(());
+    let mut least = 10;
     for i in span.lo..span.hi {
-        let then = check_second(car, trace, trace.hold_at(i), span.lo, i);
-        first = lower(first, then);
+        if let Err(refusal) = check_second(car, trace, trace.hold_at(i), span.lo, i) {
+            let number = refusal.number();
+            if number < least {
+                first = Err(refusal);
+                least = number;
+            }
+        }
     }
     first
 }

@@ -121,7 +121,8 @@ fn part_through(
     let mut room = [0u8; 64];
     let gs = &mut room[..part.hi - part.lo];
     choices_in(powered, trace, trip, run, before, part.lo, gs);
-    match gs.iter().position(|g| *g == 0) {
+    // by place: `position` goes by addresses, and C's module has no Option of one (scripts/retarget)
+    match (0..gs.len()).find(|&i| gs[i] == 0) {
         Some(none) => Err(part.lo + none),
         None => Ok(gs[gs.len() - 1]),
     }

@@ -1,4 +1,5 @@
 -- What belongs to no one function.
+pub mod Copied
 pub mod Stretches
 pub mod Sound
 pub mod Table

@@ -106,7 +106,7 @@ module _ (k : ℕ) (x : Float) (m : Moderate k x) (n : ℕ) (e : n ≡ size_of k
   minus_is : pos 0 -ℤ to_z w64 n ≡ neg_ℤ (pos n)
   minus_is = rw (to_z_pos w64 {n = n} (omega arith)) (+ℤ_idl (neg_ℤ (pos n)))
 
-  minus_short : SFits w64 (pos 0 -ℤ to_z w64 n)
+  pub minus_short : SFits w64 (pos 0 -ℤ to_z w64 n)
   unfolding signed
   minus_short = rw minus_is (signed_short true n low)
 

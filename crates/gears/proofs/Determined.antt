@@ -1,6 +1,10 @@
 -- Each public function's contract allows one outcome. `Reads` is the contract's own reading, which the check makes of the clauses.
-use Rattle.rules.proofs.Offered.{ℕ, refl, sym, ap, ◌∙◌, List, said_once}
+use Rattle.rules.proofs.Offered.{ℕ, ◌≡◌, refl, sym, ap, ◌∙◌, List, said_once}
 use Rattle.rules.specs.Determined.{Determined, DeterminedAs}
+use Rattle.rules.specs.declared.Vehicle.{Vehicle}
+use Rattle.gears.specs.declared.Limits.{Limits}
+use Rattle.gears.specs.declared.Road.{Road}
+use Rattle.gears.specs.Limits.{limits_of, road_of}
 use Rattle.gears.proofs.second.top.Kinds as top-kinds
 use Rattle.gears.proofs.second.top.Reads as top-reads
 use Rattle.gears.proofs.second.lowest.Kinds as lowest-kinds
@@ -31,6 +35,8 @@ use Rattle.gears.proofs.choice.enough.Kinds as enough-kinds
 use Rattle.gears.proofs.choice.enough.Reads as enough-reads
 use Rattle.gears.proofs.choice.more.Kinds as more-kinds
 use Rattle.gears.proofs.choice.more.Reads as more-reads
+use Rattle.gears.proofs.choice.search_of.Kinds as search-of-kinds
+use Rattle.gears.proofs.choice.search_of.Reads as search-of-reads
 use Rattle.gears.proofs.choice.choose.Kinds as choose-kinds
 use Rattle.gears.proofs.choice.choose.Reads as choose-reads
 use Rattle.gears.proofs.choice.choice_after.Kinds as choice-after-kinds
@@ -81,6 +87,16 @@ enough κs a asked z z' ws ws' p q = (p ∙ sym q, refl)
 
 pub more : Determined more-kinds.ps more-kinds.r more-reads.Asked more-reads.Learnt
 more κs a asked z z' ws ws' p q = (p ∙ sym q, refl)
+
+-- its vehicle says what its limits and what E takes are
+pub search_of : DeterminedAs search-of-kinds.ps search-of-kinds.r (Vehicle × List ℕ × Limits × Road)
+    (λ κs z. (z.powered.car.now, z.powered.powers.now, z.limits, z.road)) search-of-reads.Asked search-of-reads.Learnt
+search_of κs a asked z z' ws ws' p q =
+    let e : z.powered.car.now ≡ z'.powered.car.now = p.0 ∙ sym q.0 in
+    let f : z.powered.powers.now ≡ z'.powered.powers.now = p.1 ∙ sym q.1 in
+    let g : z.limits ≡ z'.limits = z.limited ∙ ap limits_of e ∙ sym z'.limited in
+    let h : z.road ≡ z'.road = z.loaded ∙ ap road_of e ∙ sym z'.loaded in
+    (λ i. (e i, f i, g i, h i), refl)
 
 -- the segment is only where a search starts, and may be any
 pub choose : DeterminedAs choose-kinds.ps choose-kinds.r ℕ (λ κs z. z.gear) choose-reads.Asked choose-reads.Learnt

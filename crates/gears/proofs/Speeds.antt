@@ -4,6 +4,7 @@ use Rattle.rules.proofs.Offered.{le-leb, lt-leb, ne_eqb, eq-eqb, ◌and◌, firs
 use Rattle.rules.proofs.Offered.{is_under_nmax, is_over_minimum, allowed, fits, floor, and_no, by_eq, ◌or◌}
 use Rattle.rules.specs.declared.Vehicle.{Vehicle}
 use Rattle.rules.specs.declared.Role.{Role}
+use Rattle.rules.specs.declared.Role.TheVariants.{First, Inner}
 use Rattle.rules.proofs.Laws.Searches.{first_skip, first_none}
 use Rattle.std.specs.Option.{MatchOption, unwrap_or}
 use Rattle.std.specs.declared.option.Option.{Option}
@@ -24,6 +25,13 @@ module _ (car : Vehicle) (here : Role) (g : ℕ) where
   pub minimum-above : (g - low car ≡ 0 → ⊥) → (g - low car ≡ 1 → ⊥) → minimum car here g ≡ car.idle + (car.rated - car.idle + 4) / 8
   unfolding minimum minimum_of
   minimum-above a b = let e : g - low car ≡ suc (suc (g - low car - 2)) = omega arith in rw e
+
+-- at a trip's first second the gear above the lowest has its minimum of nine tenths
+pub next_first : (car : Vehicle) → 1000 * minimum car First (low car + 1) ≡ 1000 * minimum car Inner (low car + 1)
+unfolding next_minimum
+next_first car =
+    let e : low car + 1 - low car ≡ 1 = omega arith in
+    ap (λ m. 1000 * m) (minimum_two car First (low car + 1) e ∙ sym (minimum_two car Inner (low car + 1) e))
 
 -- so of every gear
 pub ruleset minima = (minimum-one, minimum_two, minimum-above)

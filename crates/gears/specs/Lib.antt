@@ -1,3 +1,4 @@
 pub mod Powers
 pub mod Second
 pub mod Choosing
+pub mod Limits

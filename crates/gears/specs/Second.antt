@@ -3,6 +3,8 @@ use Rattle.std.specs.Prelude.{ℕ, ◌+◌, ◌≤◌, ◌<◌, ℤ, nat_abs}
 use Rattle.rules.specs.Words.{at}
 use Rattle.rules.specs.declared.Vehicle.{Vehicle}
 use Rattle.rules.specs.Units.{low, fastest, steepest}
+use Rattle.gears.specs.Limits.{road_of}
+use Rattle.gears.specs.declared.Road.{Road}
 
 -- a gear that the array of ratios has a place for
 pub record Gear (g : ℕ) : Type 0 where
@@ -34,11 +36,15 @@ pub record Derates (car : Vehicle) : Type 0 where
   pub to : car.points ≤ 64
   pub left : (i : ℕ) → i < car.points → car.margin + at car.m i ≤ 90
 
--- a vehicle's road load, a speed and a step in bounds
-pub record Load (car : Vehicle) (v : ℕ) (d : ℤ) : Type 0 where
-  pub f0_to : car.f0 ≤ 10000
-  pub f1_in : nat_abs car.f1 ≤ 5000
-  pub f2_to : car.f2 ≤ 20000
-  pub tm_to : car.tm ≤ 4000
+-- a road load, a mass, a speed and a step in bounds
+pub record LoadOn (road : Road) (v : ℕ) (d : ℤ) : Type 0 where
+  pub f0_to : road.f0 ≤ 10000
+  pub f1_in : nat_abs road.f1 ≤ 5000
+  pub f2_to : road.f2 ≤ 20000
+  pub tm_to : road.tm ≤ 4000
   pub v_to : v ≤ fastest
   pub d_in : nat_abs d ≤ steepest
+
+-- so of a vehicle
+abbrev pub Load : Vehicle → ℕ → ℤ → Type 0
+Load car v d = LoadOn (road_of car) v d

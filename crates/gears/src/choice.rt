@@ -1,15 +1,16 @@
 // The first choice of one second.
 ghost use Rattle.std.specs.Prelude.{◌≡◌, false, ◌+◌, ◌*◌, ◌≤◌, ◌<◌, pos, ◌-ℤ◌};
 ghost use Rattle.rules.specs.Units.{low};
+ghost use Rattle.rules.specs.declared.Vehicle.{Vehicle};
 ghost use Rattle.rules.specs.Gears.{fits, more, choose};
 ghost use Rattle.rules.specs.Corrections.{role_of};
 ghost use Rattle.gears.specs.Second.{Gear};
 ghost use Rattle.gears.specs.Choosing.{power_of, PowerSized, Weighed, enough_for, Pace, out_of_reach, under_minimum, the_stronger, first_of};
 
 use crate::curve::{power_at, segment_at};
-use crate::second::{engine, lowest, next_least, required, shared_least, step_of, top};
-use crate::{Best, Chosen, Power, Powered};
-use rules::{Role, Vehicle};
+use crate::second::{engine, limits_of, next_limit, required_on, road_of, step_of};
+use crate::{Best, Chosen, Power, Powered, Search};
+use rules::Role;
 
 // Whether a power is enough for E. E keeps its sign: negative while braking.
 pub fn enough(a: Power, e: i64) -> bool
@@ -30,45 +31,58 @@ pub fn more(a: Power, b: Power) -> bool
 // What a second that is not its trip's first is in its trip: the first of these that it is. `before` is the first choice of the second before. It is asked
 // for the gear above the lowest alone, so the two that it goes by are passed on, and not the answer.
 #[tactic(auto, unfolding(rules::specs::Corrections::role_of))]
-fn role_of(car: &Vehicle, closes: bool, before: u8) -> Role
-    ensures { result ≡ role_of car.now false closes before }
+fn role_of(lowest: usize, closes: bool, before: u8) -> Role
+    ensures { (car : Vehicle) → lowest ≡ low car → result ≡ role_of car false closes before }
 {
     if closes {
         Role::Closing
-    } else if usize::from(before) == lowest(car) {
+    } else if usize::from(before) == lowest {
         Role::AfterLow
     } else {
         Role::Inner
     }
 }
 
-// Whether a gear from two above the lowest on is under the minimum that these share. It stands in front of `fits_in_reach`: most gears that are too high for
-// the speed are asked no more than this.
-#[tactic(auto, using(crate::proofs::Tests::ladders), unfolding(crate::specs::Choosing::out_of_reach))]
-fn out_of_reach(car: &Vehicle, v: u16, g: usize) -> bool
-    requires { Gear g × (car.now.idle ≤ car.now.rated) × (low car.now ≤ g) }
-    ensures { result ≡ out_of_reach car.now v g }
+// A vehicle whose gears are chosen from.
+pub fn search_of<'a>(powered: Powered<'a>) -> Search<'a>
+    ensures car { result.powered.car.now ≡ powered.entry.car.now }
+    ensures powers { result.powered.powers.now ≡ powered.entry.powers.now }
 {
-    engine(car, g, v) < shared_least(car) && 1 < g - lowest(car)
+    Search {
+        powered,
+        limits: limits_of(powered.car),
+        road: road_of(powered.car),
+    }
+}
+
+// Whether a gear from two above the lowest on is under the minimum that these share. It stands in front of `fits_in_reach`: the value that `minimum` gave once
+// is all that most gears too high for the speed are asked.
+#[tactic(auto, using(crate::proofs::Tests::ladders), unfolding(crate::specs::Choosing::out_of_reach))]
+fn out_of_reach(search: Search, v: u16, g: usize) -> bool
+    requires { Gear g }
+    ensures { result ≡ out_of_reach search.entry.powered.car.now v g }
+{
+    engine(search.powered.car, g, v) < search.limits.shared && search.limits.low + 1 < g
 }
 
 // Whether the gear above the lowest is under its own, which what the second is in its trip decides.
 #[tactic(auto, using(crate::proofs::Tests::ladders), unfolding(crate::specs::Choosing::under_minimum))]
-fn under_minimum(car: &Vehicle, closes: bool, before: u8, g: usize, x: u64) -> bool
-    requires { low car.now ≤ g }
-    ensures { result ≡ under_minimum car.now (role_of car.now false closes before) g x }
+fn under_minimum(search: Search, closes: bool, before: u8, g: usize, x: u64) -> bool
+    ensures { result ≡ under_minimum search.entry.powered.car.now (role_of search.entry.powered.car.now false closes before) g x }
 {
-    g - lowest(car) == 1 && x < next_least(car, role_of(car, closes, before))
+    let limits = search.limits;
+    g == limits.low + 1 && x < next_limit(limits, role_of(limits.low, closes, before))
 }
 
 // Whether a gear that is not out of reach fits, at a second that is not its trip's first. The lowest fits under its minimum too.
 #[tactic(auto, using(crate::proofs::Reach::fits_by))]
-fn fits_in_reach(car: &Vehicle, closes: bool, before: u8, v: u16, g: usize) -> bool
-    requires { Gear g × (low car.now ≤ g) }
-    ensures { out_of_reach car.now v g ≡ false → result ≡ fits car.now (role_of car.now false closes before) v g }
+fn fits_in_reach(search: Search, closes: bool, before: u8, v: u16, g: usize) -> bool
+    requires { Gear g × (low search.powered.car.now ≤ g) }
+    ensures { out_of_reach search.entry.powered.car.now v g ≡ false
+        → result ≡ fits search.entry.powered.car.now (role_of search.entry.powered.car.now false closes before) v g }
 {
-    let x = engine(car, g, v);
-    !under_minimum(car, closes, before, g, x) && x <= top(car)
+    let x = engine(search.powered.car, g, v);
+    !under_minimum(search, closes, before, g, x) && x <= search.limits.top
 }
 
 // The stronger of the best gear so far and gear g under it, whose power is a; the best so far on a tie.
@@ -88,14 +102,14 @@ fn stronger(best: Best, g: usize, a: Power) -> Best
 // fallback: the fitting gear with most power, the higher gear on a tie; 0 where none fits. The curve is searched from a segment that may be any: that of the
 // second before is near.
 #[tactic(auto, using(crate::proofs::Choices::turns), unfolding(rules::specs::Units::low))]
-pub fn choose(powered: Powered, closes: bool, before: u8, v: u16, d: i64, near: usize) -> Chosen
-    requires { Pace v d × (near + 1 < powered.car.now.points) }
-    ensures gear { result.gear ≡ choose powered.entry.car.now (role_of powered.entry.car.now false closes before) v d }
-    ensures segment { result.segment + 1 < powered.entry.car.now.points }
+pub fn choose(search: Search, closes: bool, before: u8, v: u16, d: i64, near: usize) -> Chosen
+    requires { Pace v d × (near + 1 < search.powered.car.now.points) }
+    ensures gear { result.gear ≡ choose search.entry.powered.car.now (role_of search.entry.powered.car.now false closes before) v d }
+    ensures segment { result.segment + 1 < search.entry.powered.car.now.points }
 {
-    let car = powered.car;
-    let low = lowest(car);
-    let e = required(car, v, d);
+    let car = search.powered.car;
+    let low = search.limits.low;
+    let e = required_on(search.road, v, d);
     // no gear yet, and less than every power
     let mut best = Best {
         gear: 0,
@@ -105,22 +119,25 @@ pub fn choose(powered: Powered, closes: bool, before: u8, v: u16, d: i64, near: 
     let mut g = usize::from(car.ng);
     // document 01 asks for a loop that yields its gear by break, which a `for` cannot
     let gear = loop {
-        if !out_of_reach(car, v, g) && fits_in_reach(car, closes, before, v, g) {
-            // every power is enough while coasting or braking
-            if e <= 0 {
-                break g;
+        if !out_of_reach(search, v, g) {
+            if fits_in_reach(search, closes, before, v, g) {
+                // every power is enough while coasting or braking
+                if e <= 0 {
+                    break g;
+                }
+                segment = segment_at(car, v, g, segment);
+                let a = power_at(search.powered, v, g, segment);
+                if enough(a, e) {
+                    break g;
+                }
+                best = stronger(best, g, a);
             }
-            segment = segment_at(car, v, g, segment);
-            let a = power_at(powered, v, g, segment);
-            if enough(a, e) {
-                break g;
+            // the lowest gear is never out of reach
+            if g <= low {
+                // the next search starts where this one did
+                segment = near;
+                break best.gear;
             }
-            best = stronger(best, g, a);
-        }
-        if g <= low {
-            // the next search starts where this one did
-            segment = near;
-            break best.gear;
         }
         g -= 1;
     };
@@ -134,16 +151,17 @@ pub fn choose(powered: Powered, closes: bool, before: u8, v: u16, d: i64, near: 
 // The first choice of a second on the way through its trip that is not the trip's first, from whether its closing run has begun and the first choice before:
 // the held gear, or the rules' choice; 0 where no gear fits. It is the one step that the working and the check for want of a gear share.
 pub fn choice_after(
-    powered: Powered,
+    search: Search,
     closes: bool,
     before: Chosen,
     v: u16,
     next: u16,
     hold: u8,
 ) -> Chosen
-    requires { Pace v (pos next -ℤ pos v) × (before.segment + 1 < powered.car.now.points) }
-    ensures gear { result.gear ≡ first_of powered.entry.car.now (role_of powered.entry.car.now false closes before.gear) v (pos next -ℤ pos v) hold }
-    ensures segment { result.segment + 1 < powered.entry.car.now.points }
+    requires { Pace v (pos next -ℤ pos v) × (before.segment + 1 < search.powered.car.now.points) }
+    ensures gear { result.gear ≡ first_of search.entry.powered.car.now
+        (role_of search.entry.powered.car.now false closes before.gear) v (pos next -ℤ pos v) hold }
+    ensures segment { result.segment + 1 < search.entry.powered.car.now.points }
 {
     if hold != 0 {
         return Chosen {
@@ -152,7 +170,7 @@ pub fn choice_after(
         };
     }
     choose(
-        powered,
+        search,
         closes,
         before.gear,
         v,

@@ -5,8 +5,11 @@ ghost use Rattle.rules.specs.Gears.{engine, next_minimum, minimum, required};
 ghost use Rattle.rules.specs.Corrections.{floor};
 ghost use Rattle.rules.specs.Refusals.{not_driven};
 ghost use Rattle.rules.specs.declared.Role.TheVariants.{Inner};
-ghost use Rattle.gears.specs.Second.{Gear, Lowest, Driven, Load};
+ghost use Rattle.rules.specs.declared.Vehicle.{Vehicle};
+ghost use Rattle.gears.specs.Limits.{limits_of, road_of};
+ghost use Rattle.gears.specs.Second.{Gear, Lowest, Driven, LoadOn, Load};
 
+use crate::{Limits, Road};
 use rules::{Role, Vehicle};
 
 // The lowest gear that is driven.
@@ -49,18 +52,6 @@ fn next_minimum(car: &Vehicle, here: Role) -> u64
     }
 }
 
-// The minimum speed that the gears from two above the lowest on share.
-#[tactic(auto, using(crate::proofs::Speeds::minima))]
-fn shared_minimum(car: &Vehicle) -> u64
-    requires { car.now.idle ≤ car.now.rated }
-    ensures speed { result ≡ minimum car.now Inner (low car.now + 2) }
-    ensures small { result ≤ 131070 }
-{
-    let idle = u64::from(car.idle);
-    let rated = u64::from(car.rated);
-    idle + (rated - idle + 4) / 8
-}
-
 // The minimum speed of a gear.
 #[tactic(auto, using(crate::proofs::Speeds::minima))]
 pub fn minimum(car: &Vehicle, here: Role, g: usize) -> u64
@@ -68,10 +59,12 @@ pub fn minimum(car: &Vehicle, here: Role, g: usize) -> u64
     ensures speed { result ≡ minimum car.now here g }
     ensures small { result ≤ 131070 }
 {
+    let idle = u64::from(car.idle);
+    let rated = u64::from(car.rated);
     match g - lowest(car) {
-        0 => u64::from(car.idle),
+        0 => idle,
         1 => next_minimum(car, here),
-        _ => shared_minimum(car),
+        _ => idle + (rated - idle + 4) / 8,
     }
 }
 
@@ -83,12 +76,13 @@ pub fn next_least(car: &Vehicle, here: Role) -> u64
     1000 * next_minimum(car, here)
 }
 
-// The least engine speed X that the gears from two above the lowest on share.
+// The least engine speed X that the gears from two above the lowest on share: 3 is two above gear 1.
+#[tactic(auto, unfolding(rules::specs::Units::low))]
 pub fn shared_least(car: &Vehicle) -> u64
     requires { car.now.idle ≤ car.now.rated }
     ensures { result ≡ 1000 * minimum car.now Inner (low car.now + 2) }
 {
-    1000 * shared_minimum(car)
+    1000 * minimum(car, Role::Inner, 3 + usize::from(car.profile))
 }
 
 // The engine speed X of nmax, which no gear may pass.
@@ -96,6 +90,33 @@ pub fn top(car: &Vehicle) -> u64
     ensures { result ≡ 1000 * car.now.nmax }
 {
     1000 * u64::from(car.nmax)
+}
+
+// The limits of a vehicle.
+pub fn limits_of(car: &Vehicle) -> Limits
+    requires { car.now.idle ≤ car.now.rated }
+    ensures { result ≡ limits_of car.now }
+{
+    Limits {
+        low: lowest(car),
+        shared: shared_least(car),
+        closing: next_least(car, Role::Closing),
+        after_low: next_least(car, Role::AfterLow),
+        inner: next_least(car, Role::Inner),
+        top: top(car),
+    }
+}
+
+// The least engine speed X of the gear above the lowest, of the limits.
+#[tactic(auto, using(crate::proofs::Speeds::next_first))]
+pub fn next_limit(limits: Limits, here: Role) -> u64
+    ensures { (car : Vehicle) → limits ≡ limits_of car → result ≡ 1000 * minimum car here (low car + 1) }
+{
+    match here {
+        Role::Closing => limits.closing,
+        Role::AfterLow => limits.after_low,
+        Role::First | Role::Inner => limits.inner,
+    }
 }
 
 // The floor: the lowest gear whose X is at most 1000 x nmax; ng + 1 where there is none.
@@ -116,13 +137,33 @@ pub fn step_of(this: u16, next: u16) -> i64
     i64::from(next) - i64::from(this)
 }
 
+// What E takes of a vehicle.
+pub fn road_of(car: &Vehicle) -> Road
+    ensures { result ≡ road_of car.now }
+{
+    Road {
+        f0: car.f0,
+        f1: car.f1,
+        f2: car.f2,
+        tm: car.tm,
+    }
+}
+
 // Required power E, negative while braking, as the bench writes it: speed is taken out as a factor as often as it goes.
+pub fn required_on(road: Road, v: u16, d: i64) -> i64
+    requires { LoadOn road v d }
+    ensures { (car : Vehicle) → road ≡ road_of car → result ≡ required car v d }
+{
+    let v = i64::from(v);
+    v * (9_000_000 * i64::from(road.f0)
+        + 2_575_000 * d * i64::from(road.tm)
+        + v * (9_000 * i64::from(road.f1) + v * (9 * i64::from(road.f2))))
+}
+
+// The same of a vehicle.
 pub fn required(car: &Vehicle, v: u16, d: i64) -> i64
     requires { Load car.now v d }
     ensures { result ≡ required car.now v d }
 {
-    let v = i64::from(v);
-    v * (9_000_000 * i64::from(car.f0)
-        + 2_575_000 * d * i64::from(car.tm)
-        + v * (9_000 * i64::from(car.f1) + v * (9 * i64::from(car.f2))))
+    required_on(road_of(car), v, d)
 }

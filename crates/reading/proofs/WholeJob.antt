@@ -56,11 +56,11 @@ module _ (job speeds holds : List ℕ) where
   abbrev Refuses : Refusal → Type 0
   Refuses f = ReadAs job speeds holds (Err f) speeds holds
 
-  in_order : asked ≡ hand_on (used car head job 0) (λ x j. hand_on ((bounded 1 top 1 0).read job j) (to_speeds job x (length speeds) (length holds)))
+  pub in_order : asked ≡ hand_on (used car head job 0) (λ x j. hand_on ((bounded 1 top 1 0).read job j) (to_speeds job x (length speeds) (length holds)))
   unfolding job_read to_the_end job seen stages packed ◌then◌ trace counted seconds checked longest holds value used hand_on
   in_order = simp joined
 
-  stops : {A : Type 0} {m : Read A} (next : A → Reader Job) → asked ≡ hand_on m next → {f : Refusal} → refused (fault f) ≡ m → Refuses f
+  pub stops : {A : Type 0} {m : Read A} (next : A → Reader Job) → asked ≡ hand_on m next → {f : Refusal} → refused (fault f) ≡ m → Refuses f
   unfolding hand_on
   stops next l e = refused_as job speeds holds (sym (rw (← e) at l))
 

@@ -19,13 +19,15 @@ fn job_byte(job: &[u8], i: usize) -> usize
     usize::from(job[i])
 }
 
-// A byte of the job, or that the job ends early.
+// A byte of the job, or that the job ends early. By a test of the length: `get` answers an Option of an address, which C's module has none of
+// (scripts/retarget).
 fn next_byte(job: &[u8], i: usize) -> Result<usize, Refusal>
     ensures { ByteAs job.now i result }
 {
-    job.get(i)
-        .map(|byte| usize::from(*byte))
-        .ok_or(Refusal::JobEndsEarly(job.len()))
+    if job.len() <= i {
+        return Err(Refusal::JobEndsEarly(job.len()));
+    }
+    Ok(job_byte(job, i))
 }
 
 // A group and the place after it: seven bits a byte, least significant first, the top bit set when more follow; one to three bytes, shortest form only.

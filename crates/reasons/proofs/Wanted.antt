@@ -55,7 +55,7 @@ module _ (car : Vehicle) (vs hs : List ℕ) (i : ℕ) (e : early_fault car vs hs
     none_fits = λ g a b. rw (place (gear_facts car (role_at car vs hs i) (closing (drop i vs)) (at vs i) (rise vs i)) g a b) (listed_none g);
   }
 
-  wants_said : Wants (why car vs hs i)
+  pub wants_said : Wants (why car vs hs i)
   wants_said = let a = itself in rw (said_there car vs hs i e (λ y. omega (arith, y, two)), ← a) (wants_there (why_fault car vs hs i))
 
 nothing_found : {P : Type 0} {f : Fault} → some f ≡ none → P

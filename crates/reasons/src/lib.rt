@@ -37,7 +37,7 @@ pub(crate) struct View {
 
 // What a second is in its trip, whether it lies in the closing run, its first choice, its gear after A, B and C, and the ceiling of B.
 #[derive(Clone, Copy)]
-pub(crate) struct Chain {
+pub struct Chain {
     pub role: Role,
     pub closes: bool,
     pub choice: u8,

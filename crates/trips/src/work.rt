@@ -11,7 +11,7 @@ use crate::byte::bytes;
 use crate::peak::pass_a;
 use crate::rising::pass_b;
 use crate::slowing::{closing_from, pass_c};
-use gears::{Chosen, Powered, choice_after, engine, lowest, top};
+use gears::{Chosen, Powered, choice_after, engine, lowest, search_of, top};
 use rules::Vehicle;
 
 // The first choice of a trip's first second: the held gear, or the lowest gear, the only one that may fit; 0 where it does not.
@@ -46,13 +46,16 @@ fn later_choices(
         → WayTo powered.entry.car.now us.now hs.now run begins before base gs.old last from
         → gs.new ≡ pass (on_way powered.entry.car.now us.now hs.now begins run before) (length hs.now) base }
 {
+    let search = search_of(powered);
+    // of each second the speed that follows
+    let after = &us[1..];
     // the first search starts from the curve's first segment
     let mut before = Chosen {
         gear: last,
         segment: 0,
     };
     for j in from..gs.len() {
-        before = choice_after(powered, run <= j, before, us[j], us[j + 1], hs[j]);
+        before = choice_after(search, run <= j, before, us[j], after[j], hs[j]);
         gs[j] = before.gear;
     }
 }

@@ -12,7 +12,7 @@ use Rattle.writing.specs.Writing.{WriteAs}
 
 module _ (v : ℕ) (car : Vehicle) (vs hs room : List ℕ) where
   -- a refusal writes nothing
-  refused_as : {q : Refusal} → write_fault v car vs hs room ≡ some (fault q) → WriteAs v car vs hs room (Err q) room
+  pub refused_as : {q : Refusal} → write_fault v car vs hs room ≡ some (fault q) → WriteAs v car vs hs room (Err q) room
   unfolding said write_room left
   refused_as e = record { answered = rw e; the_length = rw e; room_left = rw e }
 

@@ -13,14 +13,14 @@ unfolding said kept
 returns-then-not-moving c = λ vs hs lo e f.
     rw (← held_standing c.args.car.now vs hs lo c.args.i e f (omega arith) c.if-not_driven.ensures.rule c.if-not-moving.ensures)
 
-pub returns-then-top-engine : goal.returns-then-top-engine
+pub returns-then-most-engine : goal.returns-then-most-engine
 unfolding said kept
-returns-then-top-engine c = λ vs hs lo e f.
+returns-then-most-engine c = λ vs hs lo e f.
     rw (← held_over_rev c.args.car.now vs hs lo c.args.i e f (omega arith) c.if-not_driven.ensures.rule c.if-not-moving.ensures
-    (omega (arith, c.top.ensures, rw c.from.ensures at c.engine.ensures)))
+    (omega (arith, c.requires.1, rw c.from.ensures at c.engine.ensures)))
 
 pub returns : goal.returns
 unfolding said kept
 returns c = λ vs hs lo e f.
     rw (← held_good c.args.car.now vs hs lo c.args.i e f (omega arith) c.if-not_driven.ensures.rule c.if-not-moving.ensures
-    (omega (arith, c.top.ensures, rw c.from.ensures at c.engine.ensures)))
+    (omega (arith, c.requires.1, rw c.from.ensures at c.engine.ensures)))

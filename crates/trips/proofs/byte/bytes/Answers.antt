@@ -10,7 +10,7 @@ pub trip_byte-requires : goal.trip_byte-requires
 trip_byte-requires c =
     let j = c.loop-j.j in
     let same : at c.loop-j.gs j ≡ at c.args.gs.now j = ap (λ gs. at gs j) c.loop-j.invariant ∙ pass_later _ c.args.gs.now j j (le_refl j) in
-    (omega (arith, c.requires.speeds), rw same (c.requires.gear j (omega arith)))
+    (omega (arith, c.requires.speeds), rw same (c.requires.gear j (omega arith)), omega (arith, c.from-idle.ensures))
 
 pub loop-j-preserved : goal.loop-j-preserved
 loop-j-preserved c = pass-more _ _ _ _ _ c.loop-j.invariant c.trip_byte.ensures
