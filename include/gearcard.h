@@ -261,16 +261,16 @@ struct gearcard_coefficients gearcard_export(const uint8_t *bytes, size_t length
    random cars and traces, of up to 16,384 seconds (./bench --stack).
 
      gearcard_read        2,576
-     gearcard_write         864
-     gearcard_work        1,552
+     gearcard_write         880
+     gearcard_work        1,600
      gearcard_summary_of     88
-     gearcard_hold        1,520
-     gearcard_release     1,504
-     gearcard_mend        1,520
-     gearcard_why        18,832
-     gearcard_cycle          16
+     gearcard_hold        1,568
+     gearcard_release     1,552
+     gearcard_mend        1,568
+     gearcard_why        18,880
+     gearcard_cycle           0
      gearcard_cycle_part      0
-     gearcard_downscale      48
+     gearcard_downscale       0
      gearcard_export        200 */
 
 #ifdef __cplusplus
