@@ -1,6 +1,6 @@
 // Check 10, for want of a gear, of the seconds of a span that passes the checks before it. Where the vehicle's gears leave no speed between them, by
 // engine speed alone; elsewhere by a dry run of the first choices. All of it is of what is asked for and not yet written.
-ghost use Rattle.std.specs.Prelude.{◌≡◌, true, ℕ, ◌+◌, ◌-◌, ◌*◌, ◌≤◌, ◌<◌, eqb, length};
+ghost use Rattle.std.specs.Prelude.{◌≡◌, true, ℕ, ◌+◌, ◌-◌, ◌*◌, ◌≤◌, ◌<◌, length};
 ghost use Rattle.rules.specs.Words.{none, at};
 ghost use Rattle.rules.specs.Units.{low};
 ghost use Rattle.rules.specs.Corrections.{first_at};

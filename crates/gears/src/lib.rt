@@ -71,8 +71,8 @@ pub struct Road {
     pub tm: u16,
 }
 
-// A vehicle whose gears are chosen from, with its limits and what E takes, worked out once a trip and held by value: read through the vehicle they would be
-// worked out anew at every second, for all that a compiler sees a byte of the card that is written might be one of the vehicle's own.
+// A vehicle whose gears are chosen from, with its limits and what E takes, worked out once a trip, in check 10's dry run once a part, and held by value: read
+// through the vehicle they would be worked out anew at every second, for all that a compiler sees a byte of the card might be one of the vehicle's own.
 #[derive(Clone, Copy)]
 pub struct Search<'a> {
     pub powered: Powered<'a>,
